@@ -1,0 +1,178 @@
+-- One chunk: what is refused it, what a message does at it, what becomes of it
+use Prim.Native.Nat.{ℕ}
+use mathlib.Core.Bool.{Bool, true, false, not, _&&_, _||_}
+use mathlib.Core.List.{List}
+use lib.ListN.{set}
+use lib.Dec.{eqb, ltb, leb}
+use lib.IntN.{pos, _-ℤ_}
+use lib.Signed.{ltZ}
+use Rattle.rules.specs.Types.{Timestamp, Epoch, Kind, Entry, Waiting, Record, State, Chunk, Header, Message, Arrived}
+use Rattle.rules.specs.Types.K
+use Rattle.rules.specs.Types.M
+use Rattle.rules.specs.Types.N
+use Rattle.rules.specs.Types.S
+use Rattle.rules.specs.Codes.{Row, _gives_⨾_, granted}
+use Rattle.rules.specs.Kinds.{isRead, isUndecided, isWrite, isNormal, isNolease, isFailed, headed}
+use Rattle.rules.specs.Limits.{waitingLimit}
+use Rattle.rules.specs.Timestamps.{clockOf, _below_, _same_, later}
+use Rattle.rules.specs.Waiting.{head, inserted, headRemoved, marked}
+use Rattle.rules.specs.Words.{if_then_else_}
+use Rattle.rules.specs.Zero.{noBlocks, zeroWaiting}
+
+-- ---- a chunk and a record with one field changed
+
+abbrev pub withState : Chunk → State → Chunk
+withState c x = record { state = x; lost = c .lost; epoch = c .epoch; reconcile = c .reconcile }
+
+abbrev pub withReconcile : Chunk → List Bool → Chunk
+withReconcile c x = record { state = c .state; lost = c .lost; epoch = c .epoch; reconcile = x }
+
+abbrev pub withValue : Record → ℕ → Record
+withValue r x = record { value = x; read = r .read; write = r .write; waiting = r .waiting }
+
+abbrev pub withRead : Record → Timestamp → Record
+withRead r x = record { value = r .value; read = x; write = r .write; waiting = r .waiting }
+
+abbrev pub withWrite : Record → Timestamp → Record
+withWrite r x = record { value = r .value; read = r .read; write = x; waiting = r .waiting }
+
+abbrev pub withWaiting : Record → Waiting → Record
+withWaiting r x = record { value = r .value; read = r .read; write = r .write; waiting = x }
+
+-- the record, with a reply or with none
+abbrev pub answering : Record → Message → Arrived
+answering r m = record { block = r; reply = N.Full m }
+
+abbrev pub silent : Record → Arrived
+silent r = record { block = r; reply = N.Empty }
+
+-- ---- "Read or prewrite at a chunk, in this order"
+
+-- "timestamp below last write (a prewrite: or below last read), out of order"
+abbrev pub isOutOfOrder : Kind → Timestamp → Record → Bool
+isOutOfOrder kind t r = t below r .write || isWrite kind && t below r .read
+
+-- the entry that a read or a prewrite waits as
+abbrev pub entryOf : Header → Epoch → Kind → Entry
+entryOf header epoch kind = record { timestamp = header .timestamp; sender = header .host; epoch = epoch; kind = kind }
+
+-- "else it waits, after its equals, and a prewrite is answered with a prewrite reply"
+abbrev pub waits : Record → Header → Epoch → Kind → Arrived
+waits r header epoch kind =
+    let now = withWaiting r (inserted (r .waiting) (entryOf header epoch kind)) in
+    if isWrite kind then answering now (M.PrewriteReply header) else silent now
+
+unfoldable pub arrived : (blocks : ℕ) → Epoch → Record → Header → Epoch → Kind → Arrived
+arrived blocks current r header epoch kind =
+    -- "epoch differs, version mismatch"
+    if not (epoch same current) then answering r (M.Mismatch header) else
+    -- "block outside 0 to blocks-1, error"
+    if not (ltb (header .block) blocks) then answering r (M.Error header) else
+    if isOutOfOrder kind (header .timestamp) r then answering r (M.OutOfOrder header) else
+    -- "8 waiting, busy"
+    if leb waitingLimit (r .waiting .count) then answering r (M.Busy header) else
+    waits r header epoch kind
+
+-- "Commit and abort ignore the epoch and act on the first entry in waiting order with that timestamp ..; otherwise, or for a
+-- block outside, nothing changes"
+unfoldable pub decides : (blocks : ℕ) → Record → Header → (commit : Bool) → Arrived
+decides blocks r header commit =
+    if ltb (header .block) blocks then silent (withWaiting r (marked commit (header .timestamp) (r .waiting))) else
+    silent r
+
+-- a message at a chunk of the given epoch, with its record of the message's block. (Replies go to hosts.)
+unfoldable pub atChunk : (blocks : ℕ) → Epoch → Record → Message → Arrived
+atChunk blocks current r (M.Read header epoch) = arrived blocks current r header epoch K.Read
+atChunk blocks current r (M.Prewrite header epoch v) = arrived blocks current r header epoch (K.Undecided v)
+atChunk blocks current r (M.Commit header epoch) = decides blocks r header true
+atChunk blocks current r (M.Abort header epoch) = decides blocks r header false
+atChunk blocks current r (M.Mismatch header) = silent r
+atChunk blocks current r (M.Error header) = silent r
+atChunk blocks current r (M.OutOfOrder header) = silent r
+atChunk blocks current r (M.Busy header) = silent r
+atChunk blocks current r (M.ReadReply header v) = silent r
+atChunk blocks current r (M.PrewriteReply header) = silent r
+
+-- ---- "9 run (chunk, block): normal, head exists and isn't undecided (2); room if the head is a read (5)"
+
+abbrev pub runRefusals : State → Waiting → (free : ℕ) → List Row
+runRefusals state w free =
+    not (isNormal state) gives 2 ⨾
+    eqb (w .count) 0 gives 2 ⨾
+    isUndecided (head w .kind) gives 2 ⨾
+    isRead (head w .kind) && eqb free 0 gives 5 ⨾
+    granted
+
+-- "The head is removed; for an aborted one that is all. Committed: value set, last write raised to its timestamp. Read: below
+-- last write, out of order goes to the sender; else last read is raised and a read reply goes"
+abbrev pub runs : (chunk block : ℕ) → Record → Entry → Kind → Arrived
+runs chunk block r e (K.Aborted v) = silent r
+runs chunk block r e (K.Committed v) = silent (withWrite (withValue r v) (later (r .write) (e .timestamp)))
+runs chunk block r e K.Read =
+    let header = headed (e .sender) chunk block (e .timestamp) in
+    if e .timestamp below r .write then answering r (M.OutOfOrder header) else
+    answering (withRead r (later (r .read) (e .timestamp))) (M.ReadReply header (r .value))
+-- (never: an undecided head is refused)
+runs chunk block r e (K.Undecided v) = silent r
+
+unfoldable pub ran : (chunk block : ℕ) → Record → Arrived
+ran chunk block r = runs chunk block (withWaiting r (headRemoved (r .waiting))) (head (r .waiting)) (head (r .waiting) .kind)
+
+-- ---- the chunk's own events; each is refused with 2 out of its state
+
+-- "11 fail (chunk): from normal or nolease"
+abbrev pub failRefusals : State → List Row
+failRefusals state =
+    isFailed state gives 2 ⨾
+    granted
+
+-- "all its waiting entries and its reconciliation set go, lost is set; values, last reads, last writes and epoch persist"
+abbrev pub failed : Chunk → Chunk
+failed c = record { state = S.Failed; lost = true; epoch = c .epoch; reconcile = noBlocks }
+
+abbrev pub emptied : Record → Record
+emptied r = withWaiting r zeroWaiting
+
+-- "12 recover: failed to nolease"
+abbrev pub recoverRefusals : State → List Row
+recoverRefusals state =
+    not (isFailed state) gives 2 ⨾
+    granted
+
+abbrev pub recovered : Chunk → Chunk
+recovered c = withState c S.Nolease
+
+-- "13 take lease: normal to nolease"
+abbrev pub takeLeaseRefusals : State → List Row
+takeLeaseRefusals state =
+    not (isNormal state) gives 2 ⨾
+    granted
+
+abbrev pub leaseTaken : Chunk → Chunk
+leaseTaken c = withState c S.Nolease
+
+-- "14 give lease: nolease to normal, if not lost. Else 2"
+abbrev pub giveLeaseRefusals : State → (lost : Bool) → List Row
+giveLeaseRefusals state lost =
+    not (isNolease state) gives 2 ⨾
+    lost gives 2 ⨾
+    granted
+
+abbrev pub leaseGiven : Chunk → Chunk
+leaseGiven c = withState c S.Normal
+
+-- "16 overdue (chunk, block, now): normal, head undecided, and now minus the head's clock above the age limit, else 2. The
+-- difference may be below zero, and then nothing is overdue"
+abbrev pub isOverdue : (now : ℕ) → Timestamp → (age : ℕ) → Bool
+isOverdue now t age = ltZ (pos age) (pos now -ℤ pos (clockOf t))
+
+abbrev pub overdueRefusals : State → Waiting → (now age : ℕ) → List Row
+overdueRefusals state w now age =
+    not (isNormal state) gives 2 ⨾
+    not (isUndecided (head w .kind)) gives 2 ⨾
+    not (isOverdue now (head w .timestamp) age) gives 2 ⨾
+    granted
+
+-- "The block joins the set"
+abbrev pub overdue : Chunk → (block : ℕ) → Chunk
+overdue c b = withReconcile c (set (c .reconcile) b true)

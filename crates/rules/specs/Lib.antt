@@ -1,0 +1,17 @@
+pub mod Words
+pub mod Types
+pub mod Limits
+pub mod Timestamps
+pub mod Kinds
+pub mod Zero
+pub mod Tables
+pub mod Codes
+pub mod Creation
+pub mod Waiting
+pub mod Network
+pub mod Formed
+pub mod Chunks
+pub mod Hosts
+pub mod Settlement
+pub mod Events
+pub mod Cases

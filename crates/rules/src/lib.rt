@@ -1,0 +1,223 @@
+// The types of the table, its events and its answers. They are the definitions' types too (specs/).
+// In each enum the first case is the one that an unused place holds: the machine's zero is the definitions' zero.
+
+// Limits, named once.
+pub const HOSTS: usize = 8;
+
+pub const CHUNKS: usize = 8;
+
+pub const BLOCKS: usize = 16;
+
+pub const OPERATIONS: usize = 8;
+
+pub const WAITING: usize = 8;
+
+pub const PLACES: usize = 64;
+
+pub const RECORDS: usize = 128;
+
+// Clock x 8 + host number; 0 means "never".
+pub struct Timestamp(pub u64);
+
+pub struct Epoch(pub u64);
+
+// A set of chunks.
+pub struct Set {
+    pub chunks: [bool; CHUNKS],
+}
+
+// What a store is created with: counts, age limit, and for each block the set of chunks that hold its copies.
+pub struct Creation {
+    pub hosts: u64,
+    pub chunks: u64,
+    pub blocks: u64,
+    pub age: u64,
+    pub sets: [Set; BLOCKS],
+}
+
+// A waiting entry is a read, an undecided write, a committed write or an aborted write; a write has its value.
+pub enum Kind {
+    Read,
+    Undecided(u64),
+    Committed(u64),
+    Aborted(u64),
+}
+
+pub struct Entry {
+    pub timestamp: Timestamp,
+    pub sender: u64,
+    pub epoch: Epoch,
+    pub kind: Kind,
+}
+
+// Up to 8 waiting entries in timestamp order.
+pub struct Waiting {
+    pub count: u64,
+    pub entries: [Entry; WAITING],
+}
+
+// What a chunk has of one block: its value, last read, last write, and the waiting entries.
+pub struct Record {
+    pub value: u64,
+    pub read: Timestamp,
+    pub write: Timestamp,
+    pub waiting: Waiting,
+}
+
+pub enum State {
+    Normal,
+    Nolease,
+    Failed,
+}
+
+// A chunk without its records; reconcile is the set of blocks that need reconciliation.
+pub struct Chunk {
+    pub state: State,
+    pub lost: bool,
+    pub epoch: Epoch,
+    pub reconcile: [bool; BLOCKS],
+}
+
+pub enum Action {
+    Read,
+    Write(u64),
+}
+
+pub struct Operation {
+    pub block: u64,
+    pub action: Action,
+}
+
+// Up to 8 operations. The front one is the current one while the host has an attempt.
+pub struct Queue {
+    pub count: u64,
+    pub operations: [Operation; OPERATIONS],
+}
+
+// One attempt at the current operation; a host without a current operation has zeros here.
+pub struct Attempt {
+    pub timestamp: Timestamp,
+    pub outstanding: Set,
+    pub okay: bool,
+    pub restart: bool,
+    pub result: u64,
+}
+
+// epoch is the epoch known, mapped says that the map is current, clock is the last clock drawn.
+pub struct Host {
+    pub working: bool,
+    pub queue: Queue,
+    pub attempt: Attempt,
+    pub epoch: Epoch,
+    pub mapped: bool,
+    pub clock: u64,
+}
+
+// What every message has. A reply has its request's.
+pub struct Header {
+    pub host: u64,
+    pub chunk: u64,
+    pub block: u64,
+    pub timestamp: Timestamp,
+}
+
+// A message carries only its own kind's numbers; epoch is the one that the host knows.
+pub enum Message {
+    Read {
+        header: Header,
+        epoch: Epoch,
+    },
+    Prewrite {
+        header: Header,
+        epoch: Epoch,
+        value: u64,
+    },
+    Commit {
+        header: Header,
+        epoch: Epoch,
+    },
+    Abort {
+        header: Header,
+        epoch: Epoch,
+    },
+    Mismatch {
+        header: Header,
+    },
+    Error {
+        header: Header,
+    },
+    OutOfOrder {
+        header: Header,
+    },
+    Busy {
+        header: Header,
+    },
+    ReadReply {
+        header: Header,
+        value: u64,
+    },
+    PrewriteReply {
+        header: Header,
+    },
+}
+
+pub enum Slot {
+    Empty,
+    Full(Message),
+}
+
+// One place of the network.
+pub struct Place {
+    pub slot: Slot,
+}
+
+// The record of chunk c and block b stands at c x 16 + b.
+pub struct Table {
+    pub creation: Creation,
+    pub epoch: Epoch,
+    pub hosts: [Host; HOSTS],
+    pub chunks: [Chunk; CHUNKS],
+    pub records: [Record; RECORDS],
+    pub places: [Place; PLACES],
+}
+
+// The answer to a creation; a refused one gives no store, that is a table of zeros.
+pub struct Created {
+    pub table: Table,
+    pub code: u64,
+}
+
+// What a message or a run makes of a record, and the reply, if any.
+pub struct Arrived {
+    pub block: Record,
+    pub reply: Slot,
+}
+
+// One chunk's copy of the block that is settled.
+pub struct Copy {
+    pub member: bool,
+    pub lost: bool,
+    pub block: Record,
+}
+
+// An event's number and three operands; an operand that its kind does not use is 0.
+pub struct Event {
+    pub kind: u64,
+    pub a: u64,
+    pub b: u64,
+    pub c: u64,
+}
+
+pub enum Outcome {
+    None,
+    ReadDone { host: u64, block: u64, value: u64 },
+    WriteDone { host: u64, block: u64 },
+    ReadFailed { host: u64, block: u64 },
+    WriteFailed { host: u64, block: u64 },
+}
+
+pub struct Answer {
+    pub table: Table,
+    pub code: u64,
+    pub outcome: Outcome,
+}
