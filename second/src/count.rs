@@ -318,7 +318,9 @@ impl Part {
             }
         }
         let later = old.items().any(|entry| entry.timestamp > message.timestamp);
-        let equal = old.items().any(|entry| entry.timestamp == message.timestamp);
+        let equal = old
+            .items()
+            .any(|entry| entry.timestamp == message.timestamp);
         self.add_if(waits && later, Situation::WaitsBeforeLater);
         self.add_if(waits && equal, Situation::WaitsAfterEqual);
     }
@@ -450,7 +452,11 @@ impl Tally {
                 let fresh = REACHED_FRESH[row].contains(&code);
                 let handed_in = reached_handed_in(row, code);
                 let word = format!("{name}, code {code}");
-                complain(self.fresh.codes[row][code], fresh, format!("{word} (fresh)"));
+                complain(
+                    self.fresh.codes[row][code],
+                    fresh,
+                    format!("{word} (fresh)"),
+                );
                 let count = self.handed_in.codes[row][code];
                 complain(count, handed_in, format!("{word} (handed in)"));
             }
@@ -504,7 +510,11 @@ impl fmt::Display for Tally {
             }
             writeln!(out)?;
         }
-        writeln!(out, "\n{:64}{:>10}{:>10}", "situation", "fresh", "handed in")?;
+        writeln!(
+            out,
+            "\n{:64}{:>10}{:>10}",
+            "situation", "fresh", "handed in"
+        )?;
         for &(situation, _, words) in SITUATIONS {
             let index = situation as usize;
             let counts = (fresh.situations[index], handed_in.situations[index]);

@@ -92,22 +92,60 @@ impl Outcome {
 /// An event whose numbers are all within their ranges.
 #[derive(Clone, Copy, Debug, PartialEq, Eq)]
 enum Event {
-    Read { host: usize, block: usize },
-    Write { host: usize, block: usize, value: u64 },
-    Start { host: usize, clock: u64, copy: usize },
-    Deliver { place: usize },
-    Drop { place: usize },
-    Finish { host: usize },
-    Timeout { host: usize },
-    Refresh { host: usize },
-    Run { chunk: usize, block: usize },
-    Stop { host: usize },
-    Fail { chunk: usize },
-    Recover { chunk: usize },
-    TakeLease { chunk: usize },
-    GiveLease { chunk: usize },
+    Read {
+        host: usize,
+        block: usize,
+    },
+    Write {
+        host: usize,
+        block: usize,
+        value: u64,
+    },
+    Start {
+        host: usize,
+        clock: u64,
+        copy: usize,
+    },
+    Deliver {
+        place: usize,
+    },
+    Drop {
+        place: usize,
+    },
+    Finish {
+        host: usize,
+    },
+    Timeout {
+        host: usize,
+    },
+    Refresh {
+        host: usize,
+    },
+    Run {
+        chunk: usize,
+        block: usize,
+    },
+    Stop {
+        host: usize,
+    },
+    Fail {
+        chunk: usize,
+    },
+    Recover {
+        chunk: usize,
+    },
+    TakeLease {
+        chunk: usize,
+    },
+    GiveLease {
+        chunk: usize,
+    },
     EpochChange,
-    Overdue { chunk: usize, block: usize, now: u64 },
+    Overdue {
+        chunk: usize,
+        block: usize,
+        now: u64,
+    },
 }
 
 /// How many operands a kind has; none for an unknown kind.

@@ -142,7 +142,11 @@ pub fn generate_with(
     let mut lines = Vec::new();
     let ends_early = matches!(opening, Opening::NoInput | Opening::NoSecondLine);
     if !ends_early {
-        let events = if opening == Opening::Good { events } else { events.min(5) };
+        let events = if opening == Opening::Good {
+            events
+        } else {
+            events.min(5)
+        };
         lines = event_lines(random, fresh.clone(), events, step);
     }
     Sequence {
@@ -215,8 +219,16 @@ impl Creation {
         let [hosts, chunks, blocks] = match random.below(8) {
             0 => [1, 1, 1],
             1 => largest,
-            2 | 3 => [2 + random.below(2), 2 + random.below(2), 1 + random.below(2)],
-            4 | 5 => [8 - random.below(3), 2 + random.below(3), 1 + random.below(3)],
+            2 | 3 => [
+                2 + random.below(2),
+                2 + random.below(2),
+                1 + random.below(2),
+            ],
+            4 | 5 => [
+                8 - random.below(3),
+                2 + random.below(3),
+                1 + random.below(3),
+            ],
             _ => largest.map(|limit| 1 + random.below(limit)),
         };
         let any_age = random.below(LARGEST + 1);

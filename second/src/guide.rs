@@ -223,7 +223,10 @@ impl Guide {
                 chunk_that(random, &fits).map(|chunk| one(14, chunk))
             }
             Act::EpochChange => {
-                let failed = table.chunks.iter().any(|chunk| chunk.state == State::Failed);
+                let failed = table
+                    .chunks
+                    .iter()
+                    .any(|chunk| chunk.state == State::Failed);
                 let gone = (0..table.block_count).any(|block| all_lost(&copies(table, block)));
                 let needed = table.chunks.iter().any(|chunk| chunk.lost);
                 let sensible = !failed && !gone && (needed || self.mood != Mood::Serve);
@@ -284,7 +287,10 @@ impl Guide {
             5..=20 => host.last_clock + 1,
             _ => own.max(host.last_clock + 1).min(LARGEST),
         };
-        let set = host.waiting.first().map_or(Set::EMPTY, |o| table.sets[o.block]);
+        let set = host
+            .waiting
+            .first()
+            .map_or(Set::EMPTY, |o| table.sets[o.block]);
         let members: Vec<usize> = set.members().collect();
         let copy = match random.in_thousand(40) {
             true => random.index(table.chunk_count),
@@ -358,9 +364,9 @@ fn in_range(random: &mut Random, table: &Table) -> Numbers {
         16 => [chunk, block, random.below(LARGEST + 1)],
         _ => [0; OPERANDS],
     };
-    // Stops and failures are kept rare: they end what the sequence could still show.
+    // These are kept rare here: they end what the sequence could still show.
     match (kind, random.in_thousand(900)) {
-        (3 | 10 | 11, true) => (8, [host, 0, 0]),
+        (3 | 10 | 11 | 15, true) => (8, [host, 0, 0]),
         _ => (kind, operands),
     }
 }

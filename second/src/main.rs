@@ -114,11 +114,9 @@ fn print_difference(difference: &Difference) -> io::Result<()> {
 fn range(words: &[&str]) -> Result<(u64, u64, usize), String> {
     match words {
         [first, sequences] => Ok((number(first)?, number(sequences)?, EVENTS)),
-        [first, sequences, events] => Ok((
-            number(first)?,
-            number(sequences)?,
-            number(events)? as usize,
-        )),
+        [first, sequences, events] => {
+            Ok((number(first)?, number(sequences)?, number(events)? as usize))
+        }
         _ => Err(USAGE.to_string()),
     }
 }

@@ -67,7 +67,9 @@ impl History {
                     self.note_epoch_change(block, stepper.commits(before, block), after);
                 }
             }
-            (8, _) => self.wrong.push("a table that is not well formed".to_string()),
+            (8, _) => self
+                .wrong
+                .push("a table that is not well formed".to_string()),
             _ => {}
         }
     }
@@ -75,7 +77,8 @@ impl History {
     /// "each start draws a new timestamp"
     fn note_start(&mut self, host: &Host) {
         let Some(operation) = host.current else {
-            self.wrong.push("a start without a current operation".to_string());
+            self.wrong
+                .push("a start without a current operation".to_string());
             return;
         };
         if self.drawn.insert(host.timestamp, operation).is_some() {
@@ -85,7 +88,8 @@ impl History {
 
     fn note_finish(&mut self, host: &Host, answer: Answer) {
         let Some(operation) = host.current else {
-            self.wrong.push("a finish without a current operation".to_string());
+            self.wrong
+                .push("a finish without a current operation".to_string());
             return;
         };
         let mut done = Done {
@@ -105,12 +109,7 @@ impl History {
     }
 
     /// Lists every timestamp that the change commits, then looks at every copy.
-    fn note_epoch_change(
-        &mut self,
-        block: usize,
-        committed: Vec<(Timestamp, u64)>,
-        after: &Table,
-    ) {
+    fn note_epoch_change(&mut self, block: usize, committed: Vec<(Timestamp, u64)>, after: &Table) {
         for (timestamp, value) in committed {
             self.list(block, timestamp, value);
         }
@@ -135,11 +134,13 @@ impl History {
             sort: Sort::Write(value),
         };
         if self.drawn.get(&timestamp) != Some(&attempt) {
-            self.wrong.push(format!("{timestamp:?} listed, not as it was drawn"));
+            self.wrong
+                .push(format!("{timestamp:?} listed, not as it was drawn"));
         }
         let earlier = self.listed[block].insert(timestamp, value);
         if earlier.is_some_and(|earlier| earlier != value) {
-            self.wrong.push(format!("{timestamp:?} listed with two values"));
+            self.wrong
+                .push(format!("{timestamp:?} listed with two values"));
         }
     }
 
@@ -154,7 +155,8 @@ impl History {
         for read in &self.reads {
             let expected = self.last_before(read.block, read.timestamp);
             if read.value != expected {
-                self.wrong.push(format!("{read:?} should have given {expected}"));
+                self.wrong
+                    .push(format!("{read:?} should have given {expected}"));
             }
         }
         for write in &self.writes {

@@ -37,7 +37,12 @@ impl Pool {
         let store = table.epoch.0;
         Pool {
             timestamps: [0, base, base + 1, base + 2, base + 8, 40, LARGEST_TIMESTAMP],
-            epochs: [store, store, (store + 1).min(LARGEST), random.below(LARGEST)],
+            epochs: [
+                store,
+                store,
+                (store + 1).min(LARGEST),
+                random.below(LARGEST),
+            ],
         }
     }
 

@@ -74,7 +74,9 @@ fn greatest_last_write(copies: &[BlockCopy]) -> Timestamp {
 
 /// V, "the value beside it (lowest chunk if several)".
 fn value_beside(copies: &[BlockCopy], last_write: Timestamp) -> u64 {
-    let beside = copies.iter().find(|copy| copy.record.last_write == last_write);
+    let beside = copies
+        .iter()
+        .find(|copy| copy.record.last_write == last_write);
     beside.map_or(0, |copy| copy.record.value)
 }
 
@@ -138,7 +140,10 @@ pub fn settle(copies: &[BlockCopy]) -> Settled {
 
 /// Event 15: "no chunk failed (2), then 7, then 6."
 pub fn epoch_change(table: &mut Table) -> Result<(), Refusal> {
-    let any_failed = table.chunks.iter().any(|chunk| chunk.state == State::Failed);
+    let any_failed = table
+        .chunks
+        .iter()
+        .any(|chunk| chunk.state == State::Failed);
     if any_failed {
         return Err(Refusal::State);
     }

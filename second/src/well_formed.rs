@@ -12,7 +12,11 @@ pub fn well_formed(table: &Table) -> bool {
         && sets_hold(table)
         && hosts_hold(table)
         && chunks_hold(table)
-        && table.network.iter().flatten().all(|m| message_holds(table, m))
+        && table
+            .network
+            .iter()
+            .flatten()
+            .all(|m| message_holds(table, m))
 }
 
 /// "1 to 8 hosts, 1 to 8 chunks, 1 to 16 blocks."
@@ -85,7 +89,10 @@ fn record_holds(table: &Table, record: &Record) -> bool {
     record.last_read.0 <= LARGEST_TIMESTAMP
         && record.last_write.0 <= LARGEST_TIMESTAMP
         && record.waiting.is_tidy()
-        && record.waiting.items().all(|entry| entry_holds(table, &entry))
+        && record
+            .waiting
+            .items()
+            .all(|entry| entry_holds(table, &entry))
         && ascending(&record.waiting)
 }
 
@@ -98,7 +105,9 @@ fn entry_holds(table: &Table, entry: &Entry) -> bool {
 /// "waiting entries are in ascending timestamp order (equal allowed)"
 fn ascending(waiting: &Queue<Entry, WAITING>) -> bool {
     let pairs = waiting.items().zip(waiting.items().skip(1));
-    pairs.into_iter().all(|(one, next)| one.timestamp <= next.timestamp)
+    pairs
+        .into_iter()
+        .all(|(one, next)| one.timestamp <= next.timestamp)
 }
 
 /// "a message's block may be 0 to 15 and a timestamp anything up to 34,359,738,367"

@@ -4,12 +4,7 @@ use mathlib.Core.Bool.{Bool, true, false}
 use mathlib.Core.List.{List, [], _∷_}
 use lib.ListN.{drop, replicate}
 use lib.Dec.{eqb}
-use Rattle.rules.specs.Types.{Timestamp, Set, Kind, Entry, Record, Header, Message, Slot, Table, Event, Answer}
-use Rattle.rules.specs.Types.A
-use Rattle.rules.specs.Types.K
-use Rattle.rules.specs.Types.M
-use Rattle.rules.specs.Types.N
-use Rattle.rules.specs.Types.S
+use Rattle.rules.specs.Types.{Timestamp, Set, Kind, Entry, Record, State, Action, Header, Message, Slot, Table, Event, Answer}
 use Rattle.rules.specs.Creation.{fresh, firstEpoch}
 use Rattle.rules.specs.Events.{step}
 use Rattle.rules.specs.Hosts.{appended, refreshed, withClock}
@@ -57,7 +52,7 @@ holds t kind = normal (copy 0 0 0 (entry t kind ∷ []))
 
 abbrev withSide : Table → (chunk : ℕ) → Side → Table
 withSide t c s =
-    withRecord (withChunk t c (record { state = S.Normal; lost = s .lost; epoch = firstEpoch; reconcile = noBlocks })) c 0 (s .copy)
+    withRecord (withChunk t c (record { state = State.Normal; lost = s .lost; epoch = firstEpoch; reconcile = noBlocks })) c 0 (s .copy)
 
 abbrev event : (kind a b c : ℕ) → Event
 event kind a b c = record { kind = kind; a = a; b = b; c = c }
@@ -84,16 +79,16 @@ value v write w read r = copies (copy v r w []) (copy v r w [])
 
 -- what host 0 sends of block 0 to A under timestamp 40, and the replies
 abbrev read40 : Message
-read40 = M.Read (headed 0 0 0 (stamped 40)) firstEpoch
+read40 = Message.Read (headed 0 0 0 (stamped 40)) firstEpoch
 
 abbrev prewrite40 : Message
-prewrite40 = M.Prewrite (headed 0 0 0 (stamped 40)) firstEpoch 7
+prewrite40 = Message.Prewrite (headed 0 0 0 (stamped 40)) firstEpoch 7
 
 abbrev waits : (waiting : ℕ) → Seen
-waits n = arrival n N.Empty
+waits n = arrival n Slot.Empty
 
 abbrev answered : (waiting : ℕ) → (Header → Message) → Seen
-answered n reply = arrival n (N.Full (reply (headed 0 0 0 (stamped 40))))
+answered n reply = arrival n (Slot.Full (reply (headed 0 0 0 (stamped 40))))
 
 -- ---- the rows
 
@@ -121,45 +116,45 @@ m arriving-at r gives x ⨾ more =
 -- P11: "age limit 100, head clock 5"
 abbrev overdue-at_gives_⨾_ : (now : ℕ) → Seen → List Case → List Case
 overdue-at now gives x ⨾ more =
-    record { table = withSide store 0 (holds 40 (K.Undecided 7)); event = event 16 0 0 now; look = codeIn; expected = x } ∷ more
+    record { table = withSide store 0 (holds 40 (Kind.Undecided 7)); event = event 16 0 0 now; look = codeIn; expected = x } ∷ more
 
 -- P12: "last clock drawn 5"
 abbrev starting-at_gives_⨾_ : (clock : ℕ) → Seen → List Case → List Case
 starting-at clock gives x ⨾ more =
-    let h = withClock (refreshed (appended (hostOf store 0) (record { block = 0; action = A.Read })) firstEpoch) 5 in
+    let h = withClock (refreshed (appended (hostOf store 0) (record { block = 0; action = Action.Read })) firstEpoch) 5 in
     record { table = withHost store 0 h; event = event 3 0 clock 0; look = codeIn; expected = x } ∷ more
 
 abbrev end : List Case
 end = []
 
 abbrev eight : List Entry
-eight = replicate 8 (entry 8 K.Read)
+eight = replicate 8 (entry 8 Kind.Read)
 
 abbrev pub cases : List Case
 cases =
     {- P1 -}
-    settling holds 40 (K.Undecided 7) and holds 40 (K.Undecided 7) gives value 7 write 40 read 0 ⨾
+    settling holds 40 (Kind.Undecided 7) and holds 40 (Kind.Undecided 7) gives value 7 write 40 read 0 ⨾
     {- P2 -}
-    settling holds 40 (K.Undecided 7) and empty gives value 0 write 0 read 0 ⨾
+    settling holds 40 (Kind.Undecided 7) and empty gives value 0 write 0 read 0 ⨾
     {- P3 -}
-    settling holds 40 (K.Undecided 7) and lost 0 gives value 7 write 40 read 0 ⨾
+    settling holds 40 (Kind.Undecided 7) and lost 0 gives value 7 write 40 read 0 ⨾
     {- P4 -}
-    settling holds 40 (K.Undecided 7) and lost 49 gives value 0 write 0 read 49 ⨾
+    settling holds 40 (Kind.Undecided 7) and lost 49 gives value 0 write 0 read 49 ⨾
     {- P5 -}
-    settling holds 40 (K.Undecided 7) and normal (copy 9 0 96 []) gives value 9 write 96 read 0 ⨾
+    settling holds 40 (Kind.Undecided 7) and normal (copy 9 0 96 []) gives value 9 write 96 read 0 ⨾
     {- P6 -}
-    settling holds 40 (K.Aborted 7) and holds 40 (K.Undecided 7) gives value 0 write 0 read 0 ⨾
+    settling holds 40 (Kind.Aborted 7) and holds 40 (Kind.Undecided 7) gives value 0 write 0 read 0 ⨾
     {- P7 -}
     settling lost 0 and lost 0 gives code 6 ⨾
     {- P8 -}
     read40 arriving-at copy 0 0 40 [] gives waits 1 ⨾
-    read40 arriving-at copy 0 0 41 [] gives answered 0 M.OutOfOrder ⨾
+    read40 arriving-at copy 0 0 41 [] gives answered 0 Message.OutOfOrder ⨾
     {- P9 -}
-    prewrite40 arriving-at copy 0 41 0 [] gives answered 0 M.OutOfOrder ⨾
-    prewrite40 arriving-at copy 0 39 0 [] gives answered 1 M.PrewriteReply ⨾
+    prewrite40 arriving-at copy 0 41 0 [] gives answered 0 Message.OutOfOrder ⨾
+    prewrite40 arriving-at copy 0 39 0 [] gives answered 1 Message.PrewriteReply ⨾
     {- P10 -}
-    prewrite40 arriving-at copy 0 0 0 eight gives answered 8 M.Busy ⨾
-    prewrite40 arriving-at copy 0 0 0 (drop 1 eight) gives answered 8 M.PrewriteReply ⨾
+    prewrite40 arriving-at copy 0 0 0 eight gives answered 8 Message.Busy ⨾
+    prewrite40 arriving-at copy 0 0 0 (drop 1 eight) gives answered 8 Message.PrewriteReply ⨾
     {- P11 -}
     overdue-at 105 gives code 2 ⨾
     overdue-at 106 gives code 0 ⨾

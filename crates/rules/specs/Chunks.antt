@@ -6,11 +6,7 @@ use lib.ListN.{set}
 use lib.Dec.{eqb, ltb, leb}
 use lib.IntN.{pos, _-ℤ_}
 use lib.Signed.{ltZ}
-use Rattle.rules.specs.Types.{Timestamp, Epoch, Kind, Entry, Waiting, Record, State, Chunk, Header, Message, Arrived}
-use Rattle.rules.specs.Types.K
-use Rattle.rules.specs.Types.M
-use Rattle.rules.specs.Types.N
-use Rattle.rules.specs.Types.S
+use Rattle.rules.specs.Types.{Timestamp, Epoch, Kind, Entry, Waiting, Record, State, Chunk, Header, Message, Slot, Arrived}
 use Rattle.rules.specs.Codes.{Row, _gives_⨾_, granted}
 use Rattle.rules.specs.Kinds.{isRead, isUndecided, isWrite, isNormal, isNolease, isFailed, headed}
 use Rattle.rules.specs.Limits.{waitingLimit}
@@ -41,10 +37,10 @@ withWaiting r x = record { value = r .value; read = r .read; write = r .write; w
 
 -- the record, with a reply or with none
 abbrev pub answering : Record → Message → Arrived
-answering r m = record { block = r; reply = N.Full m }
+answering r m = record { block = r; reply = Slot.Full m }
 
 abbrev pub silent : Record → Arrived
-silent r = record { block = r; reply = N.Empty }
+silent r = record { block = r; reply = Slot.Empty }
 
 -- ---- "Read or prewrite at a chunk, in this order"
 
@@ -60,17 +56,17 @@ entryOf header epoch kind = record { timestamp = header .timestamp; sender = hea
 abbrev pub waits : Record → Header → Epoch → Kind → Arrived
 waits r header epoch kind =
     let now = withWaiting r (inserted (r .waiting) (entryOf header epoch kind)) in
-    if isWrite kind then answering now (M.PrewriteReply header) else silent now
+    if isWrite kind then answering now (Message.PrewriteReply header) else silent now
 
 unfoldable pub arrived : (blocks : ℕ) → Epoch → Record → Header → Epoch → Kind → Arrived
 arrived blocks current r header epoch kind =
     -- "epoch differs, version mismatch"
-    if not (epoch same current) then answering r (M.Mismatch header) else
+    if not (epoch same current) then answering r (Message.Mismatch header) else
     -- "block outside 0 to blocks-1, error"
-    if not (ltb (header .block) blocks) then answering r (M.Error header) else
-    if isOutOfOrder kind (header .timestamp) r then answering r (M.OutOfOrder header) else
+    if not (ltb (header .block) blocks) then answering r (Message.Error header) else
+    if isOutOfOrder kind (header .timestamp) r then answering r (Message.OutOfOrder header) else
     -- "8 waiting, busy"
-    if leb waitingLimit (r .waiting .count) then answering r (M.Busy header) else
+    if leb waitingLimit (r .waiting .count) then answering r (Message.Busy header) else
     waits r header epoch kind
 
 -- "Commit and abort ignore the epoch and act on the first entry in waiting order with that timestamp ..; otherwise, or for a
@@ -82,16 +78,16 @@ decides blocks r header commit =
 
 -- a message at a chunk of the given epoch, with its record of the message's block. (Replies go to hosts.)
 unfoldable pub atChunk : (blocks : ℕ) → Epoch → Record → Message → Arrived
-atChunk blocks current r (M.Read header epoch) = arrived blocks current r header epoch K.Read
-atChunk blocks current r (M.Prewrite header epoch v) = arrived blocks current r header epoch (K.Undecided v)
-atChunk blocks current r (M.Commit header epoch) = decides blocks r header true
-atChunk blocks current r (M.Abort header epoch) = decides blocks r header false
-atChunk blocks current r (M.Mismatch header) = silent r
-atChunk blocks current r (M.Error header) = silent r
-atChunk blocks current r (M.OutOfOrder header) = silent r
-atChunk blocks current r (M.Busy header) = silent r
-atChunk blocks current r (M.ReadReply header v) = silent r
-atChunk blocks current r (M.PrewriteReply header) = silent r
+atChunk blocks current r (Message.Read header epoch) = arrived blocks current r header epoch Kind.Read
+atChunk blocks current r (Message.Prewrite header epoch v) = arrived blocks current r header epoch (Kind.Undecided v)
+atChunk blocks current r (Message.Commit header epoch) = decides blocks r header true
+atChunk blocks current r (Message.Abort header epoch) = decides blocks r header false
+atChunk blocks current r (Message.Mismatch header) = silent r
+atChunk blocks current r (Message.Error header) = silent r
+atChunk blocks current r (Message.OutOfOrder header) = silent r
+atChunk blocks current r (Message.Busy header) = silent r
+atChunk blocks current r (Message.ReadReply header v) = silent r
+atChunk blocks current r (Message.PrewriteReply header) = silent r
 
 -- ---- "9 run (chunk, block): normal, head exists and isn't undecided (2); room if the head is a read (5)"
 
@@ -106,14 +102,14 @@ runRefusals state w free =
 -- "The head is removed; for an aborted one that is all. Committed: value set, last write raised to its timestamp. Read: below
 -- last write, out of order goes to the sender; else last read is raised and a read reply goes"
 abbrev pub runs : (chunk block : ℕ) → Record → Entry → Kind → Arrived
-runs chunk block r e (K.Aborted v) = silent r
-runs chunk block r e (K.Committed v) = silent (withWrite (withValue r v) (later (r .write) (e .timestamp)))
-runs chunk block r e K.Read =
+runs chunk block r e (Kind.Aborted v) = silent r
+runs chunk block r e (Kind.Committed v) = silent (withWrite (withValue r v) (later (r .write) (e .timestamp)))
+runs chunk block r e Kind.Read =
     let header = headed (e .sender) chunk block (e .timestamp) in
-    if e .timestamp below r .write then answering r (M.OutOfOrder header) else
-    answering (withRead r (later (r .read) (e .timestamp))) (M.ReadReply header (r .value))
+    if e .timestamp below r .write then answering r (Message.OutOfOrder header) else
+    answering (withRead r (later (r .read) (e .timestamp))) (Message.ReadReply header (r .value))
 -- (never: an undecided head is refused)
-runs chunk block r e (K.Undecided v) = silent r
+runs chunk block r e (Kind.Undecided v) = silent r
 
 unfoldable pub ran : (chunk block : ℕ) → Record → Arrived
 ran chunk block r = runs chunk block (withWaiting r (headRemoved (r .waiting))) (head (r .waiting)) (head (r .waiting) .kind)
@@ -128,7 +124,7 @@ failRefusals state =
 
 -- "all its waiting entries and its reconciliation set go, lost is set; values, last reads, last writes and epoch persist"
 abbrev pub failed : Chunk → Chunk
-failed c = record { state = S.Failed; lost = true; epoch = c .epoch; reconcile = noBlocks }
+failed c = record { state = State.Failed; lost = true; epoch = c .epoch; reconcile = noBlocks }
 
 abbrev pub emptied : Record → Record
 emptied r = withWaiting r zeroWaiting
@@ -140,7 +136,7 @@ recoverRefusals state =
     granted
 
 abbrev pub recovered : Chunk → Chunk
-recovered c = withState c S.Nolease
+recovered c = withState c State.Nolease
 
 -- "13 take lease: normal to nolease"
 abbrev pub takeLeaseRefusals : State → List Row
@@ -149,7 +145,7 @@ takeLeaseRefusals state =
     granted
 
 abbrev pub leaseTaken : Chunk → Chunk
-leaseTaken c = withState c S.Nolease
+leaseTaken c = withState c State.Nolease
 
 -- "14 give lease: nolease to normal, if not lost. Else 2"
 abbrev pub giveLeaseRefusals : State → (lost : Bool) → List Row
@@ -159,7 +155,7 @@ giveLeaseRefusals state lost =
     granted
 
 abbrev pub leaseGiven : Chunk → Chunk
-leaseGiven c = withState c S.Normal
+leaseGiven c = withState c State.Normal
 
 -- "16 overdue (chunk, block, now): normal, head undecided, and now minus the head's clock above the age limit, else 2. The
 -- difference may be below zero, and then nothing is overdue"

@@ -3,7 +3,6 @@ use Prim.Native.Nat.{ℕ}
 use mathlib.Core.Bool.{Bool}
 use mathlib.Core.List.{List, [], _∷_}
 use Rattle.rules.specs.Types.{Outcome}
-use Rattle.rules.specs.Types.O
 use Rattle.rules.specs.Words.{if_then_else_}
 
 -- ---- refusals: an ordered list of situations, each with its code
@@ -34,8 +33,8 @@ pub record Numbers : Type 0 where
   pub value : ℕ
 
 abbrev pub numbersOf : Outcome → Numbers
-numbersOf O.None = record { kind = 0; host = 0; block = 0; value = 0 }
-numbersOf (O.ReadDone h b v) = record { kind = 1; host = h; block = b; value = v }
-numbersOf (O.WriteDone h b) = record { kind = 2; host = h; block = b; value = 0 }
-numbersOf (O.ReadFailed h b) = record { kind = 3; host = h; block = b; value = 0 }
-numbersOf (O.WriteFailed h b) = record { kind = 4; host = h; block = b; value = 0 }
+numbersOf Outcome.None = record { kind = 0; host = 0; block = 0; value = 0 }
+numbersOf (Outcome.ReadDone h b v) = record { kind = 1; host = h; block = b; value = v }
+numbersOf (Outcome.WriteDone h b) = record { kind = 2; host = h; block = b; value = 0 }
+numbersOf (Outcome.ReadFailed h b) = record { kind = 3; host = h; block = b; value = 0 }
+numbersOf (Outcome.WriteFailed h b) = record { kind = 4; host = h; block = b; value = 0 }

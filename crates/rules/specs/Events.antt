@@ -3,18 +3,14 @@ use Prim.Native.Nat.{ℕ}
 use mathlib.Core.Bool.{Bool, true, false, not, _&&_}
 use mathlib.Core.List.{List}
 use lib.ListN.{getD}
-use lib.Dec.{eqb, ltb, leb}
-use Rattle.rules.specs.Types.{Set, Chunk, Operation, Host, Header, Message, Slot, Table, Copy, Event, Outcome, Answer}
-use Rattle.rules.specs.Types.A
-use Rattle.rules.specs.Types.N
-use Rattle.rules.specs.Types.O
-use Rattle.rules.specs.Types.S
+use lib.Dec.{eqb, ltb}
+use Rattle.rules.specs.Types.{Set, State, Chunk, Action, Operation, Host, Header, Message, Slot, Table, Copy, Event, Outcome, Answer}
 use Rattle.rules.specs.Chunks.{atChunk, runRefusals, ran, failRefusals, failed, emptied, recoverRefusals, recovered, takeLeaseRefusals, leaseTaken, giveLeaseRefusals, leaseGiven, overdueRefusals, overdue}
 use Rattle.rules.specs.Codes.{Row, _gives_⨾_, granted, codeOf}
 use Rattle.rules.specs.Formed.{wellFormed}
 use Rattle.rules.specs.Hosts.{front, intakeRefusals, appended, startRefusals, openingTo, opening, started, atHost, finishRefusals, closingTo, closing, finishOutcome, finished, timeoutRefusals, timedOut, workingRefusals, refreshed, stopped}
 use Rattle.rules.specs.Kinds.{isNormal, isFailed, headerOf, isForChunk, headed}
-use Rattle.rules.specs.Limits.{chunkLimit, blockLimit, placeLimit, greatestClock, upTo}
+use Rattle.rules.specs.Limits.{chunkLimit, blockLimit, placeLimit, greatestClock, upTo, oneTo}
 use Rattle.rules.specs.Network.{freePlaces, removed, howMany, sentToEach, replied, placeRefusals}
 use Rattle.rules.specs.Settlement.{settled, allLost}
 use Rattle.rules.specs.Tables.{isHost, isChunk, isBlock, setOf, hostOf, chunkOf, recordOf, recordsBy, slotOf, withEpoch, withChunks, withRecords, withPlaces, withHost, withChunk, withRecord}
@@ -34,7 +30,7 @@ pub record Rule : Type 0 where
   pub effect : Effect
 
 abbrev pub quietly : Table → Effect
-quietly t = record { table = t; outcome = O.None }
+quietly t = record { table = t; outcome = Outcome.None }
 
 -- "unused operand not 0" is out of range
 abbrev pub unused : ℕ → Bool
@@ -55,11 +51,11 @@ module _ (t : Table) where
 
   -- "1 read (host, block)"
   unfoldable pub readRule : (host block c : ℕ) → Rule
-  readRule host block c = intakeRule host block (unused c) (record { block = block; action = A.Read })
+  readRule host block c = intakeRule host block (unused c) (record { block = block; action = Action.Read })
 
   -- "2 write (host, block, value)"
   unfoldable pub writeRule : (host block value : ℕ) → Rule
-  writeRule host block value = intakeRule host block true (record { block = block; action = A.Write value })
+  writeRule host block value = intakeRule host block true (record { block = block; action = Action.Write value })
 
   -- ---- hosts: start and finish
 
@@ -75,7 +71,7 @@ module _ (t : Table) where
       let to = openingTo (o .action) copy (holdersOf h) in
       let now = stamp clock host in
       record {
-        ranges = isHost (t .creation) host && (leb 1 clock && upTo greatestClock clock) && isChunk (t .creation) copy;
+        ranges = isHost (t .creation) host && oneTo greatestClock clock && isChunk (t .creation) copy;
         refusals = startRefusals h clock copy (holdersOf h) (freePlaces (t .places)) (howMany to);
         effect = quietly (withPlaces (withHost t host (started h now clock to))
             (sentToEach (t .places) to (λ chunk. opening (headed host chunk (o .block) now) (h .epoch) (o .action))));
@@ -137,8 +133,8 @@ module _ (t : Table) where
       t
 
   abbrev pub takes : Slot → Table
-  takes N.Empty = t
-  takes (N.Full m) = if isForChunk m then chunkTakes (headerOf m) m else hostTakes (headerOf m) m
+  takes Slot.Empty = t
+  takes (Slot.Full m) = if isForChunk m then chunkTakes (headerOf m) m else hostTakes (headerOf m) m
 
 module _ (t : Table) where
   abbrev pub placeRule : (place b c : ℕ) → Table → Rule
@@ -219,7 +215,7 @@ module _ (t : Table) where
   -- "reconciliation sets and lost marks cleared, the epoch grows by one in every chunk, and every chunk is normal"
   abbrev pub renewed : (chunk : ℕ) → Chunk
   renewed c =
-      if isChunk (t .creation) c then record { state = S.Normal; lost = false; epoch = next (t .epoch); reconcile = noBlocks } else
+      if isChunk (t .creation) c then record { state = State.Normal; lost = false; epoch = next (t .epoch); reconcile = noBlocks } else
       chunkOf t c
 
   abbrev pub epochChanged : Table
@@ -284,7 +280,7 @@ module _ (t : Table) where
   unfoldable pub answered : Rule → Answer
   answered r =
       if eqb (codeOf (rows r)) 0 then record { table = r .effect .table; code = 0; outcome = r .effect .outcome } else
-      record { table = t; code = codeOf (rows r); outcome = O.None }
+      record { table = t; code = codeOf (rows r); outcome = Outcome.None }
 
   unfoldable pub step : Event → Answer
   step e = answered (ruleOf e)

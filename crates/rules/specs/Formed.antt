@@ -5,7 +5,6 @@ use mathlib.Core.Bool.{Bool, true, false, not, _&&_, _||_}
 use lib.ListN.{getD}
 use lib.Dec.{eqb, ltb, leb}
 use Rattle.rules.specs.Types.{Epoch, Creation, Entry, Waiting, Record, Chunk, Operation, Queue, Attempt, Host, Message, Slot, Table}
-use Rattle.rules.specs.Types.N
 use Rattle.rules.specs.Creation.{isCreation, ofStore}
 use Rattle.rules.specs.Kinds.{headerOf, epochOf}
 use Rattle.rules.specs.Limits.{hostLimit, chunkLimit, blockLimit, operationLimit, waitingLimit, placeLimit, greatestClock, upTo}
@@ -71,8 +70,8 @@ module _ (k : Creation) where
       isHost k (h .host) && isChunk k (h .chunk) && ltb (h .block) blockLimit && isTimestamp (h .timestamp) && isEpoch (epochOf m)
 
   abbrev pub slotFormed : Slot → Bool
-  slotFormed N.Empty = true
-  slotFormed (N.Full m) = messageFormed m
+  slotFormed Slot.Empty = true
+  slotFormed (Slot.Full m) = messageFormed m
 
 -- ---- the table: each part of the store's is formed, each unused one is zero
 

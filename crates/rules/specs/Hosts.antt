@@ -5,9 +5,6 @@ use mathlib.Core.List.{List, [], _∷_, _++_}
 use lib.ListN.{getD, set, take, drop, length}
 use lib.Dec.{eqb, ltb, leb}
 use Rattle.rules.specs.Types.{Timestamp, Epoch, Set, Action, Operation, Queue, Attempt, Host, Header, Message, Outcome}
-use Rattle.rules.specs.Types.A
-use Rattle.rules.specs.Types.M
-use Rattle.rules.specs.Types.O
 use Rattle.rules.specs.Codes.{Row, _gives_⨾_, granted}
 use Rattle.rules.specs.Kinds.{isReading, headerOf}
 use Rattle.rules.specs.Limits.{chunkLimit, operationLimit}
@@ -97,12 +94,12 @@ only c = record { chunks = each (eqb c) (numbers chunkLimit) }
 
 -- "A read sends one read to the copy; a write sends a prewrite to each chunk of the set"
 abbrev pub openingTo : Action → (copy : ℕ) → (holders : Set) → Set
-openingTo A.Read copy holders = only copy
-openingTo (A.Write v) copy holders = holders
+openingTo Action.Read copy holders = only copy
+openingTo (Action.Write v) copy holders = holders
 
 abbrev pub opening : Header → Epoch → Action → Message
-opening header epoch A.Read = M.Read header epoch
-opening header epoch (A.Write v) = M.Prewrite header epoch v
+opening header epoch Action.Read = Message.Read header epoch
+opening header epoch (Action.Write v) = Message.Prewrite header epoch v
 
 -- "The front waiting operation becomes the current one. Okay and restart become true, the result value 0. .. Those are
 -- outstanding. For drawing, each host's clock keeper hands out a number and remembers it"
@@ -114,16 +111,16 @@ started h t clock to =
 
 -- "a read or prewrite reply suits the operation"
 abbrev pub suits : (reading : Bool) → Message → Bool
-suits reading (M.ReadReply header v) = reading
-suits reading (M.PrewriteReply header) = not reading
-suits reading (M.Mismatch header) = true
-suits reading (M.Error header) = true
-suits reading (M.OutOfOrder header) = true
-suits reading (M.Busy header) = true
-suits reading (M.Read header epoch) = true
-suits reading (M.Prewrite header epoch v) = true
-suits reading (M.Commit header epoch) = true
-suits reading (M.Abort header epoch) = true
+suits reading (Message.ReadReply header v) = reading
+suits reading (Message.PrewriteReply header) = not reading
+suits reading (Message.Mismatch header) = true
+suits reading (Message.Error header) = true
+suits reading (Message.OutOfOrder header) = true
+suits reading (Message.Busy header) = true
+suits reading (Message.Read header epoch) = true
+suits reading (Message.Prewrite header epoch v) = true
+suits reading (Message.Commit header epoch) = true
+suits reading (Message.Abort header epoch) = true
 
 -- "a reply counts only if its timestamp is the current one, its chunk is outstanding, and a read or prewrite reply suits the
 -- operation"
@@ -139,16 +136,16 @@ answeredBy a c = withOutstanding a (record { chunks = set (a .outstanding .chunk
 -- "Mismatch, out of order, busy and error clear okay; mismatch also makes the map not current; error clears restart. A read
 -- reply sets the result value." (Requests go to chunks.)
 abbrev pub heard : Host → Attempt → Message → Host
-heard h a (M.Mismatch header) = withMapped (withAttempt h (withOkay a false)) false
-heard h a (M.OutOfOrder header) = withAttempt h (withOkay a false)
-heard h a (M.Busy header) = withAttempt h (withOkay a false)
-heard h a (M.Error header) = withAttempt h (withRestart (withOkay a false) false)
-heard h a (M.ReadReply header v) = withAttempt h (withResult a v)
-heard h a (M.PrewriteReply header) = withAttempt h a
-heard h a (M.Read header epoch) = h
-heard h a (M.Prewrite header epoch v) = h
-heard h a (M.Commit header epoch) = h
-heard h a (M.Abort header epoch) = h
+heard h a (Message.Mismatch header) = withMapped (withAttempt h (withOkay a false)) false
+heard h a (Message.OutOfOrder header) = withAttempt h (withOkay a false)
+heard h a (Message.Busy header) = withAttempt h (withOkay a false)
+heard h a (Message.Error header) = withAttempt h (withRestart (withOkay a false) false)
+heard h a (Message.ReadReply header v) = withAttempt h (withResult a v)
+heard h a (Message.PrewriteReply header) = withAttempt h a
+heard h a (Message.Read header epoch) = h
+heard h a (Message.Prewrite header epoch v) = h
+heard h a (Message.Commit header epoch) = h
+heard h a (Message.Abort header epoch) = h
 
 unfoldable pub atHost : Host → Message → Host
 atHost h m = if counts h m then heard h (answeredBy (h .attempt) (headerOf m .chunk)) m else h
@@ -165,21 +162,21 @@ finishRefusals h free messages =
 
 -- a write's messages go to each chunk of the set; a read has none
 abbrev pub closingTo : Action → (holders : Set) → Set
-closingTo A.Read holders = zeroSet
-closingTo (A.Write v) holders = holders
+closingTo Action.Read holders = zeroSet
+closingTo (Action.Write v) holders = holders
 
 -- "Okay write: commit to each chunk of the set .. Not okay: abort to each"
 abbrev pub closing : (okay : Bool) → Header → Epoch → Message
-closing okay header epoch = if okay then M.Commit header epoch else M.Abort header epoch
+closing okay header epoch = if okay then Message.Commit header epoch else Message.Abort header epoch
 
 -- "Okay write: .. write done .. Okay read: read done"
 abbrev pub doneAs : (host : ℕ) → Operation → Action → (result : ℕ) → Outcome
-doneAs host o A.Read result = O.ReadDone host (o .block) result
-doneAs host o (A.Write v) result = O.WriteDone host (o .block)
+doneAs host o Action.Read result = Outcome.ReadDone host (o .block) result
+doneAs host o (Action.Write v) result = Outcome.WriteDone host (o .block)
 
 abbrev pub failedAs : (host : ℕ) → Operation → Action → Outcome
-failedAs host o A.Read = O.ReadFailed host (o .block)
-failedAs host o (A.Write v) = O.WriteFailed host (o .block)
+failedAs host o Action.Read = Outcome.ReadFailed host (o .block)
+failedAs host o (Action.Write v) = Outcome.WriteFailed host (o .block)
 
 -- "Not okay, of either sort: with restart the operation goes back to the front, otherwise it has failed"
 abbrev pub goesBack : Attempt → Bool
@@ -188,7 +185,7 @@ goesBack a = not (a .okay) && a .restart
 unfoldable pub finishOutcome : (host : ℕ) → Host → Outcome
 finishOutcome host h =
     if h .attempt .okay then doneAs host (front h) (front h .action) (h .attempt .result) else
-    if h .attempt .restart then O.None else
+    if h .attempt .restart then Outcome.None else
     failedAs host (front h) (front h .action)
 
 -- "No current operation remains, and its fields become zero or false"

@@ -1,107 +1,99 @@
 -- The enums, case by case
 use Prim.Native.Nat.{ℕ}
-use mathlib.Core.Bool.{Bool, true, false}
+use mathlib.Core.Bool.{Bool, true, false, not}
 use Rattle.rules.specs.Types.{Timestamp, Epoch, Kind, State, Action, Header, Message, Slot}
-use Rattle.rules.specs.Types.A
-use Rattle.rules.specs.Types.K
-use Rattle.rules.specs.Types.M
-use Rattle.rules.specs.Types.N
-use Rattle.rules.specs.Types.S
 use Rattle.rules.specs.Timestamps.{noEpoch}
 
 -- ---- an entry: "a read, an undecided write, a committed write or an aborted write; a write has its value"
 
 abbrev pub isRead : Kind → Bool
-isRead K.Read = true
-isRead (K.Undecided v) = false
-isRead (K.Committed v) = false
-isRead (K.Aborted v) = false
+isRead Kind.Read = true
+isRead (Kind.Undecided v) = false
+isRead (Kind.Committed v) = false
+isRead (Kind.Aborted v) = false
 
 abbrev pub isUndecided : Kind → Bool
-isUndecided K.Read = false
-isUndecided (K.Undecided v) = true
-isUndecided (K.Committed v) = false
-isUndecided (K.Aborted v) = false
+isUndecided Kind.Read = false
+isUndecided (Kind.Undecided v) = true
+isUndecided (Kind.Committed v) = false
+isUndecided (Kind.Aborted v) = false
 
 abbrev pub isAborted : Kind → Bool
-isAborted K.Read = false
-isAborted (K.Undecided v) = false
-isAborted (K.Committed v) = false
-isAborted (K.Aborted v) = true
+isAborted Kind.Read = false
+isAborted (Kind.Undecided v) = false
+isAborted (Kind.Committed v) = false
+isAborted (Kind.Aborted v) = true
 
 abbrev pub isWrite : Kind → Bool
-isWrite K.Read = false
-isWrite (K.Undecided v) = true
-isWrite (K.Committed v) = true
-isWrite (K.Aborted v) = true
+isWrite k = not (isRead k)
 
 abbrev pub valueOf : Kind → ℕ
-valueOf K.Read = 0
-valueOf (K.Undecided v) = v
-valueOf (K.Committed v) = v
-valueOf (K.Aborted v) = v
+valueOf Kind.Read = 0
+valueOf (Kind.Undecided v) = v
+valueOf (Kind.Committed v) = v
+valueOf (Kind.Aborted v) = v
 
 -- ---- a chunk: "normal, nolease or failed"
 
 abbrev pub isNormal : State → Bool
-isNormal S.Normal = true
-isNormal S.Nolease = false
-isNormal S.Failed = false
+isNormal State.Normal = true
+isNormal State.Nolease = false
+isNormal State.Failed = false
 
 abbrev pub isNolease : State → Bool
-isNolease S.Normal = false
-isNolease S.Nolease = true
-isNolease S.Failed = false
+isNolease State.Normal = false
+isNolease State.Nolease = true
+isNolease State.Failed = false
 
 abbrev pub isFailed : State → Bool
-isFailed S.Normal = false
-isFailed S.Nolease = false
-isFailed S.Failed = true
+isFailed State.Normal = false
+isFailed State.Nolease = false
+isFailed State.Failed = true
 
 -- ---- an operation: a read or a write
 
 abbrev pub isReading : Action → Bool
-isReading A.Read = true
-isReading (A.Write v) = false
+isReading Action.Read = true
+isReading (Action.Write v) = false
 
 -- ---- a message: "Each has host, chunk, block and timestamp; the first four also the epoch the host knows"
 
 abbrev pub headerOf : Message → Header
-headerOf (M.Read h e) = h
-headerOf (M.Prewrite h e v) = h
-headerOf (M.Commit h e) = h
-headerOf (M.Abort h e) = h
-headerOf (M.Mismatch h) = h
-headerOf (M.Error h) = h
-headerOf (M.OutOfOrder h) = h
-headerOf (M.Busy h) = h
-headerOf (M.ReadReply h v) = h
-headerOf (M.PrewriteReply h) = h
+headerOf (Message.Read h e) = h
+headerOf (Message.Prewrite h e v) = h
+headerOf (Message.Commit h e) = h
+headerOf (Message.Abort h e) = h
+headerOf (Message.Mismatch h) = h
+headerOf (Message.Error h) = h
+headerOf (Message.OutOfOrder h) = h
+headerOf (Message.Busy h) = h
+headerOf (Message.ReadReply h v) = h
+headerOf (Message.PrewriteReply h) = h
 
 abbrev pub epochOf : Message → Epoch
-epochOf (M.Read h e) = e
-epochOf (M.Prewrite h e v) = e
-epochOf (M.Commit h e) = e
-epochOf (M.Abort h e) = e
-epochOf (M.Mismatch h) = noEpoch
-epochOf (M.Error h) = noEpoch
-epochOf (M.OutOfOrder h) = noEpoch
-epochOf (M.Busy h) = noEpoch
-epochOf (M.ReadReply h v) = noEpoch
-epochOf (M.PrewriteReply h) = noEpoch
+epochOf (Message.Read h e) = e
+epochOf (Message.Prewrite h e v) = e
+epochOf (Message.Commit h e) = e
+epochOf (Message.Abort h e) = e
+epochOf (Message.Mismatch h) = noEpoch
+epochOf (Message.Error h) = noEpoch
+epochOf (Message.OutOfOrder h) = noEpoch
+epochOf (Message.Busy h) = noEpoch
+epochOf (Message.ReadReply h v) = noEpoch
+epochOf (Message.PrewriteReply h) = noEpoch
 
 -- read, prewrite, commit and abort go to the chunk, the others to the host
 abbrev pub isForChunk : Message → Bool
-isForChunk (M.Read h e) = true
-isForChunk (M.Prewrite h e v) = true
-isForChunk (M.Commit h e) = true
-isForChunk (M.Abort h e) = true
-isForChunk (M.Mismatch h) = false
-isForChunk (M.Error h) = false
-isForChunk (M.OutOfOrder h) = false
-isForChunk (M.Busy h) = false
-isForChunk (M.ReadReply h v) = false
-isForChunk (M.PrewriteReply h) = false
+isForChunk (Message.Read h e) = true
+isForChunk (Message.Prewrite h e v) = true
+isForChunk (Message.Commit h e) = true
+isForChunk (Message.Abort h e) = true
+isForChunk (Message.Mismatch h) = false
+isForChunk (Message.Error h) = false
+isForChunk (Message.OutOfOrder h) = false
+isForChunk (Message.Busy h) = false
+isForChunk (Message.ReadReply h v) = false
+isForChunk (Message.PrewriteReply h) = false
 
 abbrev pub headed : (host chunk block : ℕ) → Timestamp → Header
 headed host chunk block t = record { host = host; chunk = chunk; block = block; timestamp = t }
@@ -109,5 +101,5 @@ headed host chunk block t = record { host = host; chunk = chunk; block = block; 
 -- ---- a place of the network
 
 abbrev pub isEmptySlot : Slot → Bool
-isEmptySlot N.Empty = true
-isEmptySlot (N.Full m) = false
+isEmptySlot Slot.Empty = true
+isEmptySlot (Slot.Full m) = false

@@ -1,6 +1,6 @@
 -- Document 01, "What the store holds": limits and ranges, each named once
 use Prim.Native.Nat.{ℕ}
-use mathlib.Core.Bool.{Bool}
+use mathlib.Core.Bool.{Bool, _&&_}
 use lib.Dec.{leb}
 
 -- "1 to 8 hosts, 1 to 8 chunks, 1 to 16 blocks"
@@ -36,3 +36,7 @@ greatestTimestamp = 34359738367
 -- n is one of 0 to the greatest. (A value is any 64-bit number, so every number of the machine is one.)
 abbrev pub upTo : (greatest n : ℕ) → Bool
 upTo greatest n = leb n greatest
+
+-- n is one of 1 to the greatest
+abbrev pub oneTo : (greatest n : ℕ) → Bool
+oneTo greatest n = leb 1 n && leb n greatest

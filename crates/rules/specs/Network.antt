@@ -4,7 +4,6 @@ use mathlib.Core.Bool.{Bool}
 use mathlib.Core.List.{List}
 use lib.ListN.{set, length}
 use Rattle.rules.specs.Types.{Set, Message, Slot, Place}
-use Rattle.rules.specs.Types.N
 use Rattle.rules.specs.Codes.{Row, _gives_⨾_, granted}
 use Rattle.rules.specs.Kinds.{isEmptySlot}
 use Rattle.rules.specs.Limits.{chunkLimit}
@@ -23,7 +22,7 @@ removed places p = set places p zeroPlace
 
 -- "New messages go to the lowest free places"
 unfoldable pub sent : List Place → Message → List Place
-sent places m = set places (place isFree places) (record { slot = N.Full m })
+sent places m = set places (place isFree places) (record { slot = Slot.Full m })
 
 -- ".. by ascending chunk": message m c to each chunk c of the set
 abbrev pub chunksOf : Set → List ℕ
@@ -37,8 +36,8 @@ sentToEach places to m = fold sent places (each m (chunksOf to))
 
 -- "Its reply, if any, takes the lowest free place"
 unfoldable pub replied : List Place → Slot → List Place
-replied places N.Empty = places
-replied places (N.Full m) = sent places m
+replied places Slot.Empty = places
+replied places (Slot.Full m) = sent places m
 
 -- "4 deliver (place), 5 drop (place). Empty place: 2"
 abbrev pub placeRefusals : Slot → List Row

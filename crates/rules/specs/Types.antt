@@ -1,5 +1,4 @@
--- The types of src/lib.rt, and the cases of its enums: K a waiting entry's, S a chunk's states, A an operation's, M messages, N places, O
--- outcomes
+-- The types of src/lib.rt
 pub use Rattle.rules.specs.declared.Timestamp.{Timestamp}
 pub use Rattle.rules.specs.declared.Epoch.{Epoch}
 pub use Rattle.rules.specs.declared.Set.{Set}
@@ -26,9 +25,3 @@ pub use Rattle.rules.specs.declared.Copy.{Copy}
 pub use Rattle.rules.specs.declared.Event.{Event}
 pub use Rattle.rules.specs.declared.Outcome.{Outcome}
 pub use Rattle.rules.specs.declared.Answer.{Answer}
-pub use Rattle.rules.specs.declared.Kind.the-variants as K
-pub use Rattle.rules.specs.declared.State.the-variants as S
-pub use Rattle.rules.specs.declared.Action.the-variants as A
-pub use Rattle.rules.specs.declared.Message.the-variants as M
-pub use Rattle.rules.specs.declared.Slot.the-variants as N
-pub use Rattle.rules.specs.declared.Outcome.the-variants as O

@@ -4,7 +4,6 @@ use mathlib.Core.Bool.{Bool}
 use mathlib.Core.List.{List, [], _∷_}
 use lib.ListN.{getD, set, take, drop, length}
 use Rattle.rules.specs.Types.{Timestamp, Kind, Entry, Waiting}
-use Rattle.rules.specs.Types.K
 use Rattle.rules.specs.Limits.{waitingLimit}
 use Rattle.rules.specs.Timestamps.{_is_, _below_}
 use Rattle.rules.specs.Words.{if_then_else_, place, filled}
@@ -40,10 +39,10 @@ firstWith t l = place (λ e. e .timestamp is t) l
 
 -- "if it is an undecided write, which becomes committed or aborted"
 abbrev pub decidedKind : (commit : Bool) → Kind → Kind
-decidedKind commit K.Read = K.Read
-decidedKind commit (K.Undecided v) = if commit then K.Committed v else K.Aborted v
-decidedKind commit (K.Committed v) = K.Committed v
-decidedKind commit (K.Aborted v) = K.Aborted v
+decidedKind commit Kind.Read = Kind.Read
+decidedKind commit (Kind.Undecided v) = if commit then Kind.Committed v else Kind.Aborted v
+decidedKind commit (Kind.Committed v) = Kind.Committed v
+decidedKind commit (Kind.Aborted v) = Kind.Aborted v
 
 abbrev pub decided : (commit : Bool) → Entry → Entry
 decided commit e = record { timestamp = e .timestamp; sender = e .sender; epoch = e .epoch; kind = decidedKind commit (e .kind) }

@@ -4,11 +4,7 @@ use mathlib.Core.Bool.{Bool, false, _&&_, not}
 use mathlib.Core.List.{List, []}
 use lib.ListN.{getD, replicate}
 use lib.Dec.{eqb}
-use Rattle.rules.specs.Types.{Set, Creation, Entry, Waiting, Record, Chunk, Operation, Queue, Attempt, Host, Place, Table, Copy}
-use Rattle.rules.specs.Types.A
-use Rattle.rules.specs.Types.K
-use Rattle.rules.specs.Types.N
-use Rattle.rules.specs.Types.S
+use Rattle.rules.specs.Types.{Set, Creation, Kind, Entry, Waiting, Record, State, Chunk, Action, Operation, Queue, Attempt, Host, Slot, Place, Table, Copy}
 use Rattle.rules.specs.Kinds.{isRead, isNormal, isReading}
 use Rattle.rules.specs.Limits.{hostLimit, chunkLimit, blockLimit, operationLimit, waitingLimit, placeLimit}
 use Rattle.rules.specs.Timestamps.{never, noEpoch, _is_, _same_}
@@ -33,7 +29,7 @@ noBlocks = replicate blockLimit false
 -- ---- an entry, a waiting list, a record
 
 abbrev pub zeroEntry : Entry
-zeroEntry = record { timestamp = never; sender = 0; epoch = noEpoch; kind = K.Read }
+zeroEntry = record { timestamp = never; sender = 0; epoch = noEpoch; kind = Kind.Read }
 
 abbrev pub isZeroEntry : Entry → Bool
 isZeroEntry e = e .timestamp is never && eqb (e .sender) 0 && e .epoch same noEpoch && isRead (e .kind)
@@ -52,7 +48,7 @@ isZeroRecord r =
 -- ---- a chunk
 
 abbrev pub zeroChunk : Chunk
-zeroChunk = record { state = S.Normal; lost = false; epoch = noEpoch; reconcile = noBlocks }
+zeroChunk = record { state = State.Normal; lost = false; epoch = noEpoch; reconcile = noBlocks }
 
 abbrev pub isZeroChunk : Chunk → Bool
 isZeroChunk c =
@@ -62,7 +58,7 @@ isZeroChunk c =
 -- ---- an operation, an attempt, a host
 
 abbrev pub zeroOperation : Operation
-zeroOperation = record { block = 0; action = A.Read }
+zeroOperation = record { block = 0; action = Action.Read }
 
 abbrev pub isZeroOperation : Operation → Bool
 isZeroOperation o = eqb (o .block) 0 && isReading (o .action)
@@ -89,7 +85,7 @@ isZeroHost h =
 -- ---- a place of the network: empty
 
 abbrev pub zeroPlace : Place
-zeroPlace = record { slot = N.Empty }
+zeroPlace = record { slot = Slot.Empty }
 
 -- ---- the whole table
 
@@ -118,7 +114,7 @@ abbrev pub noCopy : Copy
 noCopy = record { member = false; lost = false; block = noRecord }
 
 abbrev pub noChunk : Chunk
-noChunk = record { state = S.Normal; lost = false; epoch = noEpoch; reconcile = [] }
+noChunk = record { state = State.Normal; lost = false; epoch = noEpoch; reconcile = [] }
 
 abbrev pub noHost : Host
 noHost = record {

@@ -1,0 +1,77 @@
+//! The tests of the second program.
+
+mod cases;
+mod codes;
+mod comparing;
+mod errors_that_look_right;
+mod granted;
+mod lines;
+mod sequences;
+mod session;
+mod well_formed;
+
+use second::event::{step, Answer};
+use second::table::*;
+
+/// The answer of a refusal, or of a granted event without outcome.
+fn answer(code: u64) -> Answer {
+    Answer {
+        code,
+        outcome: 0,
+        host: 0,
+        block: 0,
+        value: 0,
+    }
+}
+
+/// Expects a refusal with this code and the table exactly as it was.
+fn refused(table: &Table, kind: u64, operands: [u64; 3], code: u64) {
+    let mut after = table.clone();
+    let found = step(&mut after, kind, operands);
+    assert_eq!(found, answer(code), "event {kind} {operands:?}");
+    assert!(
+        after == *table,
+        "event {kind} {operands:?} changed the table"
+    );
+}
+
+/// Performs an event that must be granted without outcome.
+fn granted(table: &mut Table, kind: u64, operands: [u64; 3]) {
+    assert_eq!(
+        step(table, kind, operands),
+        answer(0),
+        "event {kind} {operands:?}"
+    );
+}
+
+/// A fresh store with leases given and maps current; every chunk holds every block.
+fn ready_store(hosts: u64, chunks: u64, blocks: u64) -> Table {
+    let sets = vec![(1 << chunks) - 1; blocks as usize];
+    let mut table = Table::create(hosts, chunks, blocks, 100, &sets).unwrap();
+    for chunk in 0..chunks {
+        granted(&mut table, 14, [chunk, 0, 0]);
+    }
+    for host in 0..hosts {
+        granted(&mut table, 8, [host, 0, 0]);
+    }
+    table
+}
+
+fn entry(timestamp: u64, sort: Waiting) -> Entry {
+    Entry {
+        timestamp: Timestamp(timestamp),
+        sender: 0,
+        epoch: Epoch(1),
+        sort,
+    }
+}
+
+fn message(block: usize, timestamp: u64, body: Body) -> Message {
+    Message {
+        host: 0,
+        chunk: 0,
+        block,
+        timestamp: Timestamp(timestamp),
+        body,
+    }
+}
