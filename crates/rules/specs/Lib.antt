@@ -14,4 +14,3 @@ pub mod Chunks
 pub mod Hosts
 pub mod Settlement
 pub mod Events
-pub mod Cases
