@@ -115,6 +115,7 @@ situations! {
     HostStopped Anywhere "deliver to a stopped host",
     ChunkFailed Anywhere "deliver to a failed chunk",
     ChunkNolease Anywhere "deliver to a nolease chunk",
+    CommitAtNolease Anywhere "a commit is lost at a nolease chunk",
     ReadWaits Anywhere "a read waits",
     PrewriteWaits Anywhere "a prewrite waits",
     WaitsBeforeLater Anywhere "one waits before a later one",
@@ -296,7 +297,11 @@ impl Part {
         let chunk = &before.chunks[message.chunk];
         match chunk.state {
             State::Failed => return self.add(Situation::ChunkFailed),
-            State::Nolease => return self.add(Situation::ChunkNolease),
+            State::Nolease => {
+                let commit = matches!(message.body, Body::Commit(_));
+                self.add_if(commit, Situation::CommitAtNolease);
+                return self.add(Situation::ChunkNolease);
+            }
             State::Normal => {}
         }
         // A block outside has a record that stays zero.

@@ -134,7 +134,7 @@ pub fn generate_with(
     let random = &mut Random::new(seed);
     let creation = Creation::random(random);
     let fresh = creation.table();
-    let opening = match random.in_thousand(25) {
+    let opening = match random.in_thousand(60) {
         true => random.pick(&Opening::ALL[1..]),
         false => Opening::Good,
     };

@@ -2,8 +2,8 @@
 //! from document 01 (the exact rules) and document 000 (the Palladio access protocol).
 //!
 //! The store itself: [`table`], [`well_formed`], [`host`], [`chunk`], [`settle`], [`event`].
-//! Around it: [`driver`] (one session), [`guide`] and [`generate`] (seeded sequences), [`scatter`] (tables
-//! handed in), [`count`] (what came up), [`compare`] (another driver against this one) and
+//! Around it: [`driver`] (one session), [`guide`] and [`generate`] (seeded sequences), [`scatter`]
+//! (tables handed in), [`count`] (what came up), [`compare`] (another driver against this one) and
 //! [`one_copy`] (demand 3 checked over a run).
 
 pub mod chunk;

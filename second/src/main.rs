@@ -71,7 +71,8 @@ fn run_count(words: &[&str]) -> Result<(), String> {
 fn run_one_copy(words: &[&str]) -> Result<(), String> {
     let (first_seed, sequences, events) = range(words)?;
     let [reads, writes, listed] = one_copy::check(first_seed, sequences, events)?;
-    println!("{sequences} sequences as one copy: {reads} done reads of a written value, {writes} done writes, {listed} writes listed");
+    println!("{sequences} sequences as one copy: {listed} writes listed, {writes} of them done;");
+    println!("{reads} done reads gave a written value");
     Ok(())
 }
 

@@ -32,6 +32,13 @@ pub record Rule : Type 0 where
 abbrev pub quietly : Table → Effect
 quietly t = record { table = t; outcome = Outcome.None }
 
+-- code 0: "new table, outcome"; any other: "same table, zeros"
+abbrev pub done : Effect → Answer
+done x = record { table = x .table; code = 0; outcome = x .outcome }
+
+abbrev pub refused : Table → (code : ℕ) → Answer
+refused t k = record { table = t; code = k; outcome = Outcome.None }
+
 -- "unused operand not 0" is out of range
 abbrev pub unused : ℕ → Bool
 unused n = eqb n 0
@@ -276,11 +283,8 @@ module _ (t : Table) where
       not (r .ranges) gives 1 ⨾
       r .refusals
 
-  -- code 0: "new table, outcome"; any other: "same table, zeros"
   unfoldable pub answered : Rule → Answer
-  answered r =
-      if eqb (codeOf (rows r)) 0 then record { table = r .effect .table; code = 0; outcome = r .effect .outcome } else
-      record { table = t; code = codeOf (rows r); outcome = Outcome.None }
+  answered r = if eqb (codeOf (rows r)) 0 then done (r .effect) else refused t (codeOf (rows r))
 
   unfoldable pub step : Event → Answer
   step e = answered (ruleOf e)

@@ -3,7 +3,6 @@
 //! An error changes what the step sees or leaves; the store's own code has no hook for it.
 
 use crate::{entry, ready_store};
-use second::chunk::insert_in_order;
 use second::event::{step, Answer};
 use second::generate::{generate, generate_with, EVENTS};
 use second::one_copy::{run, Plain, Stepper};
@@ -100,8 +99,19 @@ impl Stepper for Broken {
                 answer
             }
             (Mistake::ServingPastAnUndecidedWrite, 9) => {
-                serve_past(table, first, operands[1] as usize);
-                step(table, kind, operands)
+                let second = operands[1] as usize;
+                let Some((read, rest)) = read_behind_undecided(table, first, second) else {
+                    return step(table, kind, operands);
+                };
+                // The read is run as if it stood alone; the rest stays as it was.
+                let waiting = table.chunks[first].records[second].waiting;
+                let mut alone = Queue::EMPTY;
+                alone.append(read);
+                table.chunks[first].records[second].waiting = alone;
+                let answer = step(table, kind, operands);
+                let left = if answer.code == 0 { rest } else { waiting };
+                table.chunks[first].records[second].waiting = left;
+                answer
             }
             (Mistake::RetryingAsOneAttempt, 3) => {
                 let answer = step(table, kind, operands);
@@ -136,47 +146,26 @@ impl Stepper for Broken {
     }
 }
 
-/// Moves a read that waits behind an undecided head to the front.
-fn serve_past(table: &mut Table, chunk: usize, block: usize) {
-    if chunk >= table.chunk_count || block >= table.block_count {
-        return;
-    }
-    let waiting = &mut table.chunks[chunk].records[block].waiting;
-    let undecided_head =
-        matches!(waiting.first(), Some(h) if matches!(h.sort, Waiting::Undecided(_)));
-    let read = waiting
-        .items()
-        .position(|entry| entry.sort == Waiting::Read);
-    if let (true, Some(read)) = (undecided_head, read) {
-        waiting.places[..=read].rotate_right(1);
-        // In order for the step's eyes: served with the head's timestamp it would not be a fault.
-        let mut rest: Queue<Entry, WAITING> = Queue::EMPTY;
-        let mut items: Vec<Entry> = waiting.items().collect();
-        let first = items.remove(0);
-        items
-            .into_iter()
-            .for_each(|entry| insert_in_order(&mut rest, entry));
-        serve_now(table, chunk, block, first, rest);
-    }
-}
-
-/// Serves the read and leaves the rest with it gone; the step that follows finds the old head.
-fn serve_now(
-    table: &mut Table,
+/// The first read behind an undecided head, and the queue without it.
+fn read_behind_undecided(
+    table: &Table,
     chunk: usize,
     block: usize,
-    read: Entry,
-    rest: Queue<Entry, WAITING>,
-) {
-    let mut alone: Queue<Entry, WAITING> = Queue::EMPTY;
-    alone.append(read);
-    table.chunks[chunk].records[block].waiting = alone;
-    let answer = step(table, 9, [chunk as u64, block as u64, 0]);
-    let left = &mut table.chunks[chunk].records[block].waiting;
-    *left = rest;
-    if answer.code != 0 {
-        insert_in_order(left, read);
+) -> Option<(Entry, Queue<Entry, WAITING>)> {
+    if chunk >= table.chunk_count || block >= table.block_count {
+        return None;
     }
+    let waiting = &table.chunks[chunk].records[block].waiting;
+    let head = waiting.first()?;
+    if !matches!(head.sort, Waiting::Undecided(_)) {
+        return None;
+    }
+    let mut items: Vec<Entry> = waiting.items().collect();
+    let read = items.iter().position(|e| e.sort == Waiting::Read)?;
+    let read = items.remove(read);
+    let mut rest = Queue::EMPTY;
+    items.into_iter().for_each(|entry| rest.append(entry));
+    Some((read, rest))
 }
 
 /// The first seed below the limit on whose sequence the mistake is found, and what was found.
@@ -189,7 +178,11 @@ fn found(mistake: Mistake, seeds: u64) -> Option<(u64, String)> {
         // On the same events the plain store has nothing wrong.
         assert_eq!(run(&sequence, &mut Plain).verdict(), Vec::<String>::new());
         let wrong = run(&sequence, &mut Broken::new(mistake)).verdict();
-        wrong.into_iter().next().map(|wrong| (seed, wrong))
+        // A timestamp drawn twice is the mistake itself, not yet a wrong answer.
+        let mut wrong = wrong
+            .into_iter()
+            .filter(|wrong| !wrong.contains("drawn twice"));
+        wrong.next().map(|wrong| (seed, wrong))
     })
 }
 

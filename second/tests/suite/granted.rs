@@ -318,7 +318,7 @@ fn overdue_joins_the_set() {
     });
 }
 
-/// A message to chunk 0, whose block 0 has last read 20 and last write 30, in a store of one block.
+/// A message to chunk 0, whose block 0 has last read 50 and last write 30, in a store of one block.
 fn arrival(waiting: &[Entry], sent: Message) -> Table {
     let mut table = ready_store(1, 1, 1);
     let record = &mut table.chunks[0].records[0];
@@ -533,7 +533,9 @@ fn epoch_change() {
     ];
     for chunk in 0..3 {
         let record = &mut table.chunks[chunk].records[0];
-        several.map(|entry| record.waiting.append(entry));
+        several
+            .iter()
+            .for_each(|&entry| record.waiting.append(entry));
     }
     // Chunk 1 lacks the latest; chunk 0 is not in block 1's set and keeps its copy.
     let waiting = &mut table.chunks[1].records[0].waiting;

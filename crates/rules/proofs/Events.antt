@@ -1,0 +1,86 @@
+-- What holds of every event: its code is its first refusal's, and a refusal changes nothing
+use Prim.Native.Nat.{ℕ, _≤_}
+use mathlib.Core.Path.{_≡_, refl, sym, ap, _∙_}
+use mathlib.Core.Logic.{_↔_}
+use mathlib.Core.Bool.{Bool, true, false, cond}
+use mathlib.Core.List.{List}
+use lib.Dec.{eqb}
+use borrow.Author.Tests.{ne-eqb, eqb-true, eqb-false}
+use Rattle.rules.specs.Types.{Creation, Created, Table, Event, Outcome, Answer}
+use Rattle.rules.specs.Codes.{codeOf}
+use Rattle.rules.specs.Creation.{isCreation, fresh, created, creationRefusals}
+use Rattle.rules.specs.Events.{Rule, readRule, writeRule, startRule, deliverRule, dropRule, finishRule, timeoutRule, refreshRule, runRule, stopRule, failRule, recoverRule, takeLeaseRule, giveLeaseRule, epochRule, overdueRule, unknownRule, ruleOf, rows, done, refused, answered, step}
+use Rattle.rules.specs.Formed.{wellFormed}
+use Rattle.rules.specs.Words.{every}
+use Rattle.rules.specs.Zero.{zeroTable}
+use Rattle.rules.proofs.Lists.{walk}
+use Rattle.rules.proofs.Refusals.{First, Free, coded, refused-exactly, granted-exactly, code-range}
+
+-- ---- what holds of each of the sixteen rules, and of the one for unknown kinds, holds of an event's rule
+
+module _ (P : Rule → Type 0) (t : Table) (e : Event) where
+  pub by-kind : P (readRule t (e .a) (e .b) (e .c)) → P (writeRule t (e .a) (e .b) (e .c)) → P (startRule t (e .a) (e .b) (e .c))
+      → P (deliverRule t (e .a) (e .b) (e .c)) → P (dropRule t (e .a) (e .b) (e .c)) → P (finishRule t (e .a) (e .b) (e .c))
+      → P (timeoutRule t (e .a) (e .b) (e .c)) → P (refreshRule t (e .a) (e .b) (e .c)) → P (runRule t (e .a) (e .b) (e .c))
+      → P (stopRule t (e .a) (e .b) (e .c)) → P (failRule t (e .a) (e .b) (e .c)) → P (recoverRule t (e .a) (e .b) (e .c))
+      → P (takeLeaseRule t (e .a) (e .b) (e .c)) → P (giveLeaseRule t (e .a) (e .b) (e .c)) → P (epochRule t (e .a) (e .b) (e .c))
+      → P (overdueRule t (e .a) (e .b) (e .c)) → P (unknownRule t) → P (ruleOf t e)
+  unfolding ruleOf
+  by-kind p1 p2 p3 p4 p5 p6 p7 p8 p9 p10 p11 p12 p13 p14 p15 p16 p =
+      at 1 p1 (at 2 p2 (at 3 p3 (at 4 p4 (at 5 p5 (at 6 p6 (at 7 p7 (at 8 p8 (at 9 p9 (at 10 p10 (at 11 p11 (at 12 p12
+      (at 13 p13 (at 14 p14 (at 15 p15 (at 16 p16 p)))))))))))))))
+    where
+      at : (n : ℕ) {r s : Rule} → P r → P s → P (cond (eqb (e .kind) n) r s)
+      at n {r} {s} p q = walk P (eqb (e .kind) n) r s (λ _. p) (λ _. q)
+
+-- ---- an answer's code
+
+rule-coded : (t : Table) (e : Event) → coded (ruleOf t e .refusals) ≡ true
+unfolding every readRule writeRule startRule deliverRule dropRule finishRule timeoutRule refreshRule runRule stopRule failRule recoverRule takeLeaseRule giveLeaseRule epochRule overdueRule
+rule-coded t e =
+    by-kind (λ r. coded (r .refusals) ≡ true) t e refl refl refl refl refl refl refl refl refl refl refl refl refl refl refl refl refl
+
+rows-coded : (t : Table) (e : Event) → coded (rows t (ruleOf t e)) ≡ true
+unfolding every rows
+rows-coded t e = rule-coded t e
+
+-- the answer to a rule, by its code
+module _ (t : Table) (r : Rule) where
+  pub answered-code : answered t r .code ≡ codeOf (rows t r)
+  unfolding answered
+  answered-code = go (codeOf (rows t r)) (eqb (codeOf (rows t r)) 0) refl
+    where
+      go : (k : ℕ) (b : Bool) → eqb k 0 ≡ b → cond b (done (r .effect)) (refused t k) .code ≡ k
+      go k true h = sym (eqb-true k 0 h)
+      go k false h = refl
+
+  pub answered-refused : (codeOf (rows t r) ≡ 0 → ⊥) → answered t r ≡ refused t (codeOf (rows t r))
+  unfolding answered
+  answered-refused n = rw (ne-eqb (codeOf (rows t r)) 0 n) refl
+
+  pub answered-granted : codeOf (rows t r) ≡ 0 → answered t r ≡ done (r .effect)
+  unfolding answered
+  answered-granted h = rw h refl
+
+module _ (t : Table) (e : Event) where
+  pub step-code : step t e .code ≡ codeOf (rows t (ruleOf t e))
+  unfolding step
+  step-code = answered-code t (ruleOf t e)
+
+  -- "A refused event leaves the table exactly as found and its other answer fields zero"
+  pub refusal-changes-nothing : (step t e .code ≡ 0 → ⊥) → step t e ≡ refused t (step t e .code)
+  unfolding step
+  refusal-changes-nothing n =
+      answered-refused t (ruleOf t e) (λ z. n (step-code ∙ z))
+      ∙ ap (refused t) (sym step-code)
+
+  -- "ends with one of the codes in document 01"
+  pub code-0-to-8 : step t e .code ≤ 8
+  code-0-to-8 = rw step-code (code-range (rows t (ruleOf t e)) (rows-coded t e))
+
+  -- "each refusal comes in its listed situation and in no other"
+  pub refusal-exactly : (k : ℕ) → (k ≡ 0 → ⊥) → (step t e .code ≡ k) ↔ First (rows t (ruleOf t e)) k
+  refusal-exactly k n = rw step-code (refused-exactly (rows t (ruleOf t e)) (rows-coded t e) k n)
+
+  pub grant-exactly : (step t e .code ≡ 0) ↔ Free (rows t (ruleOf t e))
+  grant-exactly = rw step-code (granted-exactly (rows t (ruleOf t e)) (rows-coded t e))
