@@ -1,4 +1,5 @@
 pub mod Lists
+pub mod Loops
 pub mod Refusals
 pub mod Events
 pub mod Unique
