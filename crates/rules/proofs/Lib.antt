@@ -4,4 +4,5 @@ pub mod Events
 pub mod Unique
 pub mod Order
 pub mod Relies
+pub mod Errors
 pub mod Cases
