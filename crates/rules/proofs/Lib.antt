@@ -5,4 +5,5 @@ pub mod Events
 pub mod Unique
 pub mod Order
 pub mod Relies
+pub mod Errors
 pub mod Cases

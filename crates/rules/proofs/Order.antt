@@ -32,6 +32,15 @@ ordered-from t u (x ∷ xs) h o =
     let k : t .0 ≤ x .timestamp .0 = ltb-false (x .timestamp .0) (t .0) (not-true (x .timestamp below t) (r .0)) in
     rw (le-ltb (x .timestamp .0) (u .0) (omega arith), r .1) refl
 
+-- nothing behind t is below it
+pub not-below : (t : Timestamp) (l : List Entry) → orderedFrom t l ≡ true → every (λ x. not (x .timestamp below t)) l ≡ true
+unfolding every
+not-below t [] o = refl
+not-below t (x ∷ xs) o =
+    let r = both (not (x .timestamp below t)) (orderedFrom (x .timestamp) xs) o in
+    let k : t .0 ≤ x .timestamp .0 = ltb-false (x .timestamp .0) (t .0) (not-true (x .timestamp below t) (r .0)) in
+    rw (r .0, not-below t xs (ordered-from (x .timestamp) t xs k (r .1))) refl
+
 -- ---- a new entry keeps the order
 
 insert-from : (t : Timestamp) (e : Entry) (l : List Entry) → t .0 ≤ e .timestamp .0 → orderedFrom t l ≡ true → orderedFrom t (insert e l) ≡ true
