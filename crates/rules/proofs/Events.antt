@@ -84,3 +84,28 @@ module _ (t : Table) (e : Event) where
 
   pub grant-exactly : (step t e .code ≡ 0) ↔ Free (rows t (ruleOf t e))
   grant-exactly = rw step-code (granted-exactly (rows t (ruleOf t e)) (rows-coded t e))
+
+-- ---- the ways through an event, as code takes them
+
+module _ (t : Table) (r : Rule) where
+  pub ill-formed : wellFormed t ≡ false → refused t 8 ≡ answered t r
+  unfolding answered rows codeOf
+  ill-formed h = rw h refl
+
+  module _ (ok : wellFormed t ≡ true) where
+    pub out-of-range : r .ranges ≡ false → refused t 1 ≡ answered t r
+    unfolding answered rows codeOf
+    out-of-range h = rw (ok, h) refl
+
+    module _ (inside : r .ranges ≡ true) where
+      own : codeOf (rows t r) ≡ codeOf (r .refusals)
+      unfolding rows codeOf
+      own = rw (ok, inside) refl
+
+      pub refused-own : (k : ℕ) → k ≡ codeOf (r .refusals) → (k ≡ 0 → ⊥) → refused t k ≡ answered t r
+      refused-own k h n =
+          let e : codeOf (rows t r) ≡ k = own ∙ sym h in
+          sym (rw e at (answered-refused t r (λ z. n (sym e ∙ z))))
+
+      pub granted-own : codeOf (r .refusals) ≡ 0 → done (r .effect) ≡ answered t r
+      granted-own h = sym (answered-granted t r (own ∙ h))
