@@ -1,2 +1,4 @@
 pub mod Lists
 pub mod Cases
+pub mod Ordered
+pub mod Formed
