@@ -10,16 +10,16 @@ use borrow.Author.Tests.{ltb-true, ltb-false, leb-true, le-leb, le-ltb, not-true
 use native.Mathlib.Omega.{arith}
 use Rattle.rules.specs.Types.{Timestamp, Set, Creation, Entry, Waiting, Record, Operation, Queue, Attempt, Host, Header, Message, Place, Table}
 use Rattle.rules.specs.Creation.{isCreation, ofStore, isSetOf}
-use Rattle.rules.specs.Formed.{operationFormed, operationAt, queueFormed, attemptFormed, hostFormed, entryFormed, entryAt, waitingFormed, recordFormed, messageFormed, slotFormed, hostAt, chunkAt, recordAt, recordsAt, placeAt, wellFormed}
+use Rattle.rules.specs.Formed.{operationFormed, operationAt, queueFormed, attemptFormed, hostFormed, chunkFormed, entryFormed, entryAt, waitingFormed, recordFormed, messageFormed, slotFormed, hostAt, chunkAt, recordAt, recordsAt, placeAt, wellFormed}
 use Rattle.rules.specs.Hosts.{operationsOf, queueOf, front}
 use Rattle.rules.specs.Kinds.{headerOf, epochOf}
 use Rattle.rules.specs.Limits.{hostLimit, chunkLimit, blockLimit, operationLimit, waitingLimit, placeLimit, greatestClock, upTo, oneTo}
-use Rattle.rules.specs.Tables.{isHost, isChunk, isBlock, setOf, slotOf}
+use Rattle.rules.specs.Tables.{isHost, isChunk, isBlock, setOf, hostOf, chunkOf, recordOf, slotOf}
 use Rattle.rules.specs.Timestamps.{never, _above_, isTimestamp, isEpoch}
 use Rattle.rules.specs.Waiting.{inOrder, holding, head}
 use Rattle.rules.specs.Words.{every, some, numbers, filled}
-use Rattle.rules.specs.Zero.{_among_, isEmpty, zeroEntry, isZeroEntry, zeroOperation, isZeroOperation, isZeroAttempt}
-use Rattle.rules.proofs.Lists.{both, and-true, three, four, five, and-three, and-four, and-five, or-right, if-true, if-false, then-true, every-at, every-number, every-numbers, none-number, used-at, used-of, take-short, every-take, filled-here, filled-past}
+use Rattle.rules.specs.Zero.{_among_, isEmpty, zeroEntry, isZeroEntry, zeroOperation, isZeroOperation, isZeroAttempt, isZeroRecord, isZeroChunk, isZeroHost}
+use Rattle.rules.proofs.Lists.{both, and-true, three, four, five, and-three, and-four, and-five, or-right, if-true, if-false, then-true, else-true, every-at, every-number, every-numbers, none-number, used-at, used-of, take-short, every-take, filled-here, filled-past}
 use Rattle.rules.proofs.Ordered.{Ordered, Ascends, ascends-ordered, ordered-ascends}
 
 -- ---- a creation
@@ -128,6 +128,9 @@ module _ (k : Creation) where
   -- without one
   pub attempt-zero : (n : ℕ) (a : Attempt) → attemptFormed k n a ≡ true → a .timestamp above never ≡ false → isZeroAttempt a ≡ true
   attempt-zero n a h e = if-false (a .timestamp above never) (leb 1 n && isTimestamp (a .timestamp) && ofStore k (a .outstanding)) (isZeroAttempt a) h e
+
+  pub attempt-none : (n : ℕ) (a : Attempt) → a .timestamp above never ≡ false → isZeroAttempt a ≡ true → attemptFormed k n a ≡ true
+  attempt-none n a e h = else-true (a .timestamp above never) (leb 1 n && isTimestamp (a .timestamp) && ofStore k (a .outstanding)) (isZeroAttempt a) e h
 
   pub record FormedHost (h : Host) : Type 0 where
     pub queue : queueFormed k (h .queue) ≡ true
@@ -277,3 +280,20 @@ module _ (t : Table) where
       (f .creation) (f .epoch) (every-numbers (hostAt t) hostLimit (f .hosts)) (every-numbers (chunkAt t) chunkLimit (f .chunks))
       (every-numbers (recordsAt t) chunkLimit (λ c l. every-numbers (recordAt t c) blockLimit (λ b m. f .records c b l m))))
       (every-numbers (placeAt t) placeLimit (f .places))
+
+-- ---- the parts of the store's
+
+module _ (t : Table) (f : Formed t) where
+  pub host-of : (h : ℕ) → isHost (t .creation) h ≡ true → hostFormed (t .creation) (hostOf t h) ≡ true
+  host-of h e =
+      if-true (isHost (t .creation) h) (hostFormed (t .creation) (hostOf t h)) (isZeroHost (hostOf t h)) (f .hosts h (host-place (t .creation) h e (f .creation))) e
+
+  pub chunk-of : (c : ℕ) → isChunk (t .creation) c ≡ true → chunkFormed (t .creation) (t .epoch) (chunkOf t c) ≡ true
+  chunk-of c e =
+      if-true (isChunk (t .creation) c) (chunkFormed (t .creation) (t .epoch) (chunkOf t c)) (isZeroChunk (chunkOf t c)) (f .chunks c (chunk-place (t .creation) c e (f .creation))) e
+
+  pub record-of : (c b : ℕ) → isChunk (t .creation) c ≡ true → isBlock (t .creation) b ≡ true → recordFormed (t .creation) (recordOf t c b) ≡ true
+  record-of c b d e =
+      if-true (isChunk (t .creation) c && isBlock (t .creation) b) (recordFormed (t .creation) (recordOf t c b)) (isZeroRecord (recordOf t c b))
+      (f .records c b (chunk-place (t .creation) c d (f .creation)) (block-place (t .creation) b e (f .creation)))
+      (and-true (isChunk (t .creation) c) (isBlock (t .creation) b) d e)

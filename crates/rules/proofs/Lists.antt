@@ -173,6 +173,10 @@ module _ {A : Type 0} (d : A) (n : ℕ) (l : List A) (room : length l ≤ n) whe
 -- ---- every, through the words that make lists
 
 module _ {A : Type 0} (p : A → Bool) where
+  pub every-one : (x : A) → p x ≡ true → every p (x ∷ []) ≡ true
+  unfolding every
+  every-one x h = and-true (p x) true h refl
+
   pub every-append : (l m : List A) → every p l ≡ true → every p m ≡ true → every p (l ++ m) ≡ true
   unfolding every
   every-append [] m h k = k
