@@ -13,10 +13,10 @@ use Rattle.rules.specs.Events.{Rule}
 use Rattle.rules.specs.Formed.{hostFormed, chunkFormed, recordFormed, messageFormed, slotFormed, wellFormed}
 use Rattle.rules.specs.Limits.{hostLimit, chunkLimit, blockLimit, placeLimit}
 use Rattle.rules.specs.Network.{isFree, removed, sent, chunksOf, sentToEach, replied}
-use Rattle.rules.specs.Tables.{isHost, isChunk, isBlock, at, recordOf, withHost, withChunk, withRecord, withPlaces}
+use Rattle.rules.specs.Tables.{isHost, isChunk, isBlock, at, recordOf, recordsBy, withHost, withChunk, withRecords, withRecord, withPlaces}
 use Rattle.rules.specs.Words.{each, place, numbers}
 use Rattle.rules.specs.Zero.{_among_, isZeroHost, isZeroChunk, isZeroRecord, zeroPlace, noHost, noChunk, noRecord}
-use Rattle.rules.proofs.Lists.{then-true, get-set, set-all, every-those, every-each, fold-keeps}
+use Rattle.rules.proofs.Lists.{then-true, get-set, set-all, every-those, every-each, fold-keeps, grid-at}
 use Rattle.rules.proofs.Formed.{Formed, formed, well-formed, FormedPlaces}
 
 -- ---- a rule keeps well-formedness where it is granted
@@ -82,6 +82,17 @@ module _ (t : Table) (f : Formed t) where
           let z : j ≡ b = omega arith in
           rw (e .1) (rw (y, z) k)
       go i j n old (inr e) = rw e old
+
+  -- all records anew
+  pub records-kept : (g : ℕ → ℕ → Record) → ((c b : ℕ) → c < chunkLimit → b < blockLimit → RecordAt (t .creation) c b (g c b)) → Formed (withRecords t (recordsBy g))
+  records-kept g h = record {
+    creation = f .creation;
+    epoch = f .epoch;
+    hosts = f .hosts;
+    chunks = f .chunks;
+    records = λ c b l m. rw (grid-at g chunkLimit blockLimit c b noRecord l m) (h c b l m);
+    places = f .places;
+  }
 
   pub places-kept : (l : List Place) → FormedPlaces (t .creation) l → Formed (withPlaces t l)
   places-kept l g =

@@ -4,3 +4,4 @@ pub mod Ordered
 pub mod Formed
 pub mod KeepsParts
 pub mod KeepsHosts
+pub mod KeepsChunks

@@ -1,7 +1,7 @@
 -- Waiting order, for a list of any length: "in ascending timestamp order (equal allowed)"
 use Prim.Native.Nat.{ℕ, zero, suc, _≤_, _<_}
-use mathlib.Core.Path.{_≡_, refl}
-use mathlib.Core.Bool.{Bool, true, false, cond}
+use mathlib.Core.Path.{_≡_, refl, ap}
+use mathlib.Core.Bool.{Bool, true, false, cond, _&&_}
 use mathlib.Core.List.{List, [], _∷_}
 use lib.ListN.{length, getD, set, drop}
 use lib.Dec.{ltb}
@@ -10,7 +10,9 @@ use native.Mathlib.Omega.{arith}
 use Rattle.rules.specs.Types.{Timestamp, Entry}
 use Rattle.rules.specs.Timestamps.{_below_}
 use Rattle.rules.specs.Waiting.{insert, mark, firstWith, decided}
+use Rattle.rules.specs.Words.{every}
 use Rattle.rules.specs.Zero.{zeroEntry}
+use Rattle.rules.proofs.Lists.{both, and-true, walk}
 
 abbrev stampOf : Entry → ℕ
 stampOf e = e .timestamp .0
@@ -52,6 +54,19 @@ insert-ordered n e (x ∷ xs) h o = go (e .timestamp below x .timestamp) refl (�
     go : (b : Bool) → e .timestamp below x .timestamp ≡ b → (stampOf x ≤ stampOf e → OrderedFrom (stampOf x) (insert e xs)) → OrderedFrom n (cond b (e ∷ x ∷ xs) (x ∷ insert e xs))
     go true q f = let k = ltb-true (stampOf e) (stampOf x) q in (h, (omega arith, o .1))
     go false q f = (o .0, f (ltb-false (stampOf e) (stampOf x) q))
+
+pub insert-length : (e : Entry) (l : List Entry) → length (insert e l) ≡ suc (length l)
+unfolding insert
+insert-length e [] = refl
+insert-length e (x ∷ xs) = walk (λ (l : List Entry). length l ≡ suc (suc (length xs))) (e .timestamp below x .timestamp) (e ∷ x ∷ xs) (x ∷ insert e xs) (λ _. refl) (λ _. ap suc (insert-length e xs))
+
+pub insert-every : (p : Entry → Bool) (e : Entry) (l : List Entry) → p e ≡ true → every p l ≡ true → every p (insert e l) ≡ true
+unfolding insert every
+insert-every p e [] h k = and-true (p e) true h refl
+insert-every p e (x ∷ xs) h k =
+    walk (λ (l : List Entry). every p l ≡ true) (e .timestamp below x .timestamp) (e ∷ x ∷ xs) (x ∷ insert e xs)
+    (λ _. and-true (p e) (p x && every p xs) h k)
+    (λ _. let b = both (p x) (every p xs) k in and-true (p x) (every p (insert e xs)) (b .0) (insert-every p e xs h (b .1)))
 
 lowered : (n m : ℕ) (l : List Entry) → n ≤ m → OrderedFrom m l → OrderedFrom n l
 lowered n m [] h o = tt
