@@ -4,18 +4,18 @@ use mathlib.Core.Path.{_≡_, refl, sym, ap, _∙_}
 use mathlib.Core.Bool.{Bool, true, false, not, _&&_, _||_, true≢false}
 use mathlib.Core.List.{List, []}
 use lib.ListN.{length, getD}
-use lib.Dec.{ltb, leb}
+use lib.Dec.{eqb, ltb, leb}
 use lib.Seq.{getD-take}
-use borrow.Author.Tests.{ltb-true, ltb-false, leb-true, le-leb, le-ltb, not-true}
+use borrow.Author.Tests.{ltb-true, ltb-false, leb-true, le-leb, le-ltb, eqb-true, not-true}
 use native.Mathlib.Omega.{arith}
 use Rattle.rules.specs.Types.{Timestamp, Set, Creation, Entry, Waiting, Record, Operation, Queue, Attempt, Host, Header, Message, Place, Table}
 use Rattle.rules.specs.Creation.{isCreation, ofStore, isSetOf}
 use Rattle.rules.specs.Formed.{operationFormed, operationAt, queueFormed, attemptFormed, hostFormed, chunkFormed, entryFormed, entryAt, waitingFormed, recordFormed, messageFormed, slotFormed, hostAt, chunkAt, recordAt, recordsAt, placeAt, wellFormed}
 use Rattle.rules.specs.Hosts.{operationsOf, queueOf, front}
 use Rattle.rules.specs.Kinds.{headerOf, epochOf}
-use Rattle.rules.specs.Limits.{hostLimit, chunkLimit, blockLimit, operationLimit, waitingLimit, placeLimit, greatestClock, upTo, oneTo}
+use Rattle.rules.specs.Limits.{hostLimit, chunkLimit, blockLimit, operationLimit, waitingLimit, placeLimit, greatestClock, greatestTimestamp, upTo, oneTo}
 use Rattle.rules.specs.Tables.{isHost, isChunk, isBlock, setOf, hostOf, chunkOf, recordOf, slotOf}
-use Rattle.rules.specs.Timestamps.{never, _above_, isTimestamp, isEpoch}
+use Rattle.rules.specs.Timestamps.{never, _is_, _above_, isTimestamp, isEpoch}
 use Rattle.rules.specs.Waiting.{inOrder, holding, head}
 use Rattle.rules.specs.Words.{every, some, numbers, filled}
 use Rattle.rules.specs.Zero.{_among_, isEmpty, zeroEntry, isZeroEntry, zeroOperation, isZeroOperation, isZeroAttempt, isZeroRecord, isZeroChunk, isZeroHost}
@@ -223,6 +223,19 @@ module _ (k : Creation) where
 
   pub record-formed : (r : Record) → FormedRecord r → recordFormed k r ≡ true
   record-formed r f = and-three (isTimestamp (r .read)) (isTimestamp (r .write)) (waitingFormed k (r .waiting)) (f .read) (f .write) (f .waiting)
+
+  -- a zero record is a formed one
+  pub zero-record-formed : (r : Record) → isZeroRecord r ≡ true → recordFormed k r ≡ true
+  zero-record-formed r h =
+      let w = r .waiting in
+      let f = five (eqb (r .value) 0) (r .read is never) (r .write is never) (eqb (w .count) 0) (every (λ i. isZeroEntry (getD (w .entries) i zeroEntry)) (numbers waitingLimit)) h in
+      let n = eqb-true (w .count) 0 (f .3) in
+      record-formed r (record {
+        read = le-leb (r .read .0) greatestTimestamp (omega (arith, eqb-true (r .read .0) 0 (f .1)));
+        write = le-leb (r .write .0) greatestTimestamp (omega (arith, eqb-true (r .write .0) 0 (f .2)));
+        waiting = and-true (leb (w .count) waitingLimit) (every (entryAt k w) (numbers waitingLimit)) (le-leb (w .count) waitingLimit (omega arith))
+          (every-numbers (entryAt k w) waitingLimit (λ i l. else-true (ltb i (w .count)) (entryFormed k (getD (w .entries) i zeroEntry) && notBelow (w .entries) i) (isZeroEntry (getD (w .entries) i zeroEntry)) (le-ltb i (w .count) (omega arith)) (every-number (λ i. isZeroEntry (getD (w .entries) i zeroEntry)) waitingLimit (f .4) i l)));
+      })
 
   -- ---- a message, and the places
 

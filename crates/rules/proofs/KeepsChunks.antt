@@ -35,7 +35,7 @@ later-formed t u h k = walk (λ (x : Timestamp). isTimestamp x ≡ true) (u abov
 module _ (k : Creation) where
   -- ---- waiting lists
 
-  none-waiting : waitingFormed k zeroWaiting ≡ true
+  pub none-waiting : waitingFormed k zeroWaiting ≡ true
   unfolding every from
   none-waiting = refl
 
@@ -169,8 +169,9 @@ module _ (k : Creation) where
   unfolding every from
   no-blocks-formed = refl
 
-  renewed-formed : (epoch : Epoch) (state : State) (lost : Bool) (c : Chunk) → c .epoch same epoch ≡ true → chunkFormed k epoch (record { state = state; lost = lost; epoch = c .epoch; reconcile = noBlocks }) ≡ true
-  renewed-formed epoch state lost c h = and-true (c .epoch same epoch) (every (λ b. not (getD noBlocks b false) || isBlock k b) (numbers blockLimit)) h no-blocks-formed
+  -- a chunk with nothing to reconcile
+  pub blank-formed : (epoch : Epoch) (state : State) (lost : Bool) (e : Epoch) → e same epoch ≡ true → chunkFormed k epoch (record { state = state; lost = lost; epoch = e; reconcile = noBlocks }) ≡ true
+  blank-formed epoch state lost e h = and-true (e same epoch) (every (λ b. not (getD noBlocks b false) || isBlock k b) (numbers blockLimit)) h no-blocks-formed
 
   overdue-formed : (epoch : Epoch) (c : Chunk) (b : ℕ) → chunkFormed k epoch c ≡ true → isBlock k b ≡ true → chunkFormed k epoch (overdue c b) ≡ true
   overdue-formed epoch c b h e =
@@ -243,7 +244,7 @@ module _ (t : Table) where
     let s = three (isChunk creation chunk) (unused b) (unused c) e in
     let x = chunkOf t chunk in
     let now = both (x .epoch same t .epoch) (every (λ b. not (getD (x .reconcile) b false) || isBlock creation b) (numbers blockLimit)) (chunk-of t f chunk (s .0)) .0 in
-    records-kept (withChunk t chunk (failed x)) (chunk-kept t f chunk (failed x) (s .0) (renewed-formed creation (t .epoch) State.Failed true x now))
+    records-kept (withChunk t chunk (failed x)) (chunk-kept t f chunk (failed x) (s .0) (blank-formed creation (t .epoch) State.Failed true (x .epoch) now))
     (λ c b. cond (eqb c chunk) (emptied (recordOf t c b)) (recordOf t c b))
     (λ c b l m. walk (RecordAt creation c b) (eqb c chunk) (emptied (recordOf t c b)) (recordOf t c b) (λ _. emptied-at creation c b (recordOf t c b) (f .records c b l m)) (λ _. f .records c b l m)))
 

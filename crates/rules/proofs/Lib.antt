@@ -5,3 +5,5 @@ pub mod Formed
 pub mod KeepsParts
 pub mod KeepsHosts
 pub mod KeepsChunks
+pub mod KeepsEpoch
+pub mod Keeps

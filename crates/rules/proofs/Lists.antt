@@ -212,10 +212,21 @@ module _ {A : Type 0} (p : A → Bool) where
       go true h f = let b = both (p x) (every (λ x. not (q x) || p x) xs) h in and-true (p x) (every p (those q xs)) (b .0) (f (b .1))
       go false h f = f h
 
+  pub every-those-of : (q : A → Bool) (l : List A) → every p l ≡ true → every p (those q l) ≡ true
+  unfolding every those
+  every-those-of q [] h = refl
+  every-those-of q (x ∷ xs) h =
+      let b = both (p x) (every p xs) h in
+      walk (λ (l : List A). every p l ≡ true) (q x) (x ∷ those q xs) (those q xs) (λ _. and-true (p x) (every p (those q xs)) (b .0) (every-those-of q xs (b .1))) (λ _. every-those-of q xs (b .1))
+
   pub every-each : {B : Type 0} (q : B → Bool) (f : B → A) (l : List B) → ((x : B) → q x ≡ true → p (f x) ≡ true) → every q l ≡ true → every p (each f l) ≡ true
   unfolding every each
   every-each q f [] g h = refl
   every-each q f (x ∷ xs) g h = let b = both (q x) (every q xs) h in and-true (p (f x)) (every p (each f xs)) (g x (b .0)) (every-each q f xs g (b .1))
+
+  pub every-each-number : (f : ℕ → A) (n : ℕ) → ((i : ℕ) → i < n → p (f i) ≡ true) → every p (each f (numbers n)) ≡ true
+  every-each-number f n h =
+      every-each (λ i. ltb i n) f (numbers n) (λ i e. h i (ltb-true i n e)) (every-numbers (λ i. ltb i n) n (λ i l. lt-ltb i n l))
 
   -- what each step keeps, a fold keeps
   pub fold-keeps : {S : Type 0} (P : S → Type 0) (f : S → A → S) → ((s : S) (x : A) → P s → p x ≡ true → P (f s x)) → (s : S) (l : List A) → P s → every p l ≡ true → P (fold f s l)
