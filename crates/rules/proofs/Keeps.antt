@@ -1,29 +1,29 @@
 -- Every event keeps well-formedness, so code 8 never comes from a fresh store
 use Prim.Native.Nat.{ℕ, _*_, _≤_}
-use mathlib.Core.Path.{_≡_, refl, ap}
+use mathlib.Core.Path.{_≡_, refl}
 use mathlib.Core.Bool.{Bool, true, false, cond, not, _&&_}
 use mathlib.Core.List.{List, [], _∷_}
-use lib.ListN.{getD, getD-replicate}
+use lib.ListN.{getD-replicate}
 use lib.Dec.{eqb, leb}
 use borrow.Author.Tests.{leb-true, eqb-true, not-false}
 use native.Mathlib.Omega.{arith}
-use Rattle.rules.specs.Types.{Creation, Host, Chunk, Record, Place, Table, Event, Answer}
+use Rattle.rules.specs.Types.{Creation, Table, Event, Answer}
 use Rattle.rules.specs.Codes.{Row, _gives_⨾_, codeOf}
-use Rattle.rules.specs.Creation.{isCreation, fresh, freshHost, freshChunk, firstEpoch}
-use Rattle.rules.specs.Events.{Rule, readRule, writeRule, startRule, finishRule, timeoutRule, refreshRule, stopRule, deliverRule, dropRule, runRule, failRule, recoverRule, takeLeaseRule, giveLeaseRule, overdueRule, epochRule, unknownRule, ruleOf, rows, answered, step}
-use Rattle.rules.specs.Formed.{hostFormed, chunkFormed, recordFormed, slotFormed, wellFormed}
+use Rattle.rules.specs.Creation.{isCreation, firstEpoch, freshChunk, freshHost, fresh}
+use Rattle.rules.specs.Events.{Rule, readRule, writeRule, startRule, finishRule, timeoutRule, refreshRule, stopRule, deliverRule, dropRule, runRule, failRule, recoverRule, takeLeaseRule, giveLeaseRule, overdueRule, epochRule, ruleOf, rows, answered, step}
+use Rattle.rules.specs.Formed.{hostFormed, chunkFormed, recordFormed, wellFormed}
 use Rattle.rules.specs.Limits.{hostLimit, chunkLimit, blockLimit, placeLimit}
 use Rattle.rules.specs.Tables.{isHost, isChunk, isBlock, at}
 use Rattle.rules.specs.Words.{every, some, from}
-use Rattle.rules.specs.Zero.{zeroHost, isZeroHost, zeroChunk, isZeroChunk, zeroRecord, isZeroRecord, zeroPlace, zeroTable, noHost, noChunk, noRecord}
+use Rattle.rules.specs.Zero.{zeroRecord, isZeroRecord, zeroChunk, isZeroChunk, zeroHost, isZeroHost, zeroPlace, zeroTable, noRecord, noChunk, noHost}
 use Rattle.rules.proofs.Lists.{both, walk, each-number}
-use Rattle.rules.proofs.Formed.{Formed, well-formed}
-use Rattle.rules.proofs.KeepsParts.{Keeps, passed, RecordAt}
+use Rattle.rules.proofs.Formed.{well-formed}
+use Rattle.rules.proofs.KeepsParts.{Keeps, passed}
 use Rattle.rules.proofs.KeepsHosts.{read-kept, write-kept, start-kept, finish-kept, timeout-kept, refresh-kept, stop-kept}
 use Rattle.rules.proofs.KeepsChunks.{deliver-kept, drop-kept, run-kept, fail-kept, recover-kept, take-lease-kept, give-lease-kept, overdue-kept}
 use Rattle.rules.proofs.KeepsEpoch.{epoch-kept}
 
--- ---- the fresh table
+-- ---- the parts of the fresh table: a fresh one of the store's, else zero
 
 module _ (k : Creation) where
   fresh-host-at : (x : Bool) → cond x (hostFormed k (cond x freshHost zeroHost)) (isZeroHost (cond x freshHost zeroHost)) ≡ true
@@ -41,23 +41,7 @@ module _ (k : Creation) where
   fresh-record-at true = refl
   fresh-record-at false = refl
 
-  pub fresh-formed : isCreation k ≡ true → wellFormed (fresh k) ≡ true
-  unfolding fresh
-  fresh-formed h = well-formed (fresh k) (record {
-    creation = h;
-    epoch = refl;
-    hosts = λ i l. rw (each-number (λ h. cond (isHost k h) freshHost zeroHost) hostLimit i noHost l) (fresh-host-at (isHost k i));
-    chunks = λ c l. rw (each-number (λ c. cond (isChunk k c) freshChunk zeroChunk) chunkLimit c noChunk l) (fresh-chunk-at (isChunk k c));
-    records = λ c b l m. rw (getD-replicate (chunkLimit * blockLimit) (at c b) zeroRecord noRecord (omega arith)) (fresh-record-at (isChunk k c && isBlock k b));
-    places = λ p l. rw (getD-replicate placeLimit p zeroPlace zeroPlace l) refl;
-  })
-
--- a refused creation's table is no store
-pub no-store : wellFormed zeroTable ≡ false
-unfolding wellFormed isCreation
-no-store = refl
-
--- ---- the rules: each keeps well-formedness, and none of its own refusals is 8
+-- ---- the rules: each keeps well-formedness, and none of its own refusals is above 7
 
 pub record Sound (t : Table) (r : Rule) : Type 0 where
   pub keeps : Keeps t r
@@ -86,18 +70,7 @@ rule-sound t e =
     walk (Sound t) (eqb k 14) _ _ (λ _. record { keeps = give-lease-kept t a b c; codes = refl }) (λ _.
     walk (Sound t) (eqb k 15) _ _ (λ _. record { keeps = epoch-kept t a b c; codes = refl }) (λ _.
     walk (Sound t) (eqb k 16) _ _ (λ _. record { keeps = overdue-kept t a b c; codes = refl }) (λ _.
-    record { keeps = λ h e c. h; codes = refl }))))))))))))))))
-
--- ---- the step
-
-pub step-formed : (t : Table) (e : Event) → wellFormed t ≡ true → wellFormed (step t e .table) ≡ true
-unfolding step answered rows
-step-formed t e h =
-    let r = ruleOf t e in
-    walk (λ (a : Answer). wellFormed (a .table) ≡ true) (eqb (codeOf (rows t r)) 0) _ _ (λ z.
-      let inside = passed (not (r .ranges)) 0 (r .refusals) (passed (not (wellFormed t)) 7 _ (eqb-true (codeOf (rows t r)) 0 z) .1) in
-      rule-sound t e .keeps h (not-false (r .ranges) (inside .0)) (inside .1))
-    (λ _. h)
+    record { keeps = λ h _ _. h; codes = refl }))))))))))))))))
 
 -- no row above n, no code above n
 code-most : (n : ℕ) (l : List Row) → every (λ row. leb (row .code) n) l ≡ true → codeOf l ≤ n
@@ -107,14 +80,42 @@ code-most n (r ∷ rs) h =
     let b = both (leb (r .code) n) (every (λ row. leb (row .code) n) rs) h in
     walk (λ (m : ℕ). m ≤ n) (r .holds) (r .code) (codeOf rs) (λ _. leb-true (r .code) n (b .0)) (λ _. code-most n rs (b .1))
 
--- a well-formed table is not answered with 8
-pub step-code : (t : Table) (e : Event) → wellFormed t ≡ true → step t e .code ≤ 7
+-- a well-formed table is answered with 7 at most
+step-most : (t : Table) (e : Event) → wellFormed t ≡ true → step t e .code ≤ 7
 unfolding step answered rows codeOf every
-step-code t e h =
-    walk (λ (a : Answer). a .code ≤ 7) (eqb (codeOf (rows t (ruleOf t e))) 0) _ _ (λ _. omega arith)
-    (λ _. rw h (code-most 7 (not (ruleOf t e .ranges) gives 1 ⨾ ruleOf t e .refusals) (rule-sound t e .codes)))
+step-most t e h =
+    let r = ruleOf t e in
+    walk (λ (a : Answer). a .code ≤ 7) (eqb (codeOf (rows t r)) 0) _ _ (λ _. omega arith)
+    (λ _. rw h (code-most 7 (not (r .ranges) gives 1 ⨾ r .refusals) (rule-sound t e .codes)))
 
--- ---- sequences of events
+-- ---- the theorems
+
+-- the fresh table of every granted creation is well formed
+pub fresh-formed : (k : Creation) → isCreation k ≡ true → wellFormed (fresh k) ≡ true
+unfolding fresh
+fresh-formed k h = well-formed (fresh k) (record {
+  creation = h;
+  epoch = refl;
+  hosts = λ i l. rw (each-number (λ i. cond (isHost k i) freshHost zeroHost) hostLimit i noHost l) (fresh-host-at k (isHost k i));
+  chunks = λ c l. rw (each-number (λ c. cond (isChunk k c) freshChunk zeroChunk) chunkLimit c noChunk l) (fresh-chunk-at k (isChunk k c));
+  records = λ c b l m. rw (getD-replicate (chunkLimit * blockLimit) (at c b) zeroRecord noRecord (omega arith)) (fresh-record-at k (isChunk k c && isBlock k b));
+  places = λ p l. rw (getD-replicate placeLimit p zeroPlace zeroPlace l) refl;
+})
+
+-- a refused creation's table is no store
+pub no-store : wellFormed zeroTable ≡ false
+unfolding wellFormed isCreation
+no-store = refl
+
+-- every event, granted or refused, keeps well-formedness
+pub step-formed : (t : Table) (e : Event) → wellFormed t ≡ true → wellFormed (step t e .table) ≡ true
+unfolding step answered rows
+step-formed t e h =
+    let r = ruleOf t e in
+    walk (λ (a : Answer). wellFormed (a .table) ≡ true) (eqb (codeOf (rows t r)) 0) _ _ (λ done.
+    let own = passed (not (r .ranges)) 0 (r .refusals) (passed (not (wellFormed t)) 7 _ (eqb-true (codeOf (rows t r)) 0 done) .1) in
+    rule-sound t e .keeps h (not-false (r .ranges) (own .0)) (own .1))
+    (λ _. h)
 
 -- the table after the events, each given to the step
 abbrev pub after : Table → List Event → Table
@@ -125,9 +126,10 @@ after-formed : (t : Table) (es : List Event) → wellFormed t ≡ true → wellF
 after-formed t [] h = h
 after-formed t (e ∷ es) h = after-formed (step t e .table) es (step-formed t e h)
 
+-- a fresh store stays well formed
 pub run-formed : (k : Creation) → isCreation k ≡ true → (es : List Event) → wellFormed (after (fresh k) es) ≡ true
 run-formed k h es = after-formed (fresh k) es (fresh-formed k h)
 
 -- code 8 never comes from a fresh store
 pub never-8 : (k : Creation) → isCreation k ≡ true → (es : List Event) (e : Event) → step (after (fresh k) es) e .code ≡ 8 → ⊥
-never-8 k h es e c = omega (arith, step-code (after (fresh k) es) e (run-formed k h es))
+never-8 k h es e c = omega (arith, step-most (after (fresh k) es) e (run-formed k h es))

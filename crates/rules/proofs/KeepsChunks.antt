@@ -1,36 +1,36 @@
 -- The events of chunks and of the network keep well-formedness: deliver, drop, run, fail, recover, take lease, give lease, overdue
-use Prim.Native.Nat.{ℕ, _≤_, _<_}
-use mathlib.Core.Path.{_≡_, refl}
-use mathlib.Core.Bool.{Bool, true, false, cond, not, _&&_, _||_}
-use mathlib.Core.List.{List, []}
-use lib.ListN.{length, getD, drop, length-drop, length-set}
+use Prim.Native.Nat.{ℕ, _<_}
+use mathlib.Core.Path.{_≡_, refl, sym, _∙_}
+use mathlib.Core.Bool.{Bool, true, false, cond, not, _&&_, true≢false}
+use mathlib.Core.List.{List}
+use lib.ListN.{getD, drop, length-drop, length-set, getD-replicate}
 use lib.Dec.{eqb, ltb, leb}
 use borrow.Author.Tests.{ltb-true, lt-ltb, leb-false, eqb-false, not-false}
 use native.Mathlib.Omega.{arith}
 use Rattle.rules.specs.Types.{Timestamp, Epoch, Creation, Kind, Entry, Waiting, Record, State, Chunk, Header, Message, Slot, Table, Arrived}
-use Rattle.rules.specs.Chunks.{withState, withValue, withRead, withWrite, withWaiting, answering, silent, isOutOfOrder, entryOf, waits, arrived, decides, atChunk, runs, ran, failed, emptied, recoverRefusals, takeLeaseRefusals, giveLeaseRefusals, overdue}
+use Rattle.rules.specs.Chunks.{withState, withValue, withRead, withWrite, withWaiting, answering, silent, isOutOfOrder, entryOf, arrived, decides, atChunk, runs, ran, failed, emptied, recoverRefusals, takeLeaseRefusals, giveLeaseRefusals, overdue}
 use Rattle.rules.specs.Codes.{Row}
 use Rattle.rules.specs.Creation.{isCreation}
 use Rattle.rules.specs.Events.{unused, isPlace, chunkTakes, hostTakes, takes, deliverRule, dropRule, runRule, chunkRule, failRule, recoverRule, takeLeaseRule, giveLeaseRule, overdueRule}
 use Rattle.rules.specs.Formed.{chunkFormed, entryFormed, waitingFormed, recordFormed, messageFormed, slotFormed}
-use Rattle.rules.specs.Kinds.{isWrite, isNormal, headed, headerOf, epochOf, isForChunk}
 use Rattle.rules.specs.Hosts.{atHost}
-use Rattle.rules.specs.Limits.{chunkLimit, blockLimit, waitingLimit, placeLimit, greatestClock, upTo}
-use Rattle.rules.specs.Network.{removed, replied}
-use Rattle.rules.specs.Tables.{isHost, isChunk, isBlock, hostOf, chunkOf, recordOf, slotOf, withHost, withChunk, withRecord, withPlaces}
-use Rattle.rules.specs.Timestamps.{_below_, _same_, _is_, later, _above_, never, isTimestamp, isEpoch}
+use Rattle.rules.specs.Kinds.{isWrite, isNormal, headed, headerOf, epochOf, isForChunk}
+use Rattle.rules.specs.Limits.{blockLimit, waitingLimit, placeLimit, greatestClock, upTo}
+use Rattle.rules.specs.Tables.{isHost, isChunk, isBlock, hostOf, chunkOf, recordOf, slotOf, withChunk, withRecord, withPlaces}
+use Rattle.rules.specs.Network.{removed}
+use Rattle.rules.specs.Timestamps.{never, _is_, _above_, _below_, later, isTimestamp, _same_, isEpoch}
 use Rattle.rules.specs.Waiting.{inOrder, insert, inserted, head, headRemoved, firstWith, decided, mark, marked}
 use Rattle.rules.specs.Words.{every, from, numbers}
 use Rattle.rules.specs.Zero.{noBlocks, zeroEntry, isZeroEntry, zeroWaiting, isZeroRecord}
-use Rattle.rules.proofs.Lists.{both, and-true, three, and-three, five, and-five, if-true, then-true, walk, every-number, every-numbers, every-drop, every-change, set-all, take-short}
+use Rattle.rules.proofs.Lists.{three, five, walk, every-drop, every-change, set-all, take-short}
 use Rattle.rules.proofs.Ordered.{insert-length, insert-every, insert-ordered, tail-ordered, mark-ordered}
-use Rattle.rules.proofs.Formed.{Formed, chunk-place, block-place, waiting-facts, entries-formed, entries-ordered, head-formed, waiting-formed, FormedRecord, record-facts, record-formed, FormedHeader, message-facts, message-formed, host-of, chunk-of, record-of}
-use Rattle.rules.proofs.KeepsParts.{Keeps, keeps, passed, RecordAt, host-kept, chunk-kept, record-kept, records-kept, places-kept, removed-kept, replied-kept}
+use Rattle.rules.proofs.Formed.{Formed, chunk-place, block-place, chunk-facts, chunk-formed, waiting-facts, entries-length, entries-formed, entries-ordered, waiting-formed, head-formed, FormedRecord, record-facts, record-formed, FormedHeader, message-facts, message-formed, host-of, chunk-of, record-of}
+use Rattle.rules.proofs.KeepsParts.{Keeps, keeps, passed, RecordAt, host-kept, chunk-kept, record-kept, records-kept, removed-kept, replied-kept}
 use Rattle.rules.proofs.KeepsHosts.{at-host-formed}
 
 -- the later of two timestamps is one
 pub later-formed : (t u : Timestamp) → isTimestamp t ≡ true → isTimestamp u ≡ true → isTimestamp (later t u) ≡ true
-later-formed t u h k = walk (λ (x : Timestamp). isTimestamp x ≡ true) (u above t) u t (λ _. k) (λ _. h)
+later-formed t u h g = walk (λ (x : Timestamp). isTimestamp x ≡ true) (u above t) u t (λ _. g) (λ _. h)
 
 module _ (k : Creation) where
   -- ---- waiting lists
@@ -38,10 +38,6 @@ module _ (k : Creation) where
   pub none-waiting : waitingFormed k zeroWaiting ≡ true
   unfolding every from
   none-waiting = refl
-
-  none-used : every (λ i. isZeroEntry (getD (zeroWaiting .entries) i zeroEntry)) (numbers waitingLimit) ≡ true
-  unfolding every from
-  none-used = refl
 
   inserted-formed : (w : Waiting) (e : Entry) → waitingFormed k w ≡ true → entryFormed k e ≡ true → leb waitingLimit (w .count) ≡ false → waitingFormed k (inserted w e) ≡ true
   unfolding inserted
@@ -55,7 +51,7 @@ module _ (k : Creation) where
   unfolding headRemoved
   head-removed-formed w h =
       let f = waiting-facts k w h in
-      waiting-formed k (drop 1 (inOrder w)) (omega (arith, f .count, length-drop 1 (inOrder w), take-short (w .count) (w .entries)))
+      waiting-formed k (drop 1 (inOrder w)) (omega (arith, length-drop 1 (inOrder w), entries-length k w f))
       (every-drop (entryFormed k) 1 (inOrder w) (entries-formed k w f)) (tail-ordered (inOrder w) (entries-ordered k w f))
 
   marked-formed : (commit : Bool) (t : Timestamp) (w : Waiting) → waitingFormed k w ≡ true → waitingFormed k (marked commit t w) ≡ true
@@ -63,13 +59,18 @@ module _ (k : Creation) where
   marked-formed commit t w h =
       let f = waiting-facts k w h in
       let i = firstWith t (inOrder w) in
-      waiting-formed k (mark commit t (inOrder w)) (omega (arith, f .count, length-set (inOrder w) i (decided commit (getD (inOrder w) i zeroEntry)), take-short (w .count) (w .entries)))
+      waiting-formed k (mark commit t (inOrder w)) (omega (arith, length-set (inOrder w) i (decided commit (getD (inOrder w) i zeroEntry)), entries-length k w f))
       (every-change (entryFormed k) (decided commit) (λ x q. q) (inOrder w) i zeroEntry (entries-formed k w f)) (mark-ordered commit t (inOrder w) (entries-ordered k w f))
 
   -- ---- records
 
+  -- a record with another waiting list
   rewaited : (r : Record) (w : Waiting) → recordFormed k r ≡ true → waitingFormed k w ≡ true → recordFormed k (withWaiting r w) ≡ true
   rewaited r w h g = let f = record-facts k r h in record-formed k (withWaiting r w) (record { read = f .read; write = f .write; waiting = g })
+
+  none-used : every (λ i. isZeroEntry (getD (zeroWaiting .entries) i zeroEntry)) (numbers waitingLimit) ≡ true
+  unfolding every from
+  none-used = refl
 
   -- an emptied record stands where the record stood
   pub emptied-at : (c b : ℕ) (r : Record) → RecordAt k c b r → RecordAt k c b (emptied r)
@@ -79,56 +80,63 @@ module _ (k : Creation) where
       go true h = rewaited r zeroWaiting h none-waiting
       go false h =
           let f = five (eqb (r .value) 0) (r .read is never) (r .write is never) (eqb (r .waiting .count) 0) (every (λ i. isZeroEntry (getD (r .waiting .entries) i zeroEntry)) (numbers waitingLimit)) h in
-          and-five (eqb (r .value) 0) (r .read is never) (r .write is never) true (every (λ i. isZeroEntry (getD (zeroWaiting .entries) i zeroEntry)) (numbers waitingLimit)) (f .0) (f .1) (f .2) refl none-used
+          rw (f .0, f .1, f .2) none-used
 
-  -- ---- a message at a chunk, and a run: the record, and the reply
+  -- ---- what a message or a run makes of chunk c's record of block b: a record that may stand there, and a formed reply
 
   pub record Arrives (c b : ℕ) (a : Arrived) : Type 0 where
     pub block : RecordAt k c b (a .block)
     pub reply : slotFormed k (a .reply) ≡ true
 
-  answers : (c b : ℕ) (r : Record) (m : Message) → RecordAt k c b r → FormedHeader k (headerOf m) → isEpoch (epochOf m) ≡ true → Arrives c b (answering r m)
-  answers c b r m h f e = record { block = h; reply = message-formed k m f e }
+  module _ (c b : ℕ) where
+    answers : (r : Record) (m : Message) → RecordAt k c b r → FormedHeader k (headerOf m) → isEpoch (epochOf m) ≡ true → Arrives c b (answering r m)
+    answers r m h f e = record { block = h; reply = message-formed k m f e }
 
-  is-silent : (c b : ℕ) (r : Record) → RecordAt k c b r → Arrives c b (silent r)
-  is-silent c b r h = record { block = h; reply = refl }
+    is-silent : (r : Record) → RecordAt k c b r → Arrives c b (silent r)
+    is-silent r h = record { block = h; reply = refl }
 
-  arrived-at : (current : Epoch) (r : Record) (header : Header) (epoch : Epoch) (kind : Kind) → RecordAt k (header .chunk) (header .block) r → FormedHeader k header → isEpoch epoch ≡ true → Arrives (header .chunk) (header .block) (arrived (k .blocks) current r header epoch kind)
-  unfolding arrived
-  arrived-at current r header epoch kind h f e =
-      let c = header .chunk in
-      let b = header .block in
-      let P = Arrives c b in
-      walk P (not (epoch same current)) _ _ (λ _. answers c b r (Message.Mismatch header) h f refl) (λ _.
-      walk P (not (ltb b (k .blocks))) _ _ (λ _. answers c b r (Message.Error header) h f refl) (λ q.
-      walk P (isOutOfOrder kind (header .timestamp) r) _ _ (λ _. answers c b r (Message.OutOfOrder header) h f refl) (λ _.
-      walk P (leb waitingLimit (r .waiting .count)) _ _ (λ _. answers c b r (Message.Busy header) h f refl) (λ n.
-        let here = and-true (isChunk k c) (isBlock k b) (f .chunk) (not-false (isBlock k b) q) in
-        let g = if-true (isChunk k c && isBlock k b) (recordFormed k r) (isZeroRecord r) h here in
-        let now = withWaiting r (inserted (r .waiting) (entryOf header epoch kind)) in
-        let w = inserted-formed (r .waiting) (entryOf header epoch kind) (record-facts k r g .waiting) (and-three (isTimestamp (header .timestamp)) (isHost k (header .host)) (isEpoch epoch) (f .timestamp) (f .host) e) n in
-        let z = then-true (isChunk k c && isBlock k b) (recordFormed k now) (isZeroRecord now) here (rewaited r (inserted (r .waiting) (entryOf header epoch kind)) g w) in
-        walk P (isWrite kind) _ _ (λ _. answers c b now (Message.PrewriteReply header) z f refl) (λ _. is-silent c b now z)))))
+  -- a message at the record of its chunk and block
+  module _ (r : Record) (header : Header) (h : RecordAt k (header .chunk) (header .block) r) (f : FormedHeader k header) where
+    abbrev c : ℕ
+    c = header .chunk
 
-  decides-at : (r : Record) (header : Header) (commit : Bool) → RecordAt k (header .chunk) (header .block) r → FormedHeader k header → Arrives (header .chunk) (header .block) (decides (k .blocks) r header commit)
-  unfolding decides
-  decides-at r header commit h f =
-      let c = header .chunk in
-      let b = header .block in
-      let now = withWaiting r (marked commit (header .timestamp) (r .waiting)) in
-      walk (Arrives c b) (ltb b (k .blocks)) _ _ (λ q.
-        let here = and-true (isChunk k c) (isBlock k b) (f .chunk) q in
-        let g = if-true (isChunk k c && isBlock k b) (recordFormed k r) (isZeroRecord r) h here in
-        is-silent c b now (then-true (isChunk k c && isBlock k b) (recordFormed k now) (isZeroRecord now) here
-        (rewaited r (marked commit (header .timestamp) (r .waiting)) g (marked-formed commit (header .timestamp) (r .waiting) (record-facts k r g .waiting)))))
-      (λ _. is-silent c b r h)
+    abbrev b : ℕ
+    b = header .block
 
-  at-chunk : (current : Epoch) (r : Record) (m : Message) → RecordAt k (headerOf m .chunk) (headerOf m .block) r → messageFormed k m ≡ true → Arrives (headerOf m .chunk) (headerOf m .block) (atChunk (k .blocks) current r m)
+    -- the record of a block of the store's, with another waiting list
+    waits-at : isBlock k b ≡ true → (w : Waiting) → (waitingFormed k (r .waiting) ≡ true → waitingFormed k w ≡ true) → RecordAt k c b (withWaiting r w)
+    waits-at e w g =
+        let now : recordFormed k r ≡ true = rw (f .chunk, e) at h in
+        rw (f .chunk, e) (rewaited r w now (g (record-facts k r now .waiting)))
+
+    arrived-at : (current epoch : Epoch) (kind : Kind) → isEpoch epoch ≡ true → Arrives c b (arrived (k .blocks) current r header epoch kind)
+    unfolding arrived
+    arrived-at current epoch kind e =
+        let x = entryOf header epoch kind in
+        let now = withWaiting r (inserted (r .waiting) x) in
+        let formed : entryFormed k x ≡ true = rw (f .timestamp, f .host, e) refl in
+        walk (Arrives c b) (not (epoch same current)) _ _ (λ _. answers c b r (Message.Mismatch header) h f refl) (λ _.
+        walk (Arrives c b) (not (ltb b (k .blocks))) _ _ (λ _. answers c b r (Message.Error header) h f refl) (λ inside.
+        walk (Arrives c b) (isOutOfOrder kind (header .timestamp) r) _ _ (λ _. answers c b r (Message.OutOfOrder header) h f refl) (λ _.
+        walk (Arrives c b) (leb waitingLimit (r .waiting .count)) _ _ (λ _. answers c b r (Message.Busy header) h f refl) (λ room.
+        let z = waits-at (not-false (isBlock k b) inside) (inserted (r .waiting) x) (λ w. inserted-formed (r .waiting) x w formed room) in
+        walk (Arrives c b) (isWrite kind) _ _ (λ _. answers c b now (Message.PrewriteReply header) z f refl) (λ _. is-silent c b now z)))))
+
+    decides-at : (commit : Bool) → Arrives c b (decides (k .blocks) r header commit)
+    unfolding decides
+    decides-at commit =
+        let w = marked commit (header .timestamp) (r .waiting) in
+        walk (Arrives c b) (ltb b (k .blocks)) _ _
+        (λ inside. is-silent c b (withWaiting r w) (waits-at inside w (marked-formed commit (header .timestamp) (r .waiting))))
+        (λ _. is-silent c b r h)
+
+  at-chunk : (current : Epoch) (r : Record) (m : Message) → RecordAt k (headerOf m .chunk) (headerOf m .block) r → messageFormed k m ≡ true
+      → Arrives (headerOf m .chunk) (headerOf m .block) (atChunk (k .blocks) current r m)
   unfolding atChunk
-  at-chunk current r (Message.Read header epoch) h g = let f = message-facts k (Message.Read header epoch) g in arrived-at current r header epoch Kind.Read h (f .0) (f .1)
-  at-chunk current r (Message.Prewrite header epoch v) h g = let f = message-facts k (Message.Prewrite header epoch v) g in arrived-at current r header epoch (Kind.Undecided v) h (f .0) (f .1)
-  at-chunk current r (Message.Commit header epoch) h g = decides-at r header true h (message-facts k (Message.Commit header epoch) g .0)
-  at-chunk current r (Message.Abort header epoch) h g = decides-at r header false h (message-facts k (Message.Abort header epoch) g .0)
+  at-chunk current r (Message.Read header epoch) h g = let f = message-facts k (Message.Read header epoch) g in arrived-at r header h (f .header) current epoch Kind.Read (f .epoch)
+  at-chunk current r (Message.Prewrite header epoch v) h g = let f = message-facts k (Message.Prewrite header epoch v) g in arrived-at r header h (f .header) current epoch (Kind.Undecided v) (f .epoch)
+  at-chunk current r (Message.Commit header epoch) h g = decides-at r header h (message-facts k (Message.Commit header epoch) g .header) true
+  at-chunk current r (Message.Abort header epoch) h g = decides-at r header h (message-facts k (Message.Abort header epoch) g .header) false
   at-chunk current r (Message.Mismatch header) h g = is-silent (header .chunk) (header .block) r h
   at-chunk current r (Message.Error header) h g = is-silent (header .chunk) (header .block) r h
   at-chunk current r (Message.OutOfOrder header) h g = is-silent (header .chunk) (header .block) r h
@@ -136,10 +144,10 @@ module _ (k : Creation) where
   at-chunk current r (Message.ReadReply header v) h g = is-silent (header .chunk) (header .block) r h
   at-chunk current r (Message.PrewriteReply header) h g = is-silent (header .chunk) (header .block) r h
 
-  -- the run of an entry at chunk c's record of block b
+  -- a run at the record of a chunk and block of the store's
   module _ (w : isCreation k ≡ true) (c b : ℕ) (d : isChunk k c ≡ true) (e : isBlock k b ≡ true) where
     stands : (r : Record) → FormedRecord k r → RecordAt k c b r
-    stands r f = then-true (isChunk k c && isBlock k b) (recordFormed k r) (isZeroRecord r) (and-true (isChunk k c) (isBlock k b) d e) (record-formed k r f)
+    stands r f = rw (d, e) (record-formed k r f)
 
     runs-at : (r : Record) (x : Entry) (kind : Kind) → FormedRecord k r → entryFormed k x ≡ true → Arrives c b (runs c b r x kind)
     runs-at r x (Kind.Aborted v) f g = is-silent c b r (stands r f)
@@ -153,33 +161,34 @@ module _ (k : Creation) where
         let header = headed (x .sender) c b (x .timestamp) in
         let now = withRead r (later (r .read) (x .timestamp)) in
         let fits : FormedHeader k header = record { host = t .1; chunk = d; block = lt-ltb b blockLimit (block-place k b e w); timestamp = t .0 } in
+        let raised : FormedRecord k now = record { read = later-formed (r .read) (x .timestamp) (f .read) (t .0); write = f .write; waiting = f .waiting } in
         walk (Arrives c b) (x .timestamp below r .write) _ _ (λ _. answers c b r (Message.OutOfOrder header) (stands r f) fits refl)
-        (λ _. answers c b now (Message.ReadReply header (r .value)) (stands now (record { read = later-formed (r .read) (x .timestamp) (f .read) (t .0); write = f .write; waiting = f .waiting })) fits refl)
+        (λ _. answers c b now (Message.ReadReply header (r .value)) (stands now raised) fits refl)
 
     ran-at : (r : Record) → recordFormed k r ≡ true → 0 < r .waiting .count → Arrives c b (ran c b r)
     unfolding ran
     ran-at r h n =
         let f = record-facts k r h in
         runs-at (withWaiting r (headRemoved (r .waiting))) (head (r .waiting)) (head (r .waiting) .kind)
-        (record { read = f .read; write = f .write; waiting = head-removed-formed (r .waiting) (f .waiting) }) (head-formed k (r .waiting) (waiting-facts k (r .waiting) (f .waiting)) n)
+        (record { read = f .read; write = f .write; waiting = head-removed-formed (r .waiting) (f .waiting) })
+        (head-formed k (r .waiting) (waiting-facts k (r .waiting) (f .waiting)) n)
 
   -- ---- chunks
 
-  no-blocks-formed : every (λ b. not (getD noBlocks b false) || isBlock k b) (numbers blockLimit) ≡ true
-  unfolding every from
-  no-blocks-formed = refl
-
   -- a chunk with nothing to reconcile
-  pub blank-formed : (epoch : Epoch) (state : State) (lost : Bool) (e : Epoch) → e same epoch ≡ true → chunkFormed k epoch (record { state = state; lost = lost; epoch = e; reconcile = noBlocks }) ≡ true
-  blank-formed epoch state lost e h = and-true (e same epoch) (every (λ b. not (getD noBlocks b false) || isBlock k b) (numbers blockLimit)) h no-blocks-formed
+  pub blank-formed : (current : Epoch) (c : Chunk) → c .epoch same current ≡ true → c .reconcile ≡ noBlocks → chunkFormed k current c ≡ true
+  blank-formed current c h e = chunk-formed k current c (record {
+    epoch = h;
+    reconcile = λ b l q. absurd (true≢false (sym q ∙ rw e (getD-replicate blockLimit b false false l)));
+  })
 
-  overdue-formed : (epoch : Epoch) (c : Chunk) (b : ℕ) → chunkFormed k epoch c ≡ true → isBlock k b ≡ true → chunkFormed k epoch (overdue c b) ≡ true
-  overdue-formed epoch c b h e =
-      let f = both (c .epoch same epoch) (every (λ b. not (getD (c .reconcile) b false) || isBlock k b) (numbers blockLimit)) h in
-      and-true (c .epoch same epoch) (every (λ i. not (getD (overdue c b .reconcile) i false) || isBlock k i) (numbers blockLimit)) (f .0)
-      (every-numbers (λ i. not (getD (overdue c b .reconcile) i false) || isBlock k i) blockLimit
-      (set-all (λ i (x : Bool). i < blockLimit → not x || isBlock k i ≡ true) false (c .reconcile) b true (λ _. e)
-      (every-number (λ i. not (getD (c .reconcile) i false) || isBlock k i) blockLimit (f .1))))
+  overdue-formed : (current : Epoch) (c : Chunk) (b : ℕ) → chunkFormed k current c ≡ true → isBlock k b ≡ true → chunkFormed k current (overdue c b) ≡ true
+  overdue-formed current c b h e =
+      let f = chunk-facts k current c h in
+      chunk-formed k current (overdue c b) (record {
+        epoch = f .epoch;
+        reconcile = set-all (λ i x. i < blockLimit → x ≡ true → isBlock k i ≡ true) false (c .reconcile) b true (λ _ _. e) (f .reconcile);
+      })
 
 -- ---- the network's events
 
@@ -188,19 +197,19 @@ module _ (t : Table) (f : Formed t) where
   chunk-takes m g =
       let c = headerOf m .chunk in
       let b = headerOf m .block in
-      let h = message-facts (t .creation) m g .0 in
+      let h = message-facts (t .creation) m g .header in
       let l = ltb-true b blockLimit (h .block) in
       let r = at-chunk (t .creation) (chunkOf t c .epoch) (recordOf t c b) m (f .records c b (chunk-place (t .creation) c (h .chunk) (f .creation)) l) g in
       let a = atChunk (t .creation .blocks) (chunkOf t c .epoch) (recordOf t c b) m in
-      walk Formed (isNormal (chunkOf t c .state)) (withPlaces (withRecord t c b (a .block)) (replied (t .places) (a .reply))) t
-      (λ _. places-kept (withRecord t c b (a .block)) (record-kept t f c b (a .block) l (r .block)) (replied (t .places) (a .reply)) (replied-kept (t .creation) (t .places) (a .reply) (f .places) (r .reply)))
+      walk Formed (isNormal (chunkOf t c .state)) _ _
+      (λ _. replied-kept (withRecord t c b (a .block)) (record-kept t f c b (a .block) l (r .block)) (a .reply) (r .reply))
       (λ _. f)
 
   host-takes : (m : Message) → messageFormed (t .creation) m ≡ true → Formed (hostTakes t (headerOf m) m)
   host-takes m g =
       let h = headerOf m .host in
-      let e = message-facts (t .creation) m g .0 .host in
-      walk Formed (hostOf t h .working) (withHost t h (atHost (hostOf t h) m)) t
+      let e = message-facts (t .creation) m g .header .host in
+      walk Formed (hostOf t h .working) _ _
       (λ _. host-kept t f h (atHost (hostOf t h) m) e (at-host-formed (t .creation) (hostOf t h) m (f .creation) (host-of t f h e) g))
       (λ _. f)
 
@@ -212,47 +221,47 @@ module _ (t : Table) where
   abbrev creation : Creation
   creation = t .creation
 
-  without : (f : Formed t) (place : ℕ) → Formed (withPlaces t (removed (t .places) place))
-  without f place = places-kept t f (removed (t .places) place) (removed-kept creation (t .places) place (f .places))
-
   pub deliver-kept : (place b c : ℕ) → Keeps t (deliverRule t place b c)
   unfolding deliverRule
-  deliver-kept place b c = keeps t (deliverRule t place b c) (λ f e p.
-    let r = three (isPlace place) (unused b) (unused c) e in
-    taken (withPlaces t (removed (t .places) place)) (without f place) (slotOf (t .places) place) (f .places place (ltb-true place placeLimit (r .0))))
+  deliver-kept place b c =
+      keeps t (deliverRule t place b c) (λ f e p.
+      let r = three (isPlace place) (unused b) (unused c) e in
+      taken (withPlaces t (removed (t .places) place)) (removed-kept t f place) (slotOf (t .places) place) (f .places place (ltb-true place placeLimit (r .0))))
 
   pub drop-kept : (place b c : ℕ) → Keeps t (dropRule t place b c)
   unfolding dropRule
-  drop-kept place b c = keeps t (dropRule t place b c) (λ f e p. without f place)
+  drop-kept place b c = keeps t (dropRule t place b c) (λ f e p. removed-kept t f place)
 
   -- ---- the chunks' events
 
   pub run-kept : (chunk block c : ℕ) → Keeps t (runRule t chunk block c)
   unfolding runRule
-  run-kept chunk block c = keeps t (runRule t chunk block c) (λ f e p.
-    let r = recordOf t chunk block in
-    let a = ran chunk block r in
-    let s = three (isChunk creation chunk) (isBlock creation block) (unused c) e in
-    let some = eqb-false (r .waiting .count) 0 (passed (eqb (r .waiting .count) 0) 1 _ (passed (not (isNormal (chunkOf t chunk .state))) 1 _ p .1) .0) in
-    let g = ran-at creation (f .creation) chunk block (s .0) (s .1) r (record-of t f chunk block (s .0) (s .1)) (omega arith) in
-    places-kept (withRecord t chunk block (a .block)) (record-kept t f chunk block (a .block) (block-place creation block (s .1) (f .creation)) (g .block))
-    (replied (t .places) (a .reply)) (replied-kept creation (t .places) (a .reply) (f .places) (g .reply)))
+  run-kept chunk block c =
+      keeps t (runRule t chunk block c) (λ f e p.
+      let r = recordOf t chunk block in
+      let a = ran chunk block r in
+      let s = three (isChunk creation chunk) (isBlock creation block) (unused c) e in
+      let l = block-place creation block (s .1) (f .creation) in
+      let some = eqb-false (r .waiting .count) 0 (passed (eqb (r .waiting .count) 0) 1 _ (passed (not (isNormal (chunkOf t chunk .state))) 1 _ p .1) .0) in
+      let g = ran-at creation (f .creation) chunk block (s .0) (s .1) r (record-of t f chunk block (chunk-place creation chunk (s .0) (f .creation)) l) (omega arith) in
+      replied-kept (withRecord t chunk block (a .block)) (record-kept t f chunk block (a .block) l (g .block)) (a .reply) (g .reply))
 
   pub fail-kept : (chunk b c : ℕ) → Keeps t (failRule t chunk b c)
   unfolding failRule
-  fail-kept chunk b c = keeps t (failRule t chunk b c) (λ f e p.
-    let s = three (isChunk creation chunk) (unused b) (unused c) e in
-    let x = chunkOf t chunk in
-    let now = both (x .epoch same t .epoch) (every (λ b. not (getD (x .reconcile) b false) || isBlock creation b) (numbers blockLimit)) (chunk-of t f chunk (s .0)) .0 in
-    records-kept (withChunk t chunk (failed x)) (chunk-kept t f chunk (failed x) (s .0) (blank-formed creation (t .epoch) State.Failed true (x .epoch) now))
-    (λ c b. cond (eqb c chunk) (emptied (recordOf t c b)) (recordOf t c b))
-    (λ c b l m. walk (RecordAt creation c b) (eqb c chunk) (emptied (recordOf t c b)) (recordOf t c b) (λ _. emptied-at creation c b (recordOf t c b) (f .records c b l m)) (λ _. f .records c b l m)))
+  fail-kept chunk b c =
+      keeps t (failRule t chunk b c) (λ f e p.
+      let s = three (isChunk creation chunk) (unused b) (unused c) e in
+      let x = chunkOf t chunk in
+      let now = blank-formed creation (t .epoch) (failed x) (chunk-facts creation (t .epoch) x (chunk-of t f chunk (s .0)) .epoch) refl in
+      records-kept (withChunk t chunk (failed x)) (chunk-kept t f chunk (failed x) (s .0) now) _
+      (λ c b l m. walk (RecordAt creation c b) (eqb c chunk) _ _ (λ _. emptied-at creation c b (recordOf t c b) (f .records c b l m)) (λ _. f .records c b l m)))
 
   -- an event that changes a chunk's state alone
   state-kept : (chunk b c : ℕ) (refusals : List Row) (state : State) → Keeps t (chunkRule t chunk b c refusals (withChunk t chunk (withState (chunkOf t chunk) state)))
-  state-kept chunk b c refusals state = keeps t (chunkRule t chunk b c refusals (withChunk t chunk (withState (chunkOf t chunk) state))) (λ f e p.
-    let s = three (isChunk creation chunk) (unused b) (unused c) e in
-    chunk-kept t f chunk (withState (chunkOf t chunk) state) (s .0) (chunk-of t f chunk (s .0)))
+  state-kept chunk b c refusals state =
+      keeps t (chunkRule t chunk b c refusals (withChunk t chunk (withState (chunkOf t chunk) state))) (λ f e p.
+      let s = three (isChunk creation chunk) (unused b) (unused c) e in
+      chunk-kept t f chunk (withState (chunkOf t chunk) state) (s .0) (chunk-of t f chunk (s .0)))
 
   pub recover-kept : (chunk b c : ℕ) → Keeps t (recoverRule t chunk b c)
   unfolding recoverRule
@@ -268,6 +277,7 @@ module _ (t : Table) where
 
   pub overdue-kept : (chunk block now : ℕ) → Keeps t (overdueRule t chunk block now)
   unfolding overdueRule
-  overdue-kept chunk block now = keeps t (overdueRule t chunk block now) (λ f e p.
-    let s = three (isChunk creation chunk) (isBlock creation block) (upTo greatestClock now) e in
-    chunk-kept t f chunk (overdue (chunkOf t chunk) block) (s .0) (overdue-formed creation (t .epoch) (chunkOf t chunk) block (chunk-of t f chunk (s .0)) (s .1)))
+  overdue-kept chunk block now =
+      keeps t (overdueRule t chunk block now) (λ f e p.
+      let s = three (isChunk creation chunk) (isBlock creation block) (upTo greatestClock now) e in
+      chunk-kept t f chunk (overdue (chunkOf t chunk) block) (s .0) (overdue-formed creation (t .epoch) (chunkOf t chunk) block (chunk-of t f chunk (s .0)) (s .1)))

@@ -1,12 +1,12 @@
 -- A formed part put into a well-formed table keeps it well formed
 use Prim.Native.Nat.{ℕ, suc, _<_}
-use mathlib.Core.Path.{_≡_, refl, sym, _∙_}
+use mathlib.Core.Path.{_≡_, refl}
 use mathlib.Core.Logic.{_⊎_, inl, inr}
-use mathlib.Core.Bool.{Bool, true, false, cond, _&&_, true≢false}
-use mathlib.Core.List.{List, [], _∷_}
+use mathlib.Core.Bool.{Bool, true, false, cond, _&&_}
+use mathlib.Core.List.{List}
 use lib.ListN.{getD, set}
 use native.Mathlib.Omega.{arith}
-use Rattle.rules.specs.Types.{Creation, Set, Record, Chunk, Host, Message, Slot, Place, Table}
+use Rattle.rules.specs.Types.{Set, Creation, Record, Chunk, Host, Message, Slot, Place, Table}
 use Rattle.rules.specs.Codes.{Row, _gives_⨾_, codeOf}
 use Rattle.rules.specs.Creation.{ofStore}
 use Rattle.rules.specs.Events.{Rule}
@@ -16,15 +16,16 @@ use Rattle.rules.specs.Network.{isFree, removed, sent, chunksOf, sentToE
 use Rattle.rules.specs.Tables.{isHost, isChunk, isBlock, at, recordOf, recordsBy, withHost, withChunk, withRecords, withRecord, withPlaces}
 use Rattle.rules.specs.Words.{each, place, numbers}
 use Rattle.rules.specs.Zero.{_among_, isZeroHost, isZeroChunk, isZeroRecord, zeroPlace, noHost, noChunk, noRecord}
-use Rattle.rules.proofs.Lists.{then-true, get-set, set-all, every-those, every-each, fold-keeps, grid-at}
+use Rattle.rules.proofs.Lists.{get-set, set-all, every-those, every-each, fold-keeps, grid-at}
 use Rattle.rules.proofs.Formed.{Formed, formed, well-formed, FormedPlaces}
 
--- ---- a rule keeps well-formedness where it is granted
+-- ---- rules
 
+-- a rule keeps well-formedness where it is granted
 abbrev pub Keeps : Table → Rule → Type 0
 Keeps t r = wellFormed t ≡ true → r .ranges ≡ true → codeOf (r .refusals) ≡ 0 → wellFormed (r .effect .table) ≡ true
 
--- by facts
+-- the same by facts
 pub keeps : (t : Table) (r : Rule) → (Formed t → r .ranges ≡ true → codeOf (r .refusals) ≡ 0 → Formed (r .effect .table)) → Keeps t r
 keeps t r g h e c = well-formed (r .effect .table) (g (formed t h) e c)
 
@@ -34,37 +35,43 @@ unfolding codeOf
 passed true n rows h = absurd (omega arith)
 passed false n rows h = (refl, h)
 
--- ---- a host, a chunk, a record
+-- ---- what may stand at a place of the table: a formed part of the store's, or zero
 
--- a record that may stand in the table as chunk c's of block b
-abbrev pub RecordAt : Creation → (c b : ℕ) → Record → Type 0
-RecordAt k c b r = cond (isChunk k c && isBlock k b) (recordFormed k r) (isZeroRecord r) ≡ true
+abbrev HostAt : Creation → ℕ → Host → Type 0
+HostAt k h x = cond (isHost k h) (hostFormed k x) (isZeroHost x) ≡ true
+
+abbrev pub RecordAt : Creation → (chunk block : ℕ) → Record → Type 0
+RecordAt k c b x = cond (isChunk k c && isBlock k b) (recordFormed k x) (isZeroRecord x) ≡ true
+
+module _ (t : Table) where
+  abbrev ChunkAt : ℕ → Chunk → Type 0
+  ChunkAt c x = cond (isChunk (t .creation) c) (chunkFormed (t .creation) (t .epoch) x) (isZeroChunk x) ≡ true
+
+-- ---- a host, a chunk, records
 
 module _ (t : Table) (f : Formed t) where
   pub host-kept : (h : ℕ) (x : Host) → isHost (t .creation) h ≡ true → hostFormed (t .creation) x ≡ true → Formed (withHost t h x)
-  host-kept h x e k = record {
+  host-kept h x e g = record {
     creation = f .creation;
     epoch = f .epoch;
-    hosts = set-all (λ i (y : Host). i < hostLimit → cond (isHost (t .creation) i) (hostFormed (t .creation) y) (isZeroHost y) ≡ true) noHost (t .hosts) h x
-      (λ l. then-true (isHost (t .creation) h) (hostFormed (t .creation) x) (isZeroHost x) e k) (f .hosts);
+    hosts = set-all (λ i y. i < hostLimit → HostAt (t .creation) i y) noHost (t .hosts) h x (λ _. rw e g) (f .hosts);
     chunks = f .chunks;
     records = f .records;
     places = f .places;
   }
 
   pub chunk-kept : (c : ℕ) (x : Chunk) → isChunk (t .creation) c ≡ true → chunkFormed (t .creation) (t .epoch) x ≡ true → Formed (withChunk t c x)
-  chunk-kept c x e k = record {
+  chunk-kept c x e g = record {
     creation = f .creation;
     epoch = f .epoch;
     hosts = f .hosts;
-    chunks = set-all (λ i (y : Chunk). i < chunkLimit → cond (isChunk (t .creation) i) (chunkFormed (t .creation) (t .epoch) y) (isZeroChunk y) ≡ true) noChunk (t .chunks) c x
-      (λ l. then-true (isChunk (t .creation) c) (chunkFormed (t .creation) (t .epoch) x) (isZeroChunk x) e k) (f .chunks);
+    chunks = set-all (λ i y. i < chunkLimit → ChunkAt t i y) noChunk (t .chunks) c x (λ _. rw e g) (f .chunks);
     records = f .records;
     places = f .places;
   }
 
   pub record-kept : (c b : ℕ) (x : Record) → b < blockLimit → RecordAt (t .creation) c b x → Formed (withRecord t c b x)
-  record-kept c b x l k = record {
+  record-kept c b x l g = record {
     creation = f .creation;
     epoch = f .epoch;
     hosts = f .hosts;
@@ -73,14 +80,16 @@ module _ (t : Table) (f : Formed t) where
     places = f .places;
   }
     where
-      go : (i j : ℕ) → j < blockLimit → RecordAt (t .creation) i j (recordOf t i j)
-        → ((at i j ≡ at c b) × (getD (set (t .records) (at c b) x) (at i j) noRecord ≡ x)) ⊎ (getD (set (t .records) (at c b) x) (at i j) noRecord ≡ getD (t .records) (at i j) noRecord)
-        → RecordAt (t .creation) i j (getD (set (t .records) (at c b) x) (at i j) noRecord)
+      now : (i j : ℕ) → Record
+      now i j = getD (set (t .records) (at c b) x) (at i j) noRecord
+
+      go : (i j : ℕ) → j < blockLimit → RecordAt (t .creation) i j (recordOf t i j) → ((at i j ≡ at c b) × (now i j ≡ x)) ⊎ (now i j ≡ recordOf t i j)
+          → RecordAt (t .creation) i j (now i j)
       go i j n old (inl e) =
           let q = e .0 in
           let y : i ≡ c = omega arith in
           let z : j ≡ b = omega arith in
-          rw (e .1) (rw (y, z) k)
+          rw (e .1) (rw (y, z) g)
       go i j n old (inr e) = rw e old
 
   -- all records anew
@@ -94,31 +103,38 @@ module _ (t : Table) (f : Formed t) where
     places = f .places;
   }
 
-  pub places-kept : (l : List Place) → FormedPlaces (t .creation) l → Formed (withPlaces t l)
-  places-kept l g =
-      record { creation = f .creation; epoch = f .epoch; hosts = f .hosts; chunks = f .chunks; records = f .records; places = g }
+  places-kept : (l : List Place) → FormedPlaces (t .creation) l → Formed (withPlaces t l)
+  places-kept l g = record { creation = f .creation; epoch = f .epoch; hosts = f .hosts; chunks = f .chunks; records = f .records; places = g }
 
--- ---- the places
+-- ---- messages
 
 module _ (k : Creation) where
-  place-kept : (l : List Place) (p : ℕ) (x : Place) → FormedPlaces k l → slotFormed k (x .slot) ≡ true → FormedPlaces k (set l p x)
-  place-kept l p x f h = set-all (λ i (y : Place). i < placeLimit → slotFormed k (y .slot) ≡ true) zeroPlace l p x (λ m. h) f
+  -- what is formed laid in a place
+  laid : (l : List Place) (p : ℕ) (x : Place) → FormedPlaces k l → slotFormed k (x .slot) ≡ true → FormedPlaces k (set l p x)
+  laid l p x f h = set-all (λ i (y : Place). i < placeLimit → slotFormed k (y .slot) ≡ true) zeroPlace l p x (λ _. h) f
 
-  pub removed-kept : (l : List Place) (p : ℕ) → FormedPlaces k l → FormedPlaces k (removed l p)
-  removed-kept l p f = place-kept l p zeroPlace f refl
-
-  pub sent-kept : (l : List Place) (m : Message) → FormedPlaces k l → messageFormed k m ≡ true → FormedPlaces k (sent l m)
+  sent-formed : (l : List Place) (m : Message) → FormedPlaces k l → messageFormed k m ≡ true → FormedPlaces k (sent l m)
   unfolding sent
-  sent-kept l m f h = place-kept l (place isFree l) (record { slot = Slot.Full m }) f h
+  sent-formed l m f h = laid l (place isFree l) (record { slot = Slot.Full m }) f h
 
-  pub replied-kept : (l : List Place) (s : Slot) → FormedPlaces k l → slotFormed k s ≡ true → FormedPlaces k (replied l s)
+  replied-formed : (l : List Place) (s : Slot) → FormedPlaces k l → slotFormed k s ≡ true → FormedPlaces k (replied l s)
   unfolding replied
-  replied-kept l Slot.Empty f h = f
-  replied-kept l (Slot.Full m) f h = sent-kept l m f h
+  replied-formed l Slot.Empty f h = f
+  replied-formed l (Slot.Full m) f h = sent-formed l m f h
 
-  -- to each chunk of a set of the store's
-  pub sent-to-each-kept : (l : List Place) (to : Set) (m : ℕ → Message) → FormedPlaces k l → ofStore k to ≡ true → ((c : ℕ) → isChunk k c ≡ true → messageFormed k (m c) ≡ true) → FormedPlaces k (sentToEach l to m)
+module _ (t : Table) (f : Formed t) where
+  pub removed-kept : (p : ℕ) → Formed (withPlaces t (removed (t .places) p))
+  removed-kept p = places-kept t f (removed (t .places) p) (laid (t .creation) (t .places) p zeroPlace (f .places) refl)
+
+  pub replied-kept : (s : Slot) → slotFormed (t .creation) s ≡ true → Formed (withPlaces t (replied (t .places) s))
+  replied-kept s h = places-kept t f (replied (t .places) s) (replied-formed (t .creation) (t .places) s (f .places) h)
+
+  -- messages to a set of the store's chunks
+  pub sent-to-each-kept : (to : Set) (m : (chunk : ℕ) → Message) → ofStore (t .creation) to ≡ true
+      → ((c : ℕ) → isChunk (t .creation) c ≡ true → messageFormed (t .creation) (m c) ≡ true) → Formed (withPlaces t (sentToEach (t .places) to m))
   unfolding sentToEach
-  sent-to-each-kept l to m f h g =
-      fold-keeps (messageFormed k) (FormedPlaces k) sent (λ s x q e. sent-kept s x q e) l (each m (chunksOf to)) f
-      (every-each (messageFormed k) (isChunk k) m (chunksOf to) g (every-those (isChunk k) (λ c. c among to) (numbers chunkLimit) h))
+  sent-to-each-kept to m h g =
+      let k = t .creation in
+      places-kept t f (sentToEach (t .places) to m)
+      (fold-keeps (messageFormed k) (FormedPlaces k) sent (sent-formed k) (t .places) (each m (chunksOf to)) (f .places)
+      (every-each (messageFormed k) (isChunk k) m (chunksOf to) g (every-those (isChunk k) (λ c. c among to) (numbers chunkLimit) h)))

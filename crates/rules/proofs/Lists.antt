@@ -170,7 +170,29 @@ module _ {A : Type 0} (d : A) (n : ℕ) (l : List A) (room : length l ≤ n) whe
   pub filled-take : take (length l) (filled n d l) ≡ l
   filled-take = take-take (length l) n (l ++ replicate n d) room ∙ take-append-seam l (replicate n d)
 
+-- ---- tests in a row
+
+pub three : (a b c : Bool) → a && b && c ≡ true → (a ≡ true) × (b ≡ true) × (c ≡ true)
+three a b c h = let r = both (a && b) c h in let s = both a b (r .0) in (s .0, s .1, r .1)
+
+pub four : (a b c d : Bool) → a && b && c && d ≡ true → (a ≡ true) × (b ≡ true) × (c ≡ true) × (d ≡ true)
+four a b c d h = let r = both (a && b && c) d h in let s = three a b c (r .0) in (s .0, s .1, s .2, r .1)
+
+pub five : (a b c d e : Bool) → a && b && c && d && e ≡ true → (a ≡ true) × (b ≡ true) × (c ≡ true) × (d ≡ true) × (e ≡ true)
+five a b c d e h = let r = both (a && b && c && d) e h in let s = four a b c d (r .0) in (s .0, s .1, s .2, s .3, r .1)
+
+-- a is not, or b is: where a is, b is
+pub implied : (a b : Bool) → not a || b ≡ true → a ≡ true → b ≡ true
+implied a b h e = or-right (not a) b h (ap not e)
+
+pub implies : (a b : Bool) → (a ≡ true → b ≡ true) → not a || b ≡ true
+implies true b h = h refl
+implies false b h = refl
+
 -- ---- every, through the words that make lists
+
+pub take-short : {A : Type 0} (n : ℕ) (l : List A) → length (take n l) ≤ n
+take-short n l = omega (arith, length-take n l)
 
 module _ {A : Type 0} (p : A → Bool) where
   pub every-one : (x : A) → p x ≡ true → every p (x ∷ []) ≡ true
@@ -188,8 +210,12 @@ module _ {A : Type 0} (p : A → Bool) where
   every-drop (suc n) [] h = h
   every-drop (suc n) (x ∷ xs) h = every-drop n xs (both (p x) (every p xs) h .1)
 
+  pub every-take : (n : ℕ) (l : List A) (d : A) → ((i : ℕ) → i < n → p (getD l i d) ≡ true) → every p (take n l) ≡ true
+  every-take n l d h = every-of p (take n l) d (λ i k. let m : i < n = omega (arith, take-short n l) in rw (getD-take n l i d m) (h i m))
+
   -- one element changed by what keeps p
-  pub every-change : (f : A → A) → ((x : A) → p x ≡ true → p (f x) ≡ true) → (l : List A) (i : ℕ) (d : A) → every p l ≡ true → every p (set l i (f (getD l i d))) ≡ true
+  pub every-change : (f : A → A) → ((x : A) → p x ≡ true → p (f x) ≡ true) → (l : List A) (i : ℕ) (d : A)
+      → every p l ≡ true → every p (set l i (f (getD l i d))) ≡ true
   unfolding every
   every-change f k [] i d h = h
   every-change f k (x ∷ xs) zero d h = let b = both (p x) (every p xs) h in and-true (p (f x)) (every p xs) (k x (b .0)) (b .1)
@@ -202,37 +228,56 @@ module _ {A : Type 0} (p : A → Bool) where
   every-joined [] h = refl
   every-joined (l ∷ ls) h = let b = both (every p l) (every (every p) ls) h in every-append l (joined ls) (b .0) (every-joined ls (b .1))
 
-  -- those that are q are p, where each that is q is p
+  -- those that are q, where each that is q is p
   pub every-those : (q : A → Bool) (l : List A) → every (λ x. not (q x) || p x) l ≡ true → every p (those q l) ≡ true
   unfolding every those
   every-those q [] h = refl
-  every-those q (x ∷ xs) h = go (q x) h (every-those q xs)
-    where
-      go : (b : Bool) → (not b || p x) && every (λ x. not (q x) || p x) xs ≡ true → (every (λ x. not (q x) || p x) xs ≡ true → every p (those q xs) ≡ true) → every p (cond b (x ∷ those q xs) (those q xs)) ≡ true
-      go true h f = let b = both (p x) (every (λ x. not (q x) || p x) xs) h in and-true (p x) (every p (those q xs)) (b .0) (f (b .1))
-      go false h f = f h
+  every-those q (x ∷ xs) h =
+      let b = both (not (q x) || p x) (every (λ x. not (q x) || p x) xs) h in
+      walk (λ (l : List A). every p l ≡ true) (q x) (x ∷ those q xs) (those q xs)
+      (λ e. and-true (p x) (every p (those q xs)) (implied (q x) (p x) (b .0) e) (every-those q xs (b .1)))
+      (λ _. every-those q xs (b .1))
 
-  pub every-those-of : (q : A → Bool) (l : List A) → every p l ≡ true → every p (those q l) ≡ true
+  -- those that are q, where each is p
+  pub every-of-all : (q : A → Bool) (l : List A) → every p l ≡ true → every p (those q l) ≡ true
   unfolding every those
-  every-those-of q [] h = refl
-  every-those-of q (x ∷ xs) h =
+  every-of-all q [] h = refl
+  every-of-all q (x ∷ xs) h =
       let b = both (p x) (every p xs) h in
-      walk (λ (l : List A). every p l ≡ true) (q x) (x ∷ those q xs) (those q xs) (λ _. and-true (p x) (every p (those q xs)) (b .0) (every-those-of q xs (b .1))) (λ _. every-those-of q xs (b .1))
+      walk (λ (l : List A). every p l ≡ true) (q x) (x ∷ those q xs) (those q xs)
+      (λ _. and-true (p x) (every p (those q xs)) (b .0) (every-of-all q xs (b .1)))
+      (λ _. every-of-all q xs (b .1))
 
-  pub every-each : {B : Type 0} (q : B → Bool) (f : B → A) (l : List B) → ((x : B) → q x ≡ true → p (f x) ≡ true) → every q l ≡ true → every p (each f l) ≡ true
+  pub every-each : {B : Type 0} (q : B → Bool) (f : B → A) (l : List B)
+      → ((x : B) → q x ≡ true → p (f x) ≡ true) → every q l ≡ true → every p (each f l) ≡ true
   unfolding every each
   every-each q f [] g h = refl
-  every-each q f (x ∷ xs) g h = let b = both (q x) (every q xs) h in and-true (p (f x)) (every p (each f xs)) (g x (b .0)) (every-each q f xs g (b .1))
+  every-each q f (x ∷ xs) g h =
+      let b = both (q x) (every q xs) h in
+      and-true (p (f x)) (every p (each f xs)) (g x (b .0)) (every-each q f xs g (b .1))
 
   pub every-each-number : (f : ℕ → A) (n : ℕ) → ((i : ℕ) → i < n → p (f i) ≡ true) → every p (each f (numbers n)) ≡ true
   every-each-number f n h =
       every-each (λ i. ltb i n) f (numbers n) (λ i e. h i (ltb-true i n e)) (every-numbers (λ i. ltb i n) n (λ i l. lt-ltb i n l))
 
-  -- what each step keeps, a fold keeps
-  pub fold-keeps : {S : Type 0} (P : S → Type 0) (f : S → A → S) → ((s : S) (x : A) → P s → p x ≡ true → P (f s x)) → (s : S) (l : List A) → P s → every p l ≡ true → P (fold f s l)
+  -- what each step with a p keeps, a fold over p's keeps
+  pub fold-keeps : {S : Type 0} (P : S → Type 0) (f : S → A → S) → ((s : S) (x : A) → P s → p x ≡ true → P (f s x))
+      → (s : S) (l : List A) → P s → every p l ≡ true → P (fold f s l)
   unfolding every fold
   fold-keeps P f g s [] k h = k
   fold-keeps P f g s (x ∷ xs) k h = let b = both (p x) (every p xs) h in fold-keeps P f g (f s x) xs (g s x k (b .0)) (b .1)
+
+-- ---- an array of n places of which some are used: a used one is p, an unused one is z
+
+module _ (p z : ℕ → Bool) (n used : ℕ) where
+  pub used-at : every (λ i. cond (ltb i used) (p i) (z i)) (numbers n) ≡ true → used ≤ n → (i : ℕ) → i < used → p i ≡ true
+  used-at h m i l = rw (lt-ltb i used l) at (every-number (λ i. cond (ltb i used) (p i) (z i)) n h i (omega arith))
+
+  pub used-of : ((i : ℕ) → i < used → p i ≡ true) → ((i : ℕ) → i < n → used ≤ i → z i ≡ true)
+      → every (λ i. cond (ltb i used) (p i) (z i)) (numbers n) ≡ true
+  used-of f g =
+      every-numbers (λ i. cond (ltb i used) (p i) (z i)) n (λ i l.
+      walk (λ (b : Bool). b ≡ true) (ltb i used) (p i) (z i) (λ e. f i (ltb-true i used e)) (λ e. g i l (ltb-false i used e)))
 
 -- ---- lists of lists
 
@@ -244,8 +289,9 @@ each-each g f (x ∷ xs) = ap (λ r. g (f x) ∷ r) (each-each g f xs)
 pub each-each-number : {B C : Type 0} (g : B → C) (f : ℕ → B) (n i : ℕ) (d : C) → i < n → getD (each g (each f (numbers n))) i d ≡ g (f i)
 each-each-number g f n i d h = rw (each-each g f (numbers n)) (each-number (λ x. g (f x)) n i d h)
 
--- m rows of n each, one after the other: element b of row c
-rows-at : {A : Type 0} (f : ℕ → List A) (n : ℕ) → ((i : ℕ) → length (f i) ≡ n) → (i m c b : ℕ) (d : A) → c < m → b < n → getD (joined (each f (from i m))) (c * n + b) d ≡ getD (f (i + c)) b d
+-- rows of n, one after the other: element b of row c
+rows-at : {A : Type 0} (f : ℕ → List A) (n : ℕ) → ((i : ℕ) → length (f i) ≡ n) → (i m c b : ℕ) (d : A)
+    → c < m → b < n → getD (joined (each f (from i m))) (c * n + b) d ≡ getD (f (i + c)) b d
 unfolding from each joined
 rows-at f n len i zero c b d h k = absurd (omega arith)
 rows-at f n len i (suc m) zero b d h k =
@@ -257,61 +303,9 @@ rows-at f n len i (suc m) (suc c) b d h k =
     let z : i + suc c ≡ suc i + c = omega arith in
     rw (e, z) (getD-append-add (f i) (joined (each f (from (suc i) m))) (c * n + b) d ∙ rows-at f n len (suc i) m c b d (omega arith) k)
 
-pub grid-at : {A : Type 0} (f : ℕ → ℕ → A) (m n c b : ℕ) (d : A) → c < m → b < n → getD (joined (each (λ c. each (f c) (numbers n)) (numbers m))) (c * n + b) d ≡ f c b
+pub grid-at : {A : Type 0} (f : ℕ → ℕ → A) (m n c b : ℕ) (d : A) → c < m → b < n
+    → getD (joined (each (λ c. each (f c) (numbers n)) (numbers m))) (c * n + b) d ≡ f c b
 grid-at f m n c b d h k =
+    let z : 0 + c ≡ c = omega arith in
     rows-at (λ c. each (f c) (numbers n)) n (λ i. each-length (f i) (numbers n) ∙ numbers-length n) 0 m c b d h k
-    ∙ each-number (f (0 + c)) n b d k ∙ ap (λ (i : ℕ). f i b) (let z : 0 + c ≡ c = omega arith in z)
-
--- ---- tests in a row, and a test's answer
-
-pub three : (a b c : Bool) → a && b && c ≡ true → (a ≡ true) × (b ≡ true) × (c ≡ true)
-three a b c h = let r = both (a && b) c h in let s = both a b (r .0) in (s .0, s .1, r .1)
-
-pub four : (a b c d : Bool) → a && b && c && d ≡ true → (a ≡ true) × (b ≡ true) × (c ≡ true) × (d ≡ true)
-four a b c d h = let r = both (a && b && c) d h in let s = three a b c (r .0) in (s .0, s .1, s .2, r .1)
-
-pub five : (a b c d e : Bool) → a && b && c && d && e ≡ true → (a ≡ true) × (b ≡ true) × (c ≡ true) × (d ≡ true) × (e ≡ true)
-five a b c d e h = let r = both (a && b && c && d) e h in let s = four a b c d (r .0) in (s .0, s .1, s .2, s .3, r .1)
-
-pub and-three : (a b c : Bool) → a ≡ true → b ≡ true → c ≡ true → a && b && c ≡ true
-and-three a b c h k l = and-true (a && b) c (and-true a b h k) l
-
-pub and-four : (a b c d : Bool) → a ≡ true → b ≡ true → c ≡ true → d ≡ true → a && b && c && d ≡ true
-and-four a b c d h k l m = and-true (a && b && c) d (and-three a b c h k l) m
-
-pub and-five : (a b c d e : Bool) → a ≡ true → b ≡ true → c ≡ true → d ≡ true → e ≡ true → a && b && c && d && e ≡ true
-and-five a b c d e h k l m n = and-true (a && b && c && d) e (and-four a b c d h k l m) n
-
-pub if-true : (b x y : Bool) → cond b x y ≡ true → b ≡ true → x ≡ true
-if-true true x y h e = h
-if-true false x y h e = absurd (false≢true e)
-
-pub if-false : (b x y : Bool) → cond b x y ≡ true → b ≡ false → y ≡ true
-if-false true x y h e = absurd (true≢false e)
-if-false false x y h e = h
-
-pub then-true : (b x y : Bool) → b ≡ true → x ≡ true → cond b x y ≡ true
-then-true b x y e h = walk (λ (z : Bool). z ≡ true) b x y (λ _. h) (λ q. absurd (true≢false (sym e ∙ q)))
-
-pub else-true : (b x y : Bool) → b ≡ false → y ≡ true → cond b x y ≡ true
-else-true b x y e h = walk (λ (z : Bool). z ≡ true) b x y (λ q. absurd (true≢false (sym q ∙ e))) (λ _. h)
-
--- ---- an array of n places of which some are used: a used one is p, an unused one is z
-
-module _ (p z : ℕ → Bool) (n used : ℕ) where
-  pub used-at : every (λ i. cond (ltb i used) (p i) (z i)) (numbers n) ≡ true → used ≤ n → (i : ℕ) → i < used → p i ≡ true
-  used-at h m i l =
-      if-true (ltb i used) (p i) (z i) (every-number (λ i. cond (ltb i used) (p i) (z i)) n h i (omega arith)) (lt-ltb i used l)
-
-  pub used-of : ((i : ℕ) → i < used → p i ≡ true) → ((i : ℕ) → used ≤ i → z i ≡ true) → every (λ i. cond (ltb i used) (p i) (z i)) (numbers n) ≡ true
-  used-of f g =
-      every-numbers (λ i. cond (ltb i used) (p i) (z i)) n (λ i l. walk (λ (b : Bool). b ≡ true) (ltb i used) (p i) (z i) (λ e. f i (ltb-true i used e)) (λ e. g i (ltb-false i used e)))
-
--- the elements up to a count
-module _ {A : Type 0} where
-  pub take-short : (n : ℕ) (l : List A) → length (take n l) ≤ n
-  take-short n l = omega (arith, length-take n l)
-
-  pub every-take : (p : A → Bool) (n : ℕ) (l : List A) (d : A) → ((i : ℕ) → i < n → p (getD l i d) ≡ true) → every p (take n l) ≡ true
-  every-take p n l d h =
-      every-of p (take n l) d (λ i k. let m : i < n = omega (arith, take-short n l) in rw (getD-take n l i d m) (h i m))
+    ∙ each-number (f (0 + c)) n b d k ∙ ap (λ (i : ℕ). f i b) z
