@@ -38,7 +38,8 @@ module _ (k : Creation) where
   pub creation-facts : isCreation k ≡ true → FormedCreation k
   unfolding isCreation
   creation-facts h =
-      let r = five (oneTo hostLimit (k .hosts)) (oneTo chunkLimit (k .chunks)) (oneTo blockLimit (k .blocks)) (every (isSetOf k) (numbers blockLimit)) (upTo greatestClock (k .age)) h in
+      let r = five (oneTo hostLimit (k .hosts)) (oneTo chunkLimit (k .chunks)) (oneTo blockLimit (k .blocks))
+      (every (isSetOf k) (numbers blockLimit)) (upTo greatestClock (k .age)) h in
       record {
         hosts = one-to hostLimit (k .hosts) (r .0) .1;
         chunks = one-to chunkLimit (k .chunks) (r .1) .1;
@@ -80,7 +81,9 @@ module _ (k : Creation) where
 
   -- the set of a block is one of the store's
   pub set-of-store : (b : ℕ) → isCreation k ≡ true → isBlock k b ≡ true → ofStore k (setOf k b) ≡ true
-  set-of-store b w e = both (not (isEmpty (setOf k b))) (ofStore k (setOf k b)) (rw e at (creation-facts k w .sets b (block-place k b e w))) .1
+  set-of-store b w e =
+      let s = setOf k b in
+      both (not (isEmpty s)) (ofStore k s) (rw e at (creation-facts k w .sets b (block-place k b e w))) .1
 
   -- a set with a member is a block's
   pub set-of-block : (b c : ℕ) → isCreation k ≡ true → b < blockLimit → c < chunkLimit → c among setOf k b ≡ true → isBlock k b ≡ true
@@ -112,7 +115,8 @@ module _ (k : Creation) where
   pub operations-formed : (h : Host) → FormedQueue (h .queue) → every (operationFormed k) (operationsOf h) ≡ true
   operations-formed h f = every-take (operationFormed k) (h .queue .count) (h .queue .operations) zeroOperation (f .used)
 
-  pub queue-formed : (l : List Operation) → length l ≤ operationLimit → every (operationFormed k) l ≡ true → queueFormed k (queueOf l) ≡ true
+  pub queue-formed : (l : List Operation) → length l ≤ operationLimit → every (operationFormed k) l ≡ true
+      → queueFormed k (queueOf l) ≡ true
   unfolding queueOf
   queue-formed l n h =
       let o : ℕ → Operation = λ i. getD (filled operationLimit zeroOperation l) i zeroOperation in
@@ -149,7 +153,8 @@ module _ (k : Creation) where
         go : (b : Bool) → a .timestamp above never ≡ b → b ≡ true
         go true q = refl
         go false q =
-            let r = five (a .timestamp is never) (isEmpty (a .outstanding)) (not (a .okay)) (not (a .restart)) (eqb (a .result) 0) (rw q at h) in
+            let r = five (a .timestamp is never) (isEmpty (a .outstanding)) (not (a .okay)) (not (a .restart)) (eqb (a .result) 0)
+            (rw q at h) in
             absurd (true≢false (sym (r .1) ∙ e))
 
   pub record FormedHost (h : Host) : Type 0 where
@@ -160,7 +165,8 @@ module _ (k : Creation) where
 
   pub host-facts : (h : Host) → hostFormed k h ≡ true → FormedHost h
   host-facts h f =
-      let r = four (queueFormed k (h .queue)) (attemptFormed k (h .queue .count) (h .attempt)) (isEpoch (h .epoch)) (upTo greatestClock (h .clock)) f in
+      let r = four (queueFormed k (h .queue)) (attemptFormed k (h .queue .count) (h .attempt)) (isEpoch (h .epoch))
+      (upTo greatestClock (h .clock)) f in
       record { queue = r .0; attempt = r .1; epoch = r .2; clock = r .3 }
 
   pub host-formed : (h : Host) → FormedHost h → hostFormed k h ≡ true
@@ -179,10 +185,15 @@ module _ (k : Creation) where
     pub chunk-facts : chunkFormed k current c ≡ true → FormedChunk current c
     chunk-facts h =
         let r = both (c .epoch same current) (every reconciles (numbers blockLimit)) h in
-        record { epoch = r .0; reconcile = λ b l. implied (getD (c .reconcile) b false) (isBlock k b) (every-number reconciles blockLimit (r .1) b l) }
+        record {
+          epoch = r .0;
+          reconcile = λ b l. implied (getD (c .reconcile) b false) (isBlock k b) (every-number reconciles blockLimit (r .1) b l);
+        }
 
     pub chunk-formed : FormedChunk current c → chunkFormed k current c ≡ true
-    chunk-formed f = rw (f .epoch) (every-numbers reconciles blockLimit (λ b l. implies (getD (c .reconcile) b false) (isBlock k b) (f .reconcile b l)))
+    chunk-formed f =
+        rw (f .epoch)
+        (every-numbers reconciles blockLimit (λ b l. implies (getD (c .reconcile) b false) (isBlock k b) (f .reconcile b l)))
 
   -- ---- a waiting list
 
@@ -236,9 +247,11 @@ module _ (k : Creation) where
   entries-ordered w f =
       ascends-ordered (inOrder w) (λ i l.
       let m : suc i < w .count = omega (arith, take-short (w .count) (w .entries)) in
-      rw (getD-take (w .count) (w .entries) i zeroEntry (omega arith), getD-take (w .count) (w .entries) (suc i) zeroEntry m) (f .order i m))
+      rw (getD-take (w .count) (w .entries) i zeroEntry (omega arith), getD-take (w .count) (w .entries) (suc i) zeroEntry m)
+      (f .order i m))
 
-  pub waiting-formed : (l : List Entry) → length l ≤ waitingLimit → every (entryFormed k) l ≡ true → Ordered l → waitingFormed k (holding l) ≡ true
+  pub waiting-formed : (l : List Entry) → length l ≤ waitingLimit → every (entryFormed k) l ≡ true → Ordered l
+      → waitingFormed k (holding l) ≡ true
   unfolding holding
   waiting-formed l n h o =
       rw (le-leb (length l) waitingLimit n)
@@ -262,7 +275,9 @@ module _ (k : Creation) where
           rw q (ordered-ascends 0 l o i m)
 
       not-below : (i : ℕ) → i < length l → notBelow a i ≡ true
-      not-below i m = ap not (le-ltb (stampAt a i) (stampAt a (i - 1)) (omega (arith, stamped i m, stamped (i - 1) (omega arith), ahead i m)))
+      not-below i m =
+          let least : stampAt a (i - 1) ≤ stampAt a i = omega (arith, stamped i m, stamped (i - 1) (omega arith), ahead i m) in
+          ap not (le-ltb (stampAt a i) (stampAt a (i - 1)) least)
 
   -- the head of a formed waiting list that has one
   pub head-formed : (w : Waiting) → FormedWaiting w → 0 < w .count → entryFormed k (head w) ≡ true
@@ -287,7 +302,8 @@ module _ (k : Creation) where
   pub zero-record-formed : (r : Record) → isZeroRecord r ≡ true → recordFormed k r ≡ true
   zero-record-formed r h =
       let w = r .waiting in
-      let f = five (eqb (r .value) 0) (r .read is never) (r .write is never) (eqb (w .count) 0) (every (unusedAt (w .entries)) (numbers waitingLimit)) h in
+      let f = five (eqb (r .value) 0) (r .read is never) (r .write is never) (eqb (w .count) 0)
+      (every (unusedAt (w .entries)) (numbers waitingLimit)) h in
       let n = eqb-true (w .count) 0 (f .3) in
       record-formed r (record {
         read = le-leb (r .read .0) greatestTimestamp (omega (arith, eqb-true (r .read .0) 0 (f .1)));
@@ -312,7 +328,8 @@ module _ (k : Creation) where
   pub message-facts : (m : Message) → messageFormed k m ≡ true → FormedMessage m
   message-facts m f =
       let h = headerOf m in
-      let r = five (isHost k (h .host)) (isChunk k (h .chunk)) (ltb (h .block) blockLimit) (isTimestamp (h .timestamp)) (isEpoch (epochOf m)) f in
+      let r = five (isHost k (h .host)) (isChunk k (h .chunk)) (ltb (h .block) blockLimit) (isTimestamp (h .timestamp))
+      (isEpoch (epochOf m)) f in
       record { header = record { host = r .0; chunk = r .1; block = r .2; timestamp = r .3 }; epoch = r .4 }
 
   pub message-formed : (m : Message) → FormedHeader (headerOf m) → isEpoch (epochOf m) ≡ true → messageFormed k m ≡ true
@@ -338,7 +355,8 @@ module _ (t : Table) where
       let hosts = every (hostAt t) (numbers hostLimit) in
       let chunks = every (chunkAt t) (numbers chunkLimit) in
       let records = every (recordsAt t) (numbers chunkLimit) in
-      let r = both (isCreation (t .creation) && isEpoch (t .epoch) && hosts && chunks && records) (every (placeAt t) (numbers placeLimit)) h in
+      let places = every (placeAt t) (numbers placeLimit) in
+      let r = both (isCreation (t .creation) && isEpoch (t .epoch) && hosts && chunks && records) places h in
       let s = five (isCreation (t .creation)) (isEpoch (t .epoch)) hosts chunks records (r .0) in
       record {
         creation = s .0;
@@ -355,7 +373,8 @@ module _ (t : Table) where
       let hosts = every-numbers (hostAt t) hostLimit (f .hosts) in
       let chunks = every-numbers (chunkAt t) chunkLimit (f .chunks) in
       let records = every-numbers (recordsAt t) chunkLimit (λ c l. every-numbers (recordAt t c) blockLimit (λ b m. f .records c b l m)) in
-      rw (f .creation, f .epoch, hosts, chunks, records, every-numbers (placeAt t) placeLimit (f .places)) refl
+      let places = every-numbers (placeAt t) placeLimit (f .places) in
+      rw (f .creation, f .epoch, hosts, chunks, records, places) refl
 
 -- ---- the parts of a well-formed table
 
@@ -364,7 +383,9 @@ module _ (t : Table) (f : Formed t) where
   host-of h e = rw e at (f .hosts h (host-place (t .creation) h e (f .creation)))
 
   pub queue-of : (h : ℕ) → isHost (t .creation) h ≡ true → FormedQueue (t .creation) (hostOf t h .queue)
-  queue-of h e = queue-facts (t .creation) (hostOf t h .queue) (host-facts (t .creation) (hostOf t h) (host-of h e) .queue)
+  queue-of h e =
+      let x = hostOf t h in
+      queue-facts (t .creation) (x .queue) (host-facts (t .creation) x (host-of h e) .queue)
 
   pub chunk-of : (c : ℕ) → isChunk (t .creation) c ≡ true → chunkFormed (t .creation) (t .epoch) (chunkOf t c) ≡ true
   chunk-of c e = rw e at (f .chunks c (chunk-place (t .creation) c e (f .creation)))
@@ -373,9 +394,12 @@ module _ (t : Table) (f : Formed t) where
   pub record-of : (c b : ℕ) → c < chunkLimit → b < blockLimit → recordFormed (t .creation) (recordOf t c b) ≡ true
   record-of c b l m = go (isChunk (t .creation) c && isBlock (t .creation) b) (f .records c b l m)
     where
-      go : (x : Bool) → cond x (recordFormed (t .creation) (recordOf t c b)) (isZeroRecord (recordOf t c b)) ≡ true → recordFormed (t .creation) (recordOf t c b) ≡ true
+      go : (x : Bool) → cond x (recordFormed (t .creation) (recordOf t c b)) (isZeroRecord (recordOf t c b)) ≡ true
+          → recordFormed (t .creation) (recordOf t c b) ≡ true
       go true h = h
       go false h = zero-record-formed (t .creation) (recordOf t c b) h
 
   pub waiting-of : (c b : ℕ) → c < chunkLimit → b < blockLimit → FormedWaiting (t .creation) (recordOf t c b .waiting)
-  waiting-of c b l m = waiting-facts (t .creation) (recordOf t c b .waiting) (record-facts (t .creation) (recordOf t c b) (record-of c b l m) .waiting)
+  waiting-of c b l m =
+      let r = recordOf t c b in
+      waiting-facts (t .creation) (r .waiting) (record-facts (t .creation) r (record-of c b l m) .waiting)

@@ -18,7 +18,7 @@ use Rattle.rules.specs.Words.{every, some, from}
 use Rattle.rules.specs.Zero.{zeroRecord, isZeroRecord, zeroChunk, isZeroChunk, zeroHost, isZeroHost, zeroPlace, zeroTable, noRecord, noChunk, noHost}
 use Rattle.rules.proofs.Lists.{both, walk, each-number}
 use Rattle.rules.proofs.Formed.{well-formed}
-use Rattle.rules.proofs.KeepsParts.{Keeps, passed}
+use Rattle.rules.proofs.KeepsParts.{Keeps, passed-second}
 use Rattle.rules.proofs.KeepsHosts.{read-kept, write-kept, start-kept, finish-kept, timeout-kept, refresh-kept, stop-kept}
 use Rattle.rules.proofs.KeepsChunks.{deliver-kept, drop-kept, run-kept, fail-kept, recover-kept, take-lease-kept, give-lease-kept, overdue-kept}
 use Rattle.rules.proofs.KeepsEpoch.{epoch-kept}
@@ -31,7 +31,8 @@ module _ (k : Creation) where
   fresh-host-at true = refl
   fresh-host-at false = refl
 
-  fresh-chunk-at : (x : Bool) → cond x (chunkFormed k firstEpoch (cond x freshChunk zeroChunk)) (isZeroChunk (cond x freshChunk zeroChunk)) ≡ true
+  fresh-chunk-at : (x : Bool)
+      → cond x (chunkFormed k firstEpoch (cond x freshChunk zeroChunk)) (isZeroChunk (cond x freshChunk zeroChunk)) ≡ true
   unfolding every some from
   fresh-chunk-at true = refl
   fresh-chunk-at false = refl
@@ -98,7 +99,8 @@ fresh-formed k h = well-formed (fresh k) (record {
   epoch = refl;
   hosts = λ i l. rw (each-number (λ i. cond (isHost k i) freshHost zeroHost) hostLimit i noHost l) (fresh-host-at k (isHost k i));
   chunks = λ c l. rw (each-number (λ c. cond (isChunk k c) freshChunk zeroChunk) chunkLimit c noChunk l) (fresh-chunk-at k (isChunk k c));
-  records = λ c b l m. rw (getD-replicate (chunkLimit * blockLimit) (at c b) zeroRecord noRecord (omega arith)) (fresh-record-at k (isChunk k c && isBlock k b));
+  records = λ c b l m. rw (getD-replicate (chunkLimit * blockLimit) (at c b) zeroRecord noRecord (omega arith))
+      (fresh-record-at k (isChunk k c && isBlock k b));
   places = λ p l. rw (getD-replicate placeLimit p zeroPlace zeroPlace l) refl;
 })
 
@@ -113,7 +115,7 @@ unfolding step answered rows
 step-formed t e h =
     let r = ruleOf t e in
     walk (λ (a : Answer). wellFormed (a .table) ≡ true) (eqb (codeOf (rows t r)) 0) _ _ (λ done.
-    let own = passed (not (r .ranges)) 0 (r .refusals) (passed (not (wellFormed t)) 7 _ (eqb-true (codeOf (rows t r)) 0 done) .1) in
+    let own = passed-second (not (wellFormed t)) (not (r .ranges)) 7 0 (r .refusals) (eqb-true (codeOf (rows t r)) 0 done) in
     rule-sound t e .keeps h (not-false (r .ranges) (own .0)) (own .1))
     (λ _. h)
 

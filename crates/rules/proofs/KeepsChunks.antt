@@ -25,7 +25,7 @@ use Rattle.rules.specs.Zero.{noBlocks, zeroEntry, isZeroEntry, zeroWaiti
 use Rattle.rules.proofs.Lists.{three, five, walk, every-drop, every-change, set-all, take-short}
 use Rattle.rules.proofs.Ordered.{insert-length, insert-every, insert-ordered, tail-ordered, mark-ordered}
 use Rattle.rules.proofs.Formed.{Formed, chunk-place, block-place, chunk-facts, chunk-formed, waiting-facts, entries-length, entries-formed, entries-ordered, waiting-formed, head-formed, FormedRecord, record-facts, record-formed, FormedHeader, message-facts, message-formed, host-of, chunk-of, record-of}
-use Rattle.rules.proofs.KeepsParts.{Keeps, keeps, passed, RecordAt, host-kept, chunk-kept, record-kept, records-kept, removed-kept, replied-kept}
+use Rattle.rules.proofs.KeepsParts.{Keeps, keeps, passed-second, RecordAt, host-kept, chunk-kept, record-kept, records-kept, removed-kept, replied-kept}
 use Rattle.rules.proofs.KeepsHosts.{at-host-formed}
 
 -- the later of two timestamps is one
@@ -39,36 +39,46 @@ module _ (k : Creation) where
   unfolding every from
   none-waiting = refl
 
-  inserted-formed : (w : Waiting) (e : Entry) → waitingFormed k w ≡ true → entryFormed k e ≡ true → leb waitingLimit (w .count) ≡ false → waitingFormed k (inserted w e) ≡ true
+  inserted-formed : (w : Waiting) (e : Entry) → waitingFormed k w ≡ true → entryFormed k e ≡ true
+      → leb waitingLimit (w .count) ≡ false → waitingFormed k (inserted w e) ≡ true
   unfolding inserted
   inserted-formed w e h g c =
       let f = waiting-facts k w h in
       let n = leb-false waitingLimit (w .count) c in
-      waiting-formed k (insert e (inOrder w)) (omega (arith, insert-length e (inOrder w), take-short (w .count) (w .entries)))
-      (insert-every (entryFormed k) e (inOrder w) g (entries-formed k w f)) (insert-ordered 0 e (inOrder w) (omega arith) (entries-ordered k w f))
+      let l = inOrder w in
+      waiting-formed k (insert e l) (omega (arith, insert-length e l, take-short (w .count) (w .entries)))
+      (insert-every (entryFormed k) e l g (entries-formed k w f)) (insert-ordered 0 e l (omega arith) (entries-ordered k w f))
 
   head-removed-formed : (w : Waiting) → waitingFormed k w ≡ true → waitingFormed k (headRemoved w) ≡ true
   unfolding headRemoved
   head-removed-formed w h =
       let f = waiting-facts k w h in
-      waiting-formed k (drop 1 (inOrder w)) (omega (arith, length-drop 1 (inOrder w), entries-length k w f))
-      (every-drop (entryFormed k) 1 (inOrder w) (entries-formed k w f)) (tail-ordered (inOrder w) (entries-ordered k w f))
+      let l = inOrder w in
+      waiting-formed k (drop 1 l) (omega (arith, length-drop 1 l, entries-length k w f))
+      (every-drop (entryFormed k) 1 l (entries-formed k w f)) (tail-ordered l (entries-ordered k w f))
 
   marked-formed : (commit : Bool) (t : Timestamp) (w : Waiting) → waitingFormed k w ≡ true → waitingFormed k (marked commit t w) ≡ true
   unfolding marked mark
   marked-formed commit t w h =
       let f = waiting-facts k w h in
-      let i = firstWith t (inOrder w) in
-      waiting-formed k (mark commit t (inOrder w)) (omega (arith, length-set (inOrder w) i (decided commit (getD (inOrder w) i zeroEntry)), entries-length k w f))
-      (every-change (entryFormed k) (decided commit) (λ x q. q) (inOrder w) i zeroEntry (entries-formed k w f)) (mark-ordered commit t (inOrder w) (entries-ordered k w f))
+      let l = inOrder w in
+      let i = firstWith t l in
+      waiting-formed k (mark commit t l) (omega (arith, length-set l i (decided commit (getD l i zeroEntry)), entries-length k w f))
+      (every-change (entryFormed k) (decided commit) (λ x q. q) l i zeroEntry (entries-formed k w f))
+      (mark-ordered commit t l (entries-ordered k w f))
 
   -- ---- records
 
   -- a record with another waiting list
   rewaited : (r : Record) (w : Waiting) → recordFormed k r ≡ true → waitingFormed k w ≡ true → recordFormed k (withWaiting r w) ≡ true
-  rewaited r w h g = let f = record-facts k r h in record-formed k (withWaiting r w) (record { read = f .read; write = f .write; waiting = g })
+  rewaited r w h g =
+      let f = record-facts k r h in
+      record-formed k (withWaiting r w) (record { read = f .read; write = f .write; waiting = g })
 
-  none-used : every (λ i. isZeroEntry (getD (zeroWaiting .entries) i zeroEntry)) (numbers waitingLimit) ≡ true
+  abbrev allUnused : Waiting → Bool
+  allUnused w = every (λ i. isZeroEntry (getD (w .entries) i zeroEntry)) (numbers waitingLimit)
+
+  none-used : allUnused zeroWaiting ≡ true
   unfolding every from
   none-used = refl
 
@@ -76,10 +86,12 @@ module _ (k : Creation) where
   pub emptied-at : (c b : ℕ) (r : Record) → RecordAt k c b r → RecordAt k c b (emptied r)
   emptied-at c b r h = go (isChunk k c && isBlock k b) h
     where
-      go : (x : Bool) → cond x (recordFormed k r) (isZeroRecord r) ≡ true → cond x (recordFormed k (emptied r)) (isZeroRecord (emptied r)) ≡ true
+      go : (x : Bool) → cond x (recordFormed k r) (isZeroRecord r) ≡ true
+          → cond x (recordFormed k (emptied r)) (isZeroRecord (emptied r)) ≡ true
       go true h = rewaited r zeroWaiting h none-waiting
       go false h =
-          let f = five (eqb (r .value) 0) (r .read is never) (r .write is never) (eqb (r .waiting .count) 0) (every (λ i. isZeroEntry (getD (r .waiting .entries) i zeroEntry)) (numbers waitingLimit)) h in
+          let w = r .waiting in
+          let f = five (eqb (r .value) 0) (r .read is never) (r .write is never) (eqb (w .count) 0) (allUnused w) h in
           rw (f .0, f .1, f .2) none-used
 
   -- ---- what a message or a run makes of chunk c's record of block b: a record that may stand there, and a formed reply
@@ -89,7 +101,8 @@ module _ (k : Creation) where
     pub reply : slotFormed k (a .reply) ≡ true
 
   module _ (c b : ℕ) where
-    answers : (r : Record) (m : Message) → RecordAt k c b r → FormedHeader k (headerOf m) → isEpoch (epochOf m) ≡ true → Arrives c b (answering r m)
+    answers : (r : Record) (m : Message) → RecordAt k c b r → FormedHeader k (headerOf m) → isEpoch (epochOf m) ≡ true
+        → Arrives c b (answering r m)
     answers r m h f e = record { block = h; reply = message-formed k m f e }
 
     is-silent : (r : Record) → RecordAt k c b r → Arrives c b (silent r)
@@ -104,12 +117,14 @@ module _ (k : Creation) where
     b = header .block
 
     -- the record of a block of the store's, with another waiting list
-    waits-at : isBlock k b ≡ true → (w : Waiting) → (waitingFormed k (r .waiting) ≡ true → waitingFormed k w ≡ true) → RecordAt k c b (withWaiting r w)
+    waits-at : isBlock k b ≡ true → (w : Waiting) → (waitingFormed k (r .waiting) ≡ true → waitingFormed k w ≡ true)
+        → RecordAt k c b (withWaiting r w)
     waits-at e w g =
         let now : recordFormed k r ≡ true = rw (f .chunk, e) at h in
         rw (f .chunk, e) (rewaited r w now (g (record-facts k r now .waiting)))
 
-    arrived-at : (current epoch : Epoch) (kind : Kind) → isEpoch epoch ≡ true → Arrives c b (arrived (k .blocks) current r header epoch kind)
+    arrived-at : (current epoch : Epoch) (kind : Kind) → isEpoch epoch ≡ true
+        → Arrives c b (arrived (k .blocks) current r header epoch kind)
     unfolding arrived
     arrived-at current epoch kind e =
         let x = entryOf header epoch kind in
@@ -133,8 +148,12 @@ module _ (k : Creation) where
   at-chunk : (current : Epoch) (r : Record) (m : Message) → RecordAt k (headerOf m .chunk) (headerOf m .block) r → messageFormed k m ≡ true
       → Arrives (headerOf m .chunk) (headerOf m .block) (atChunk (k .blocks) current r m)
   unfolding atChunk
-  at-chunk current r (Message.Read header epoch) h g = let f = message-facts k (Message.Read header epoch) g in arrived-at r header h (f .header) current epoch Kind.Read (f .epoch)
-  at-chunk current r (Message.Prewrite header epoch v) h g = let f = message-facts k (Message.Prewrite header epoch v) g in arrived-at r header h (f .header) current epoch (Kind.Undecided v) (f .epoch)
+  at-chunk current r (Message.Read header epoch) h g =
+      let f = message-facts k (Message.Read header epoch) g in
+      arrived-at r header h (f .header) current epoch Kind.Read (f .epoch)
+  at-chunk current r (Message.Prewrite header epoch v) h g =
+      let f = message-facts k (Message.Prewrite header epoch v) g in
+      arrived-at r header h (f .header) current epoch (Kind.Undecided v) (f .epoch)
   at-chunk current r (Message.Commit header epoch) h g = decides-at r header h (message-facts k (Message.Commit header epoch) g .header) true
   at-chunk current r (Message.Abort header epoch) h g = decides-at r header h (message-facts k (Message.Abort header epoch) g .header) false
   at-chunk current r (Message.Mismatch header) h g = is-silent (header .chunk) (header .block) r h
@@ -155,15 +174,18 @@ module _ (k : Creation) where
     runs-at r x (Kind.Committed v) f g =
         let t = three (isTimestamp (x .timestamp)) (isHost k (x .sender)) (isEpoch (x .epoch)) g in
         let now = withWrite (withValue r v) (later (r .write) (x .timestamp)) in
-        is-silent c b now (stands now (record { read = f .read; write = later-formed (r .write) (x .timestamp) (f .write) (t .0); waiting = f .waiting }))
+        let up = later-formed (r .write) (x .timestamp) (f .write) (t .0) in
+        is-silent c b now (stands now (record { read = f .read; write = up; waiting = f .waiting }))
     runs-at r x Kind.Read f g =
         let t = three (isTimestamp (x .timestamp)) (isHost k (x .sender)) (isEpoch (x .epoch)) g in
         let header = headed (x .sender) c b (x .timestamp) in
         let now = withRead r (later (r .read) (x .timestamp)) in
-        let fits : FormedHeader k header = record { host = t .1; chunk = d; block = lt-ltb b blockLimit (block-place k b e w); timestamp = t .0 } in
-        let raised : FormedRecord k now = record { read = later-formed (r .read) (x .timestamp) (f .read) (t .0); write = f .write; waiting = f .waiting } in
+        let l = lt-ltb b blockLimit (block-place k b e w) in
+        let fits : FormedHeader k header = record { host = t .1; chunk = d; block = l; timestamp = t .0 } in
+        let up = later-formed (r .read) (x .timestamp) (f .read) (t .0) in
+        let raised = stands now (record { read = up; write = f .write; waiting = f .waiting }) in
         walk (Arrives c b) (x .timestamp below r .write) _ _ (λ _. answers c b r (Message.OutOfOrder header) (stands r f) fits refl)
-        (λ _. answers c b now (Message.ReadReply header (r .value)) (stands now raised) fits refl)
+        (λ _. answers c b now (Message.ReadReply header (r .value)) raised fits refl)
 
     ran-at : (r : Record) → recordFormed k r ≡ true → 0 < r .waiting .count → Arrives c b (ran c b r)
     unfolding ran
@@ -182,7 +204,8 @@ module _ (k : Creation) where
     reconcile = λ b l q. absurd (true≢false (sym q ∙ rw e (getD-replicate blockLimit b false false l)));
   })
 
-  overdue-formed : (current : Epoch) (c : Chunk) (b : ℕ) → chunkFormed k current c ≡ true → isBlock k b ≡ true → chunkFormed k current (overdue c b) ≡ true
+  overdue-formed : (current : Epoch) (c : Chunk) (b : ℕ) → chunkFormed k current c ≡ true → isBlock k b ≡ true
+      → chunkFormed k current (overdue c b) ≡ true
   overdue-formed current c b h e =
       let f = chunk-facts k current c h in
       chunk-formed k current (overdue c b) (record {
@@ -199,7 +222,8 @@ module _ (t : Table) (f : Formed t) where
       let b = headerOf m .block in
       let h = message-facts (t .creation) m g .header in
       let l = ltb-true b blockLimit (h .block) in
-      let r = at-chunk (t .creation) (chunkOf t c .epoch) (recordOf t c b) m (f .records c b (chunk-place (t .creation) c (h .chunk) (f .creation)) l) g in
+      let old = f .records c b (chunk-place (t .creation) c (h .chunk) (f .creation)) l in
+      let r = at-chunk (t .creation) (chunkOf t c .epoch) (recordOf t c b) m old g in
       let a = atChunk (t .creation .blocks) (chunkOf t c .epoch) (recordOf t c b) m in
       walk Formed (isNormal (chunkOf t c .state)) _ _
       (λ _. replied-kept (withRecord t c b (a .block)) (record-kept t f c b (a .block) l (r .block)) (a .reply) (r .reply))
@@ -215,7 +239,8 @@ module _ (t : Table) (f : Formed t) where
 
   taken : (s : Slot) → slotFormed (t .creation) s ≡ true → Formed (takes t s)
   taken Slot.Empty g = f
-  taken (Slot.Full m) g = walk Formed (isForChunk m) (chunkTakes t (headerOf m) m) (hostTakes t (headerOf m) m) (λ _. chunk-takes m g) (λ _. host-takes m g)
+  taken (Slot.Full m) g =
+      walk Formed (isForChunk m) (chunkTakes t (headerOf m) m) (hostTakes t (headerOf m) m) (λ _. chunk-takes m g) (λ _. host-takes m g)
 
 module _ (t : Table) where
   abbrev creation : Creation
@@ -226,7 +251,8 @@ module _ (t : Table) where
   deliver-kept place b c =
       keeps t (deliverRule t place b c) (λ f e p.
       let r = three (isPlace place) (unused b) (unused c) e in
-      taken (withPlaces t (removed (t .places) place)) (removed-kept t f place) (slotOf (t .places) place) (f .places place (ltb-true place placeLimit (r .0))))
+      taken (withPlaces t (removed (t .places) place)) (removed-kept t f place) (slotOf (t .places) place)
+      (f .places place (ltb-true place placeLimit (r .0))))
 
   pub drop-kept : (place b c : ℕ) → Keeps t (dropRule t place b c)
   unfolding dropRule
@@ -242,8 +268,10 @@ module _ (t : Table) where
       let a = ran chunk block r in
       let s = three (isChunk creation chunk) (isBlock creation block) (unused c) e in
       let l = block-place creation block (s .1) (f .creation) in
-      let some = eqb-false (r .waiting .count) 0 (passed (eqb (r .waiting .count) 0) 1 _ (passed (not (isNormal (chunkOf t chunk .state))) 1 _ p .1) .0) in
-      let g = ran-at creation (f .creation) chunk block (s .0) (s .1) r (record-of t f chunk block (chunk-place creation chunk (s .0) (f .creation)) l) (omega arith) in
+      let n = r .waiting .count in
+      let some = eqb-false n 0 (passed-second (not (isNormal (chunkOf t chunk .state))) (eqb n 0) 1 1 _ p .0) in
+      let old = record-of t f chunk block (chunk-place creation chunk (s .0) (f .creation)) l in
+      let g = ran-at creation (f .creation) chunk block (s .0) (s .1) r old (omega arith) in
       replied-kept (withRecord t chunk block (a .block)) (record-kept t f chunk block (a .block) l (g .block)) (a .reply) (g .reply))
 
   pub fail-kept : (chunk b c : ℕ) → Keeps t (failRule t chunk b c)
@@ -254,10 +282,13 @@ module _ (t : Table) where
       let x = chunkOf t chunk in
       let now = blank-formed creation (t .epoch) (failed x) (chunk-facts creation (t .epoch) x (chunk-of t f chunk (s .0)) .epoch) refl in
       records-kept (withChunk t chunk (failed x)) (chunk-kept t f chunk (failed x) (s .0) now) _
-      (λ c b l m. walk (RecordAt creation c b) (eqb c chunk) _ _ (λ _. emptied-at creation c b (recordOf t c b) (f .records c b l m)) (λ _. f .records c b l m)))
+      (λ c b l m.
+      let old = f .records c b l m in
+      walk (RecordAt creation c b) (eqb c chunk) _ _ (λ _. emptied-at creation c b (recordOf t c b) old) (λ _. old)))
 
   -- an event that changes a chunk's state alone
-  state-kept : (chunk b c : ℕ) (refusals : List Row) (state : State) → Keeps t (chunkRule t chunk b c refusals (withChunk t chunk (withState (chunkOf t chunk) state)))
+  state-kept : (chunk b c : ℕ) (refusals : List Row) (state : State)
+      → Keeps t (chunkRule t chunk b c refusals (withChunk t chunk (withState (chunkOf t chunk) state)))
   state-kept chunk b c refusals state =
       keeps t (chunkRule t chunk b c refusals (withChunk t chunk (withState (chunkOf t chunk) state))) (λ f e p.
       let s = three (isChunk creation chunk) (unused b) (unused c) e in
@@ -280,4 +311,5 @@ module _ (t : Table) where
   overdue-kept chunk block now =
       keeps t (overdueRule t chunk block now) (λ f e p.
       let s = three (isChunk creation chunk) (isBlock creation block) (upTo greatestClock now) e in
-      chunk-kept t f chunk (overdue (chunkOf t chunk) block) (s .0) (overdue-formed creation (t .epoch) (chunkOf t chunk) block (chunk-of t f chunk (s .0)) (s .1)))
+      let x = chunkOf t chunk in
+      chunk-kept t f chunk (overdue x block) (s .0) (overdue-formed creation (t .epoch) x block (chunk-of t f chunk (s .0)) (s .1)))

@@ -7,7 +7,7 @@ use lib.ListN.{getD}
 use lib.Dec.{eqb}
 use borrow.Author.Tests.{leb-true, le-leb, eq-eqb, eqb-false}
 use native.Mathlib.Omega.{arith}
-use Rattle.rules.specs.Types.{Timestamp, Creation, Entry, State, Chunk, Table, Copy}
+use Rattle.rules.specs.Types.{Timestamp, Creation, Entry, Record, State, Chunk, Table, Copy}
 use Rattle.rules.specs.Chunks.{emptied}
 use Rattle.rules.specs.Events.{copyOf, copiesOf, renewed, epochChanged, epochRule}
 use Rattle.rules.specs.Formed.{chunkFormed, entryFormed, recordFormed}
@@ -20,7 +20,7 @@ use Rattle.rules.specs.Words.{those, each, every, some, numbers}
 use Rattle.rules.specs.Zero.{_among_, noBlocks, isZeroChunk, noCopy, noChunk}
 use Rattle.rules.proofs.Lists.{three, walk, every-of-all, every-each, every-each-number, every-joined, fold-keeps, each-number, each-each-number}
 use Rattle.rules.proofs.Formed.{Formed, of-store, set-of-store, set-of-block, waiting-facts, entries-formed, record-facts, record-formed, record-of}
-use Rattle.rules.proofs.KeepsParts.{Keeps, keeps, passed, RecordAt, records-kept}
+use Rattle.rules.proofs.KeepsParts.{Keeps, keeps, passed-second, RecordAt, records-kept}
 use Rattle.rules.proofs.KeepsChunks.{later-formed, none-waiting, emptied-at, blank-formed}
 
 -- the greatest of timestamps is one
@@ -38,12 +38,16 @@ module _ (k : Creation) where
       let w = c .block .waiting in
       every-each isTimestamp (entryFormed k) (λ (e : Entry). e .timestamp) (those (λ e. isWrite (e .kind)) (waiting c))
       (λ e g. three (isTimestamp (e .timestamp)) (isHost k (e .sender)) (isEpoch (e .epoch)) g .0)
-      (every-of-all (entryFormed k) (λ e. isWrite (e .kind)) (waiting c) (entries-formed k w (waiting-facts k w (record-facts k (c .block) h .waiting))))
+      (every-of-all (entryFormed k) (λ e. isWrite (e .kind)) (waiting c)
+      (entries-formed k w (waiting-facts k w (record-facts k (c .block) h .waiting))))
 
   module _ (copies : List Copy) (h : every copyFormed copies ≡ true) where
     -- the greatest over the set
-    over-set : (f : Copy → Timestamp) → ((c : Copy) → copyFormed c ≡ true → isTimestamp (f c) ≡ true) → isTimestamp (greatest (each f (those inSet copies))) ≡ true
-    over-set f g = greatest-formed (each f (those inSet copies)) (every-each isTimestamp copyFormed f (those inSet copies) g (every-of-all copyFormed inSet copies h))
+    over-set : (f : Copy → Timestamp) → ((c : Copy) → copyFormed c ≡ true → isTimestamp (f c) ≡ true)
+        → isTimestamp (greatest (each f (those inSet copies))) ≡ true
+    over-set f g =
+        let members = those inSet copies in
+        greatest-formed (each f members) (every-each isTimestamp copyFormed f members g (every-of-all copyFormed inSet copies h))
 
     W-formed : isTimestamp (W copies) ≡ true
     unfolding W
@@ -54,13 +58,15 @@ module _ (k : Creation) where
     latest-formed =
         let alive = those notLost copies in
         greatest-formed (commits copies) (every-of-all isTimestamp (committed copies) (writes copies)
-        (every-joined isTimestamp (each writesOf alive) (every-each (every isTimestamp) copyFormed writesOf alive writes-of-formed (every-of-all copyFormed notLost copies h))))
+        (every-joined isTimestamp (each writesOf alive)
+        (every-each (every isTimestamp) copyFormed writesOf alive writes-of-formed (every-of-all copyFormed notLost copies h))))
 
     settled-formed : recordFormed k (settledRecord copies) ≡ true
     unfolding settledRecord
     settled-formed = record-formed k (settledRecord copies) (record {
       read = over-set lastRead (λ c g. record-facts k (c .block) g .read);
-      write = walk (λ (x : Timestamp). isTimestamp x ≡ true) (some (committed copies) (writes copies)) (latest copies) (W copies) (λ _. latest-formed) (λ _. W-formed);
+      write = walk (λ (x : Timestamp). isTimestamp x ≡ true) (some (committed copies) (writes copies)) (latest copies) (W copies)
+          (λ _. latest-formed) (λ _. W-formed);
       waiting = none-waiting k;
     })
 
@@ -76,7 +82,9 @@ module _ (t : Table) (f : Formed t) where
   settled-at c b l m =
       let copies = copiesOf t b in
       let s = setOf creation b in
-      rw (each-each-number (λ (x : Copy). record { member = x .member; lost = x .lost; block = cond (inSet x) (settledRecord copies) (emptied (x .block)) }) (copyOf t b) chunkLimit c noCopy l)
+      let after : Copy → Record = λ x. cond (inSet x) (settledRecord copies) (emptied (x .block)) in
+      let now : Copy → Copy = λ x. record { member = x .member; lost = x .lost; block = after x } in
+      rw (each-each-number now (copyOf t b) chunkLimit c noCopy l)
       (walk (RecordAt creation c b) (c among s) (settledRecord copies) (emptied (recordOf t c b))
       (λ e.
       let d = set-of-block creation b c (f .creation) m l e in
@@ -84,7 +92,8 @@ module _ (t : Table) (f : Formed t) where
       (settled-formed creation copies (every-each-number (copyFormed creation) (copyOf t b) chunkLimit (λ i n. record-of t f i b n m))))
       (λ _. emptied-at creation c b (recordOf t c b) (f .records c b l m)))
 
-  renewed-at : (c : ℕ) → c < chunkLimit → cond (isChunk creation c) (chunkFormed creation (next (t .epoch)) (renewed t c)) (isZeroChunk (renewed t c)) ≡ true
+  renewed-at : (c : ℕ) → c < chunkLimit
+      → cond (isChunk creation c) (chunkFormed creation (next (t .epoch)) (renewed t c)) (isZeroChunk (renewed t c)) ≡ true
   renewed-at c l = go (isChunk creation c) (f .chunks c l)
     where
       blank : Chunk
@@ -111,4 +120,5 @@ pub epoch-kept : (t : Table) (a b c : ℕ) → Keeps t (epochRule t a b c)
 unfolding epochRule
 epoch-kept t a b c =
     keeps t (epochRule t a b c) (λ f e p.
-    changed-formed t f (passed (eqb (t .epoch .0) greatestClock) 6 _ (passed (some (λ c. isFailed (chunkOf t c .state)) (numbers chunkLimit)) 1 _ p .1) .0))
+    let anyFailed = some (λ c. isFailed (chunkOf t c .state)) (numbers chunkLimit) in
+    changed-formed t f (passed-second anyFailed (eqb (t .epoch .0) greatestClock) 1 6 _ p .0))

@@ -21,7 +21,7 @@ use Rattle.rules.specs.Words.{every, some, from}
 use Rattle.rules.specs.Zero.{_among_, isEmpty, zeroSet, zeroAttempt, isZeroAttempt}
 use Rattle.rules.proofs.Lists.{three, walk, every-one, every-append, every-drop, each-number, set-all, take-short}
 use Rattle.rules.proofs.Formed.{one-to, Formed, host-place, chunk-place, block-place, member-some, of-store, is-of-store, set-of-store, queue-facts, operations-length, operations-formed, queue-formed, front-block, FormedAttempt, attempt-facts, attempt-formed, outstanding-current, host-facts, host-formed, FormedHeader, message-facts, message-formed, host-of, queue-of}
-use Rattle.rules.proofs.KeepsParts.{Keeps, keeps, passed, host-kept, sent-to-each-kept}
+use Rattle.rules.proofs.KeepsParts.{Keeps, keeps, passed, passed-second, host-kept, sent-to-each-kept}
 
 module _ (k : Creation) where
   -- ---- attempts, and sets of chunks
@@ -36,12 +36,17 @@ module _ (k : Creation) where
   recounted n m a h l = go (a .timestamp above never) refl
     where
       go : (b : Bool) → a .timestamp above never ≡ b → attemptFormed k m a ≡ true
-      go true e = let f = attempt-facts k n a h e in attempt-formed k m a e (record { one = l; timestamp = f .timestamp; outstanding = f .outstanding })
+      go true e =
+          let f = attempt-facts k n a h e in
+          attempt-formed k m a e (record { one = l; timestamp = f .timestamp; outstanding = f .outstanding })
       go false e = let zero : isZeroAttempt a ≡ true = rw e at h in rw e zero
 
   -- a host with another attempt
-  attempted : (h : Host) (a : Attempt) → hostFormed k h ≡ true → attemptFormed k (h .queue .count) a ≡ true → hostFormed k (withAttempt h a) ≡ true
-  attempted h a f e = let r = host-facts k h f in host-formed k (withAttempt h a) (record { queue = r .queue; attempt = e; epoch = r .epoch; clock = r .clock })
+  attempted : (h : Host) (a : Attempt) → hostFormed k h ≡ true → attemptFormed k (h .queue .count) a ≡ true
+      → hostFormed k (withAttempt h a) ≡ true
+  attempted h a f e =
+      let r = host-facts k h f in
+      host-formed k (withAttempt h a) (record { queue = r .queue; attempt = e; epoch = r .epoch; clock = r .clock })
 
   nobody-of-store : ofStore k zeroSet ≡ true
   unfolding every from
@@ -54,30 +59,37 @@ module _ (k : Creation) where
   answered-of-store : (a : Attempt) (c : ℕ) → ofStore k (a .outstanding) ≡ true → ofStore k (answeredBy a c .outstanding) ≡ true
   answered-of-store a c h =
       is-of-store k (answeredBy a c .outstanding)
-      (set-all (λ i b. i < chunkLimit → b ≡ true → isChunk k i ≡ true) false (a .outstanding .chunks) c false (λ _ e. absurd (false≢true e)) (of-store k (a .outstanding) h))
+      (set-all (λ i b. i < chunkLimit → b ≡ true → isChunk k i ≡ true) false (a .outstanding .chunks) c false
+      (λ _ e. absurd (false≢true e)) (of-store k (a .outstanding) h))
 
   -- ---- one host
 
-  appended-formed : (h : Host) (o : Operation) → hostFormed k h ≡ true → isBlock k (o .block) ≡ true → leb operationLimit (h .queue .count) ≡ false → hostFormed k (appended h o) ≡ true
+  appended-formed : (h : Host) (o : Operation) → hostFormed k h ≡ true → isBlock k (o .block) ≡ true
+      → leb operationLimit (h .queue .count) ≡ false → hostFormed k (appended h o) ≡ true
   unfolding appended queueOf
   appended-formed h o f e full =
       let r = host-facts k h f in
       let l = operationsOf h ++ o ∷ [] in
       let n = leb-false operationLimit (h .queue .count) full in
       let m = length-append (operationsOf h) (o ∷ []) in
+      let old = operations-formed k h (queue-facts k (h .queue) (r .queue)) in
       host-formed k (appended h o) (record {
         queue = queue-formed k l (omega (arith, take-short (h .queue .count) (h .queue .operations)))
-            (every-append (operationFormed k) (operationsOf h) (o ∷ []) (operations-formed k h (queue-facts k (h .queue) (r .queue))) (every-one (operationFormed k) o e));
+            (every-append (operationFormed k) (operationsOf h) (o ∷ []) old (every-one (operationFormed k) o e));
         attempt = recounted (h .queue .count) (length l) (h .attempt) (r .attempt) (omega arith);
         epoch = r .epoch;
         clock = r .clock;
       })
 
   -- clock and host number make a timestamp
-  stamp-formed : (clock host : ℕ) → isCreation k ≡ true → isHost k host ≡ true → oneTo greatestClock clock ≡ true → isTimestamp (stamp clock host) ≡ true
-  stamp-formed clock host w e c = let r = one-to greatestClock clock c in le-leb (clock * 8 + host) greatestTimestamp (omega (arith, r .1, host-place k host e w))
+  stamp-formed : (clock host : ℕ) → isCreation k ≡ true → isHost k host ≡ true → oneTo greatestClock clock ≡ true
+      → isTimestamp (stamp clock host) ≡ true
+  stamp-formed clock host w e c =
+      let r = one-to greatestClock clock c in
+      le-leb (clock * 8 + host) greatestTimestamp (omega (arith, r .1, host-place k host e w))
 
-  started-formed : (h : Host) (clock host : ℕ) (to : Set) → hostFormed k h ≡ true → isTimestamp (stamp clock host) ≡ true → oneTo greatestClock clock ≡ true → 1 ≤ h .queue .count → ofStore k to ≡ true
+  started-formed : (h : Host) (clock host : ℕ) (to : Set) → hostFormed k h ≡ true → isTimestamp (stamp clock host) ≡ true
+      → oneTo greatestClock clock ≡ true → 1 ≤ h .queue .count → ofStore k to ≡ true
       → hostFormed k (started h (stamp clock host) clock to) ≡ true
   started-formed h clock host to f s c one g =
       let r = host-facts k h f in
@@ -85,7 +97,8 @@ module _ (k : Creation) where
       let a = started h (stamp clock host) clock to .attempt in
       host-formed k (started h (stamp clock host) clock to) (record {
         queue = r .queue;
-        attempt = attempt-formed k (h .queue .count) a (lt-ltb 0 (clock * 8 + host) (omega (arith, u .0))) (record { one = one; timestamp = s; outstanding = g });
+        attempt = attempt-formed k (h .queue .count) a (lt-ltb 0 (clock * 8 + host) (omega (arith, u .0)))
+            (record { one = one; timestamp = s; outstanding = g });
         epoch = r .epoch;
         clock = le-leb clock greatestClock (u .1);
       })
@@ -99,7 +112,8 @@ module _ (k : Creation) where
       walk (λ (x : Host). hostFormed k x ≡ true) (goesBack (h .attempt)) (ended h) (withQueue (ended h) (queueOf l))
       (λ _. attempted h zeroAttempt f (none-formed (h .queue .count)))
       (λ _. host-formed k (withQueue (ended h) (queueOf l)) (record {
-        queue = queue-formed k l (omega (arith, length-drop 1 (operationsOf h), operations-length k h q)) (every-drop (operationFormed k) 1 (operationsOf h) (operations-formed k h q));
+        queue = queue-formed k l (omega (arith, length-drop 1 (operationsOf h), operations-length k h q))
+            (every-drop (operationFormed k) 1 (operationsOf h) (operations-formed k h q));
         attempt = none-formed (length l);
         epoch = r .epoch;
         clock = r .clock;
@@ -116,13 +130,15 @@ module _ (k : Creation) where
   -- ---- a reply at a host
 
   -- a current attempt with other okay, restart and result
-  flagged : (h : Host) (a : Attempt) (okay restart : Bool) (result : ℕ) → hostFormed k h ≡ true → a .timestamp above never ≡ true → FormedAttempt k (h .queue .count) a
+  flagged : (h : Host) (a : Attempt) (okay restart : Bool) (result : ℕ) → hostFormed k h ≡ true → a .timestamp above never ≡ true
+      → FormedAttempt k (h .queue .count) a
       → hostFormed k (withAttempt h (record { timestamp = a .timestamp; outstanding = a .outstanding; okay = okay; restart = restart; result = result })) ≡ true
   flagged h a okay restart result f e r =
       let b : Attempt = record { timestamp = a .timestamp; outstanding = a .outstanding; okay = okay; restart = restart; result = result } in
       attempted h b f (attempt-formed k (h .queue .count) b e (record { one = r .one; timestamp = r .timestamp; outstanding = r .outstanding }))
 
-  heard-formed : (h : Host) (a : Attempt) (m : Message) → hostFormed k h ≡ true → a .timestamp above never ≡ true → FormedAttempt k (h .queue .count) a → hostFormed k (heard h a m) ≡ true
+  heard-formed : (h : Host) (a : Attempt) (m : Message) → hostFormed k h ≡ true → a .timestamp above never ≡ true
+      → FormedAttempt k (h .queue .count) a → hostFormed k (heard h a m) ≡ true
   heard-formed h a (Message.Mismatch header) f e r = flagged h a false (a .restart) (a .result) f e r
   heard-formed h a (Message.OutOfOrder header) f e r = flagged h a false (a .restart) (a .result) f e r
   heard-formed h a (Message.Busy header) f e r = flagged h a false (a .restart) (a .result) f e r
@@ -134,7 +150,8 @@ module _ (k : Creation) where
   heard-formed h a (Message.Commit header epoch) f e r = f
   heard-formed h a (Message.Abort header epoch) f e r = f
 
-  pub at-host-formed : (h : Host) (m : Message) → isCreation k ≡ true → hostFormed k h ≡ true → messageFormed k m ≡ true → hostFormed k (atHost h m) ≡ true
+  pub at-host-formed : (h : Host) (m : Message) → isCreation k ≡ true → hostFormed k h ≡ true → messageFormed k m ≡ true
+      → hostFormed k (atHost h m) ≡ true
   unfolding atHost
   at-host-formed h m w f g =
       let a = h .attempt in
@@ -144,12 +161,14 @@ module _ (k : Creation) where
       let l = chunk-place k c (message-facts k m g .header .chunk) w in
       let now = outstanding-current k (h .queue .count) a (host-facts k h f .attempt) (member-some (a .outstanding) c l member) in
       let r = attempt-facts k (h .queue .count) a (host-facts k h f .attempt) now in
-      heard-formed h (answeredBy a c) m f now (record { one = r .one; timestamp = r .timestamp; outstanding = answered-of-store a c (r .outstanding) }))
+      let left = answered-of-store a c (r .outstanding) in
+      heard-formed h (answeredBy a c) m f now (record { one = r .one; timestamp = r .timestamp; outstanding = left }))
       (λ _. f)
 
   -- ---- the messages of start and finish
 
-  opening-of-store : (a : Action) (copy : ℕ) (holders : Set) → isChunk k copy ≡ true → ofStore k holders ≡ true → ofStore k (openingTo a copy holders) ≡ true
+  opening-of-store : (a : Action) (copy : ℕ) (holders : Set) → isChunk k copy ≡ true → ofStore k holders ≡ true
+      → ofStore k (openingTo a copy holders) ≡ true
   opening-of-store Action.Read copy holders h g = only-of-store copy h
   opening-of-store (Action.Write v) copy holders h g = g
 
@@ -157,11 +176,13 @@ module _ (k : Creation) where
   closing-of-store Action.Read holders g = nobody-of-store
   closing-of-store (Action.Write v) holders g = g
 
-  opening-formed : (header : Header) (epoch : Epoch) (a : Action) → FormedHeader k header → isEpoch epoch ≡ true → messageFormed k (opening header epoch a) ≡ true
+  opening-formed : (header : Header) (epoch : Epoch) (a : Action) → FormedHeader k header → isEpoch epoch ≡ true
+      → messageFormed k (opening header epoch a) ≡ true
   opening-formed header epoch Action.Read f e = message-formed k (Message.Read header epoch) f e
   opening-formed header epoch (Action.Write v) f e = message-formed k (Message.Prewrite header epoch v) f e
 
-  closing-formed : (okay : Bool) (header : Header) (epoch : Epoch) → FormedHeader k header → isEpoch epoch ≡ true → messageFormed k (closing okay header epoch) ≡ true
+  closing-formed : (okay : Bool) (header : Header) (epoch : Epoch) → FormedHeader k header → isEpoch epoch ≡ true
+      → messageFormed k (closing okay header epoch) ≡ true
   closing-formed true header epoch f e = message-formed k (Message.Commit header epoch) f e
   closing-formed false header epoch f e = message-formed k (Message.Abort header epoch) f e
 
@@ -176,7 +197,7 @@ module _ (t : Table) where
       keeps t (intakeRule t host block inRange o) (λ f e p.
       let r = three (isHost creation host) (isBlock creation block) inRange e in
       let h = hostOf t host in
-      let full = passed (leb operationLimit (h .queue .count)) 3 [] (passed (not (h .working)) 1 _ p .1) .0 in
+      let full = passed-second (not (h .working)) (leb operationLimit (h .queue .count)) 1 3 [] p .0 in
       host-kept t f host (appended h o) (r .0) (appended-formed creation h o (host-of t f host (r .0)) (rw about (r .1)) full))
 
   pub read-kept : (host block c : ℕ) → Keeps t (readRule t host block c)
@@ -199,7 +220,9 @@ module _ (t : Table) where
     holders-of = set-of-store creation block (f .creation) front-of
 
     header-of : (s : Timestamp) → isTimestamp s ≡ true → (c : ℕ) → isChunk creation c ≡ true → FormedHeader creation (headed host c block s)
-    header-of s g c h = record { host = e; chunk = h; block = lt-ltb block blockLimit (block-place creation block front-of (f .creation)); timestamp = g }
+    header-of s g c h =
+        let l = lt-ltb block blockLimit (block-place creation block front-of (f .creation)) in
+        record { host = e; chunk = h; block = l; timestamp = g }
 
   pub start-kept : (host clock copy : ℕ) → Keeps t (startRule t host clock copy)
   unfolding startRule
@@ -209,14 +232,17 @@ module _ (t : Table) where
       let o = front h in
       let to = openingTo (o .action) copy (holdersOf t h) in
       let r = three (isHost creation host) (oneTo greatestClock clock) (isChunk creation copy) e in
-      let some = eqb-false (h .queue .count) 0 (passed (eqb (h .queue .count) 0) 1 _ (passed (hasCurrent h) 1 _ (passed (not (h .working)) 1 _ p .1) .1) .0) in
-      let one : 1 ≤ h .queue .count = omega arith in
+      let n = h .queue .count in
+      let some = eqb-false n 0 (passed (eqb n 0) 1 _ (passed-second (not (h .working)) (hasCurrent h) 1 1 _ p .1) .0) in
+      let one : 1 ≤ n = omega arith in
       let g = host-of t f host (r .0) in
+      let now = stamp clock host in
       let s = stamp-formed creation clock host (f .creation) (r .0) (r .1) in
-      let n = opening-of-store creation (o .action) copy (holdersOf t h) (r .2) (holders-of f host (r .0) one) in
-      sent-to-each-kept (withHost t host (started h (stamp clock host) clock to))
-      (host-kept t f host (started h (stamp clock host) clock to) (r .0) (started-formed creation h clock host to g s (r .1) one n)) to _ n
-      (λ c q. opening-formed creation (headed host c (o .block) (stamp clock host)) (h .epoch) (o .action) (header-of f host (r .0) one (stamp clock host) s c q) (host-facts creation h g .epoch)))
+      let ours = opening-of-store creation (o .action) copy (holdersOf t h) (r .2) (holders-of f host (r .0) one) in
+      sent-to-each-kept (withHost t host (started h now clock to))
+      (host-kept t f host (started h now clock to) (r .0) (started-formed creation h clock host to g s (r .1) one ours)) to _ ours
+      (λ c q. opening-formed creation (headed host c (o .block) now) (h .epoch) (o .action)
+      (header-of f host (r .0) one now s c q) (host-facts creation h g .epoch)))
 
   pub finish-kept : (host b c : ℕ) → Keeps t (finishRule t host b c)
   unfolding finishRule
@@ -226,16 +252,19 @@ module _ (t : Table) where
       let o = front h in
       let to = closingTo (o .action) (holdersOf t h) in
       let r = three (isHost creation host) (unused b) (unused c) e in
-      let has = not-false (hasCurrent h) (passed (not (hasCurrent h)) 1 _ (passed (not (h .working)) 1 _ p .1) .0) in
+      let has = not-false (hasCurrent h) (passed-second (not (h .working)) (not (hasCurrent h)) 1 1 _ p .0) in
+      let now = h .attempt .timestamp in
       let g = host-of t f host (r .0) in
       let a = attempt-facts creation (h .queue .count) (h .attempt) (host-facts creation h g .attempt) has in
       sent-to-each-kept (withHost t host (finished h)) (host-kept t f host (finished h) (r .0) (finished-formed creation h g)) to _
       (closing-of-store creation (o .action) (holdersOf t h) (holders-of f host (r .0) (a .one)))
-      (λ c q. closing-formed creation (h .attempt .okay) (headed host c (o .block) (h .attempt .timestamp)) (h .epoch) (header-of f host (r .0) (a .one) (h .attempt .timestamp) (a .timestamp) c q) (host-facts creation h g .epoch)))
+      (λ c q. closing-formed creation (h .attempt .okay) (headed host c (o .block) now) (h .epoch)
+      (header-of f host (r .0) (a .one) now (a .timestamp) c q) (host-facts creation h g .epoch)))
 
   -- an event of one host alone
   alone-kept : (host b c : ℕ) (refusals : Host → List Row) (change : Host → Host)
-      → (Formed t → (h : Host) → hostFormed creation h ≡ true → codeOf (refusals h) ≡ 0 → hostFormed creation (change h) ≡ true) → Keeps t (hostRule t host b c refusals change)
+      → (Formed t → (h : Host) → hostFormed creation h ≡ true → codeOf (refusals h) ≡ 0 → hostFormed creation (change h) ≡ true)
+      → Keeps t (hostRule t host b c refusals change)
   alone-kept host b c refusals change g =
       keeps t (hostRule t host b c refusals change) (λ f e p.
       let r = three (isHost creation host) (unused b) (unused c) e in
@@ -246,7 +275,8 @@ module _ (t : Table) where
   timeout-kept host b c =
       alone-kept host b c timeoutRefusals timedOut (λ f h g p.
       let empty = isEmpty (h .attempt .outstanding) in
-      timed-out-formed creation h g (not-true empty (not-false (not empty) (passed (not (isOutstanding h)) 1 [] (passed (not (h .working)) 1 _ p .1) .0))))
+      let some = not-false (not empty) (passed-second (not (h .working)) (not (isOutstanding h)) 1 1 [] p .0) in
+      timed-out-formed creation h g (not-true empty some))
 
   pub refresh-kept : (host b c : ℕ) → Keeps t (refreshRule t host b c)
   unfolding refreshRule

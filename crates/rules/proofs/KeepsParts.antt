@@ -35,6 +35,11 @@ unfolding codeOf
 passed true n rows h = absurd (omega arith)
 passed false n rows h = (refl, h)
 
+-- the same of the second row
+pub passed-second : (a b : Bool) (m n : ℕ) (rows : List Row) → codeOf (a gives suc m ⨾ b gives suc n ⨾ rows) ≡ 0
+    → (b ≡ false) × (codeOf rows ≡ 0)
+passed-second a b m n rows h = passed b n rows (passed a m (b gives suc n ⨾ rows) h .1)
+
 -- ---- what may stand at a place of the table: a formed part of the store's, or zero
 
 abbrev HostAt : Creation → ℕ → Host → Type 0
@@ -60,7 +65,8 @@ module _ (t : Table) (f : Formed t) where
     places = f .places;
   }
 
-  pub chunk-kept : (c : ℕ) (x : Chunk) → isChunk (t .creation) c ≡ true → chunkFormed (t .creation) (t .epoch) x ≡ true → Formed (withChunk t c x)
+  pub chunk-kept : (c : ℕ) (x : Chunk) → isChunk (t .creation) c ≡ true → chunkFormed (t .creation) (t .epoch) x ≡ true
+      → Formed (withChunk t c x)
   chunk-kept c x e g = record {
     creation = f .creation;
     epoch = f .epoch;
@@ -83,7 +89,8 @@ module _ (t : Table) (f : Formed t) where
       now : (i j : ℕ) → Record
       now i j = getD (set (t .records) (at c b) x) (at i j) noRecord
 
-      go : (i j : ℕ) → j < blockLimit → RecordAt (t .creation) i j (recordOf t i j) → ((at i j ≡ at c b) × (now i j ≡ x)) ⊎ (now i j ≡ recordOf t i j)
+      go : (i j : ℕ) → j < blockLimit → RecordAt (t .creation) i j (recordOf t i j)
+          → ((at i j ≡ at c b) × (now i j ≡ x)) ⊎ (now i j ≡ recordOf t i j)
           → RecordAt (t .creation) i j (now i j)
       go i j n old (inl e) =
           let q = e .0 in
@@ -93,7 +100,8 @@ module _ (t : Table) (f : Formed t) where
       go i j n old (inr e) = rw e old
 
   -- all records anew
-  pub records-kept : (g : ℕ → ℕ → Record) → ((c b : ℕ) → c < chunkLimit → b < blockLimit → RecordAt (t .creation) c b (g c b)) → Formed (withRecords t (recordsBy g))
+  pub records-kept : (g : ℕ → ℕ → Record) → ((c b : ℕ) → c < chunkLimit → b < blockLimit → RecordAt (t .creation) c b (g c b))
+      → Formed (withRecords t (recordsBy g))
   records-kept g h = record {
     creation = f .creation;
     epoch = f .epoch;
@@ -104,7 +112,14 @@ module _ (t : Table) (f : Formed t) where
   }
 
   places-kept : (l : List Place) → FormedPlaces (t .creation) l → Formed (withPlaces t l)
-  places-kept l g = record { creation = f .creation; epoch = f .epoch; hosts = f .hosts; chunks = f .chunks; records = f .records; places = g }
+  places-kept l g = record {
+    creation = f .creation;
+    epoch = f .epoch;
+    hosts = f .hosts;
+    chunks = f .chunks;
+    records = f .records;
+    places = g;
+  }
 
 -- ---- messages
 
@@ -131,7 +146,8 @@ module _ (t : Table) (f : Formed t) where
 
   -- messages to a set of the store's chunks
   pub sent-to-each-kept : (to : Set) (m : (chunk : ℕ) → Message) → ofStore (t .creation) to ≡ true
-      → ((c : ℕ) → isChunk (t .creation) c ≡ true → messageFormed (t .creation) (m c) ≡ true) → Formed (withPlaces t (sentToEach (t .places) to m))
+      → ((c : ℕ) → isChunk (t .creation) c ≡ true → messageFormed (t .creation) (m c) ≡ true)
+      → Formed (withPlaces t (sentToEach (t .places) to m))
   unfolding sentToEach
   sent-to-each-kept to m h g =
       let k = t .creation in

@@ -50,14 +50,17 @@ unfolding insert
 insert-ordered n e [] h o = (h, tt)
 insert-ordered n e (x ∷ xs) h o = go (e .timestamp below x .timestamp) refl (λ k. insert-ordered (stampOf x) e xs k (o .1))
   where
-    go : (b : Bool) → e .timestamp below x .timestamp ≡ b → (stampOf x ≤ stampOf e → OrderedFrom (stampOf x) (insert e xs)) → OrderedFrom n (cond b (e ∷ x ∷ xs) (x ∷ insert e xs))
+    go : (b : Bool) → e .timestamp below x .timestamp ≡ b → (stampOf x ≤ stampOf e → OrderedFrom (stampOf x) (insert e xs))
+        → OrderedFrom n (cond b (e ∷ x ∷ xs) (x ∷ insert e xs))
     go true q f = let k = ltb-true (stampOf e) (stampOf x) q in (h, (omega arith, o .1))
     go false q f = (o .0, f (ltb-false (stampOf e) (stampOf x) q))
 
 pub insert-length : (e : Entry) (l : List Entry) → length (insert e l) ≡ suc (length l)
 unfolding insert
 insert-length e [] = refl
-insert-length e (x ∷ xs) = walk (λ (l : List Entry). length l ≡ suc (suc (length xs))) (e .timestamp below x .timestamp) (e ∷ x ∷ xs) (x ∷ insert e xs) (λ _. refl) (λ _. ap suc (insert-length e xs))
+insert-length e (x ∷ xs) =
+    walk (λ (l : List Entry). length l ≡ suc (suc (length xs))) (e .timestamp below x .timestamp) (e ∷ x ∷ xs) (x ∷ insert e xs)
+    (λ _. refl) (λ _. ap suc (insert-length e xs))
 
 pub insert-every : (p : Entry → Bool) (e : Entry) (l : List Entry) → p e ≡ true → every p l ≡ true → every p (insert e l) ≡ true
 unfolding insert every
@@ -76,7 +79,8 @@ tail-ordered [] o = tt
 tail-ordered (x ∷ xs) o = lowered 0 (stampOf x) xs (omega arith) (o .1)
 
 -- an entry changed in all but its timestamp
-change-ordered : (f : Entry → Entry) → ((x : Entry) → stampOf (f x) ≡ stampOf x) → (n : ℕ) (l : List Entry) (i : ℕ) → OrderedFrom n l → OrderedFrom n (set l i (f (getD l i zeroEntry)))
+change-ordered : (f : Entry → Entry) → ((x : Entry) → stampOf (f x) ≡ stampOf x) → (n : ℕ) (l : List Entry) (i : ℕ) → OrderedFrom n l
+    → OrderedFrom n (set l i (f (getD l i zeroEntry)))
 change-ordered f k n [] i o = o
 change-ordered f k n (x ∷ xs) zero o = rw (k x) o
 change-ordered f k n (x ∷ xs) (suc i) o = (o .0, change-ordered f k (stampOf x) xs i (o .1))
