@@ -8,7 +8,7 @@ use lib.Dec.{eqb, ltb, leb}
 use lib.Seq.{getD-take}
 use borrow.Author.Tests.{ltb-true, ltb-false, leb-true, le-leb, le-ltb, eqb-true, not-true}
 use native.Mathlib.Omega.{arith}
-use Rattle.rules.specs.Types.{Epoch, Set, Creation, Entry, Waiting, Record, Chunk, Operation, Queue, Attempt, Host, Header, Message, Place, Table}
+use Rattle.rules.specs.Types.{Timestamp, Epoch, Set, Creation, Entry, Waiting, Record, Chunk, Operation, Queue, Attempt, Host, Header, Message, Place, Table}
 use Rattle.rules.specs.Creation.{isCreation, ofStore, isSetOf}
 use Rattle.rules.specs.Formed.{operationFormed, operationAt, queueFormed, attemptFormed, hostFormed, chunkFormed, entryFormed, entryAt, waitingFormed, recordFormed, messageFormed, slotFormed, hostAt, chunkAt, recordAt, recordsAt, placeAt, wellFormed}
 use Rattle.rules.specs.Hosts.{operationsOf, queueOf, front}
@@ -35,6 +35,7 @@ pub record FormedCreation (k : Creation) : Type 0 where
   pub sets : (b : ℕ) → b < blockLimit → isSetOf k b ≡ true
 
 module _ (k : Creation) where
+  -- what the test of a creation says
   pub creation-facts : isCreation k ≡ true → FormedCreation k
   unfolding isCreation
   creation-facts h =
@@ -76,6 +77,7 @@ module _ (k : Creation) where
   pub of-store : (s : Set) → ofStore k s ≡ true → (c : ℕ) → c < chunkLimit → c among s ≡ true → isChunk k c ≡ true
   of-store s h c l e = implied (c among s) (isChunk k c) (every-number (λ c. not (c among s) || isChunk k c) chunkLimit h c l) e
 
+  -- and a set with the store's chunks alone is the store's
   pub is-of-store : (s : Set) → ((c : ℕ) → c < chunkLimit → c among s ≡ true → isChunk k c ≡ true) → ofStore k s ≡ true
   is-of-store s h = every-numbers (λ c. not (c among s) || isChunk k c) chunkLimit (λ c l. implies (c among s) (isChunk k c) (h c l))
 
@@ -101,6 +103,7 @@ module _ (k : Creation) where
     pub count : q .count ≤ operationLimit
     pub used : (i : ℕ) → i < q .count → isBlock k (getD (q .operations) i zeroOperation .block) ≡ true
 
+  -- what the test of a queue says
   pub queue-facts : (q : Queue) → queueFormed k q ≡ true → FormedQueue q
   queue-facts q h =
       let o : ℕ → Operation = λ i. getD (q .operations) i zeroOperation in
@@ -108,13 +111,15 @@ module _ (k : Creation) where
       let n = leb-true (q .count) operationLimit (r .0) in
       record { count = n; used = used-at (λ i. operationFormed k (o i)) (λ i. isZeroOperation (o i)) operationLimit (q .count) (r .1) n }
 
-  -- the operations of a formed queue, and the queue of formed operations
+  -- the operations of a formed queue are 8 at most
   pub operations-length : (h : Host) → FormedQueue (h .queue) → length (operationsOf h) ≤ operationLimit
   operations-length h f = omega (arith, f .count, take-short (h .queue .count) (h .queue .operations))
 
+  -- .. and formed
   pub operations-formed : (h : Host) → FormedQueue (h .queue) → every (operationFormed k) (operationsOf h) ≡ true
   operations-formed h f = every-take (operationFormed k) (h .queue .count) (h .queue .operations) zeroOperation (f .used)
 
+  -- the queue of up to 8 formed operations is formed
   pub queue-formed : (l : List Operation) → length l ≤ operationLimit → every (operationFormed k) l ≡ true
       → queueFormed k (queueOf l) ≡ true
   unfolding queueOf
@@ -131,19 +136,21 @@ module _ (k : Creation) where
 
   -- ---- a host's attempt, and the host
 
-  -- the attempt of a host with a current operation
-  pub record FormedAttempt (count : ℕ) (a : Attempt) : Type 0 where
+  -- the attempt of a host with a current operation, by its timestamp and the chunks outstanding
+  pub record FormedAttempt (count : ℕ) (now : Timestamp) (out : Set) : Type 0 where
     pub one : 1 ≤ count
-    pub timestamp : isTimestamp (a .timestamp) ≡ true
-    pub outstanding : ofStore k (a .outstanding) ≡ true
+    pub timestamp : isTimestamp now ≡ true
+    pub outstanding : ofStore k out ≡ true
 
   module _ (n : ℕ) (a : Attempt) where
-    pub attempt-facts : attemptFormed k n a ≡ true → a .timestamp above never ≡ true → FormedAttempt n a
+    -- what the test of an attempt says where there is a current operation
+    pub attempt-facts : attemptFormed k n a ≡ true → a .timestamp above never ≡ true → FormedAttempt n (a .timestamp) (a .outstanding)
     attempt-facts h e =
         let r = three (leb 1 n) (isTimestamp (a .timestamp)) (ofStore k (a .outstanding)) (rw e at h) in
         record { one = leb-true 1 n (r .0); timestamp = r .1; outstanding = r .2 }
 
-    pub attempt-formed : a .timestamp above never ≡ true → FormedAttempt n a → attemptFormed k n a ≡ true
+    -- the way back
+    pub attempt-formed : a .timestamp above never ≡ true → FormedAttempt n (a .timestamp) (a .outstanding) → attemptFormed k n a ≡ true
     attempt-formed e f = rw (e, le-leb 1 n (f .one), f .timestamp, f .outstanding) refl
 
     -- with chunks outstanding there is a current operation
@@ -163,12 +170,14 @@ module _ (k : Creation) where
     pub epoch : isEpoch (h .epoch) ≡ true
     pub clock : upTo greatestClock (h .clock) ≡ true
 
+  -- what the test of a host says
   pub host-facts : (h : Host) → hostFormed k h ≡ true → FormedHost h
   host-facts h f =
       let r = four (queueFormed k (h .queue)) (attemptFormed k (h .queue .count) (h .attempt)) (isEpoch (h .epoch))
       (upTo greatestClock (h .clock)) f in
       record { queue = r .0; attempt = r .1; epoch = r .2; clock = r .3 }
 
+  -- the way back
   pub host-formed : (h : Host) → FormedHost h → hostFormed k h ≡ true
   host-formed h f = rw (f .queue, f .attempt, f .epoch, f .clock) refl
 
@@ -179,9 +188,11 @@ module _ (k : Creation) where
     pub reconcile : (b : ℕ) → b < blockLimit → getD (c .reconcile) b false ≡ true → isBlock k b ≡ true
 
   module _ (current : Epoch) (c : Chunk) where
+    -- b is not in the reconciliation set, or is a block
     abbrev reconciles : ℕ → Bool
     reconciles b = not (getD (c .reconcile) b false) || isBlock k b
 
+    -- what the test of a chunk says
     pub chunk-facts : chunkFormed k current c ≡ true → FormedChunk current c
     chunk-facts h =
         let r = both (c .epoch same current) (every reconciles (numbers blockLimit)) h in
@@ -190,6 +201,7 @@ module _ (k : Creation) where
           reconcile = λ b l. implied (getD (c .reconcile) b false) (isBlock k b) (every-number reconciles blockLimit (r .1) b l);
         }
 
+    -- the way back
     pub chunk-formed : FormedChunk current c → chunkFormed k current c ≡ true
     chunk-formed f =
         rw (f .epoch)
@@ -197,6 +209,7 @@ module _ (k : Creation) where
 
   -- ---- a waiting list
 
+  -- the timestamp of entry i
   abbrev pub stampAt : List Entry → ℕ → ℕ
   stampAt l i = getD l i zeroEntry .timestamp .0
 
@@ -216,6 +229,7 @@ module _ (k : Creation) where
     pub used : (i : ℕ) → i < w .count → entryFormed k (getD (w .entries) i zeroEntry) ≡ true
     pub order : (i : ℕ) → suc i < w .count → stampAt (w .entries) i ≤ stampAt (w .entries) (suc i)
 
+  -- what the test of a waiting list says
   pub waiting-facts : (w : Waiting) → waitingFormed k w ≡ true → FormedWaiting w
   waiting-facts w h = record { count = n; used = λ i l. waits i l .0; order = λ i l. order i (waits (suc i) l .1) }
     where
@@ -236,13 +250,15 @@ module _ (k : Creation) where
           let s = stampAt (w .entries) in
           ltb-false (s (suc i)) (s i) (not-true (ltb (s (suc i)) (s i)) (rw q at g))
 
-  -- the entries of a formed waiting list, and the waiting list of formed entries in order
+  -- the entries of a formed waiting list are 8 at most
   pub entries-length : (w : Waiting) → FormedWaiting w → length (inOrder w) ≤ waitingLimit
   entries-length w f = omega (arith, f .count, take-short (w .count) (w .entries))
 
+  -- .. and formed
   pub entries-formed : (w : Waiting) → FormedWaiting w → every (entryFormed k) (inOrder w) ≡ true
   entries-formed w f = every-take (entryFormed k) (w .count) (w .entries) zeroEntry (f .used)
 
+  -- .. and in order
   pub entries-ordered : (w : Waiting) → FormedWaiting w → Ordered (inOrder w)
   entries-ordered w f =
       ascends-ordered (inOrder w) (λ i l.
@@ -250,6 +266,7 @@ module _ (k : Creation) where
       rw (getD-take (w .count) (w .entries) i zeroEntry (omega arith), getD-take (w .count) (w .entries) (suc i) zeroEntry m)
       (f .order i m))
 
+  -- the waiting list of up to 8 formed entries in order is formed
   pub waiting-formed : (l : List Entry) → length l ≤ waitingLimit → every (entryFormed k) l ≡ true → Ordered l
       → waitingFormed k (holding l) ≡ true
   unfolding holding
@@ -290,11 +307,13 @@ module _ (k : Creation) where
     pub write : isTimestamp (r .write) ≡ true
     pub waiting : waitingFormed k (r .waiting) ≡ true
 
+  -- what the test of a record says
   pub record-facts : (r : Record) → recordFormed k r ≡ true → FormedRecord r
   record-facts r h =
       let f = three (isTimestamp (r .read)) (isTimestamp (r .write)) (waitingFormed k (r .waiting)) h in
       record { read = f .0; write = f .1; waiting = f .2 }
 
+  -- the way back
   pub record-formed : (r : Record) → FormedRecord r → recordFormed k r ≡ true
   record-formed r f = rw (f .read, f .write, f .waiting) refl
 
@@ -325,6 +344,7 @@ module _ (k : Creation) where
     pub header : FormedHeader (headerOf m)
     pub epoch : isEpoch (epochOf m) ≡ true
 
+  -- what the test of a message says
   pub message-facts : (m : Message) → messageFormed k m ≡ true → FormedMessage m
   message-facts m f =
       let h = headerOf m in
@@ -332,9 +352,11 @@ module _ (k : Creation) where
       (isEpoch (epochOf m)) f in
       record { header = record { host = r .0; chunk = r .1; block = r .2; timestamp = r .3 }; epoch = r .4 }
 
+  -- the way back
   pub message-formed : (m : Message) → FormedHeader (headerOf m) → isEpoch (epochOf m) ≡ true → messageFormed k m ≡ true
   message-formed m f e = rw (f .host, f .chunk, f .block, f .timestamp, e) refl
 
+  -- each place is empty or has a formed message
   abbrev pub FormedPlaces : List Place → Type 0
   FormedPlaces l = (p : ℕ) → p < placeLimit → slotFormed k (slotOf l p) ≡ true
 
@@ -349,6 +371,7 @@ pub record Formed (t : Table) : Type 0 where
   pub places : FormedPlaces (t .creation) (t .places)
 
 module _ (t : Table) where
+  -- what the test of a table says
   pub formed : wellFormed t ≡ true → Formed t
   unfolding wellFormed
   formed h =
@@ -367,6 +390,7 @@ module _ (t : Table) where
         places = every-number (placeAt t) placeLimit (r .1);
       }
 
+  -- the way back
   pub well-formed : Formed t → wellFormed t ≡ true
   unfolding wellFormed
   well-formed f =
@@ -379,18 +403,21 @@ module _ (t : Table) where
 -- ---- the parts of a well-formed table
 
 module _ (t : Table) (f : Formed t) where
+  -- a host of the store's is formed
   pub host-of : (h : ℕ) → isHost (t .creation) h ≡ true → hostFormed (t .creation) (hostOf t h) ≡ true
   host-of h e = rw e at (f .hosts h (host-place (t .creation) h e (f .creation)))
 
+  -- .. and so is its queue
   pub queue-of : (h : ℕ) → isHost (t .creation) h ≡ true → FormedQueue (t .creation) (hostOf t h .queue)
   queue-of h e =
       let x = hostOf t h in
       queue-facts (t .creation) (x .queue) (host-facts (t .creation) x (host-of h e) .queue)
 
+  -- a chunk of the store's is formed
   pub chunk-of : (c : ℕ) → isChunk (t .creation) c ≡ true → chunkFormed (t .creation) (t .epoch) (chunkOf t c) ≡ true
   chunk-of c e = rw e at (f .chunks c (chunk-place (t .creation) c e (f .creation)))
 
-  -- every record is a formed one, the store's or not
+  -- every record is formed, the store's or not
   pub record-of : (c b : ℕ) → c < chunkLimit → b < blockLimit → recordFormed (t .creation) (recordOf t c b) ≡ true
   record-of c b l m = go (isChunk (t .creation) c && isBlock (t .creation) b) (f .records c b l m)
     where
@@ -399,6 +426,7 @@ module _ (t : Table) (f : Formed t) where
       go true h = h
       go false h = zero-record-formed (t .creation) (recordOf t c b) h
 
+  -- .. and so is its waiting list
   pub waiting-of : (c b : ℕ) → c < chunkLimit → b < blockLimit → FormedWaiting (t .creation) (recordOf t c b .waiting)
   waiting-of c b l m =
       let r = recordOf t c b in

@@ -44,9 +44,9 @@ module _ (k : Creation) where
 
 -- ---- the rules: each keeps well-formedness, and none of its own refusals is above 7
 
-pub record Sound (t : Table) (r : Rule) : Type 0 where
-  pub keeps : Keeps t r
-  pub codes : every (λ row. leb (row .code) 7) (r .refusals) ≡ true
+record Sound (t : Table) (r : Rule) : Type 0 where
+  keeps : Keeps t r
+  codes : every (λ row. leb (row .code) 7) (r .refusals) ≡ true
 
 rule-sound : (t : Table) (e : Event) → Sound t (ruleOf t e)
 unfolding ruleOf every readRule writeRule startRule finishRule timeoutRule refreshRule stopRule deliverRule dropRule runRule failRule recoverRule takeLeaseRule giveLeaseRule overdueRule epochRule
@@ -124,6 +124,7 @@ abbrev pub after : Table → List Event → Table
 after t [] = t
 after t (e ∷ es) = after (step t e .table) es
 
+-- a well-formed table stays well formed
 after-formed : (t : Table) (es : List Event) → wellFormed t ≡ true → wellFormed (after t es) ≡ true
 after-formed t [] h = h
 after-formed t (e ∷ es) h = after-formed (step t e .table) es (step-formed t e h)

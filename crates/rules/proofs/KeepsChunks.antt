@@ -35,10 +35,12 @@ later-formed t u h g = walk (λ (x : Timestamp). isTimestamp x ≡ true) (u abov
 module _ (k : Creation) where
   -- ---- waiting lists
 
+  -- nobody waits
   pub none-waiting : waitingFormed k zeroWaiting ≡ true
   unfolding every from
   none-waiting = refl
 
+  -- one waits more, in a list with room
   inserted-formed : (w : Waiting) (e : Entry) → waitingFormed k w ≡ true → entryFormed k e ≡ true
       → leb waitingLimit (w .count) ≡ false → waitingFormed k (inserted w e) ≡ true
   unfolding inserted
@@ -49,6 +51,7 @@ module _ (k : Creation) where
       waiting-formed k (insert e l) (omega (arith, insert-length e l, take-short (w .count) (w .entries)))
       (insert-every (entryFormed k) e l g (entries-formed k w f)) (insert-ordered 0 e l (omega arith) (entries-ordered k w f))
 
+  -- the head goes
   head-removed-formed : (w : Waiting) → waitingFormed k w ≡ true → waitingFormed k (headRemoved w) ≡ true
   unfolding headRemoved
   head-removed-formed w h =
@@ -57,6 +60,7 @@ module _ (k : Creation) where
       waiting-formed k (drop 1 l) (omega (arith, length-drop 1 l, entries-length k w f))
       (every-drop (entryFormed k) 1 l (entries-formed k w f)) (tail-ordered l (entries-ordered k w f))
 
+  -- an entry is decided
   marked-formed : (commit : Bool) (t : Timestamp) (w : Waiting) → waitingFormed k w ≡ true → waitingFormed k (marked commit t w) ≡ true
   unfolding marked mark
   marked-formed commit t w h =
@@ -75,6 +79,7 @@ module _ (k : Creation) where
       let f = record-facts k r h in
       record-formed k (withWaiting r w) (record { read = f .read; write = f .write; waiting = g })
 
+  -- every place of the array is zero
   abbrev allUnused : Waiting → Bool
   allUnused w = every (λ i. isZeroEntry (getD (w .entries) i zeroEntry)) (numbers waitingLimit)
 
@@ -96,15 +101,17 @@ module _ (k : Creation) where
 
   -- ---- what a message or a run makes of chunk c's record of block b: a record that may stand there, and a formed reply
 
-  pub record Arrives (c b : ℕ) (a : Arrived) : Type 0 where
-    pub block : RecordAt k c b (a .block)
-    pub reply : slotFormed k (a .reply) ≡ true
+  record Arrives (c b : ℕ) (a : Arrived) : Type 0 where
+    block : RecordAt k c b (a .block)
+    reply : slotFormed k (a .reply) ≡ true
 
   module _ (c b : ℕ) where
+    -- a formed reply
     answers : (r : Record) (m : Message) → RecordAt k c b r → FormedHeader k (headerOf m) → isEpoch (epochOf m) ≡ true
         → Arrives c b (answering r m)
     answers r m h f e = record { block = h; reply = message-formed k m f e }
 
+    -- no reply
     is-silent : (r : Record) → RecordAt k c b r → Arrives c b (silent r)
     is-silent r h = record { block = h; reply = refl }
 
@@ -123,6 +130,7 @@ module _ (k : Creation) where
         let now : recordFormed k r ≡ true = rw (f .chunk, e) at h in
         rw (f .chunk, e) (rewaited r w now (g (record-facts k r now .waiting)))
 
+    -- a read or a prewrite
     arrived-at : (current epoch : Epoch) (kind : Kind) → isEpoch epoch ≡ true
         → Arrives c b (arrived (k .blocks) current r header epoch kind)
     unfolding arrived
@@ -137,6 +145,7 @@ module _ (k : Creation) where
         let z = waits-at (not-false (isBlock k b) inside) (inserted (r .waiting) x) (λ w. inserted-formed (r .waiting) x w formed room) in
         walk (Arrives c b) (isWrite kind) _ _ (λ _. answers c b now (Message.PrewriteReply header) z f refl) (λ _. is-silent c b now z)))))
 
+    -- a commit or an abort
     decides-at : (commit : Bool) → Arrives c b (decides (k .blocks) r header commit)
     unfolding decides
     decides-at commit =
@@ -145,6 +154,7 @@ module _ (k : Creation) where
         (λ inside. is-silent c b (withWaiting r w) (waits-at inside w (marked-formed commit (header .timestamp) (r .waiting))))
         (λ _. is-silent c b r h)
 
+  -- any message
   at-chunk : (current : Epoch) (r : Record) (m : Message) → RecordAt k (headerOf m .chunk) (headerOf m .block) r → messageFormed k m ≡ true
       → Arrives (headerOf m .chunk) (headerOf m .block) (atChunk (k .blocks) current r m)
   unfolding atChunk
@@ -165,9 +175,11 @@ module _ (k : Creation) where
 
   -- a run at the record of a chunk and block of the store's
   module _ (w : isCreation k ≡ true) (c b : ℕ) (d : isChunk k c ≡ true) (e : isBlock k b ≡ true) where
+    -- a formed record stands there
     stands : (r : Record) → FormedRecord k r → RecordAt k c b r
     stands r f = rw (d, e) (record-formed k r f)
 
+    -- an entry of each kind, out of the waiting list
     runs-at : (r : Record) (x : Entry) (kind : Kind) → FormedRecord k r → entryFormed k x ≡ true → Arrives c b (runs c b r x kind)
     runs-at r x (Kind.Aborted v) f g = is-silent c b r (stands r f)
     runs-at r x (Kind.Undecided v) f g = is-silent c b r (stands r f)
@@ -187,6 +199,7 @@ module _ (k : Creation) where
         walk (Arrives c b) (x .timestamp below r .write) _ _ (λ _. answers c b r (Message.OutOfOrder header) (stands r f) fits refl)
         (λ _. answers c b now (Message.ReadReply header (r .value)) raised fits refl)
 
+    -- the head
     ran-at : (r : Record) → recordFormed k r ≡ true → 0 < r .waiting .count → Arrives c b (ran c b r)
     unfolding ran
     ran-at r h n =
@@ -204,6 +217,7 @@ module _ (k : Creation) where
     reconcile = λ b l q. absurd (true≢false (sym q ∙ rw e (getD-replicate blockLimit b false false l)));
   })
 
+  -- a block of the store's joins the reconciliation set
   overdue-formed : (current : Epoch) (c : Chunk) (b : ℕ) → chunkFormed k current c ≡ true → isBlock k b ≡ true
       → chunkFormed k current (overdue c b) ≡ true
   overdue-formed current c b h e =
@@ -216,6 +230,7 @@ module _ (k : Creation) where
 -- ---- the network's events
 
 module _ (t : Table) (f : Formed t) where
+  -- a message at its chunk
   chunk-takes : (m : Message) → messageFormed (t .creation) m ≡ true → Formed (chunkTakes t (headerOf m) m)
   chunk-takes m g =
       let c = headerOf m .chunk in
@@ -229,6 +244,7 @@ module _ (t : Table) (f : Formed t) where
       (λ _. replied-kept (withRecord t c b (a .block)) (record-kept t f c b (a .block) l (r .block)) (a .reply) (r .reply))
       (λ _. f)
 
+  -- a reply at its host
   host-takes : (m : Message) → messageFormed (t .creation) m ≡ true → Formed (hostTakes t (headerOf m) m)
   host-takes m g =
       let h = headerOf m .host in
@@ -237,6 +253,7 @@ module _ (t : Table) (f : Formed t) where
       (λ _. host-kept t f h (atHost (hostOf t h) m) e (at-host-formed (t .creation) (hostOf t h) m (f .creation) (host-of t f h e) g))
       (λ _. f)
 
+  -- what a place holds, at its party
   taken : (s : Slot) → slotFormed (t .creation) s ≡ true → Formed (takes t s)
   taken Slot.Empty g = f
   taken (Slot.Full m) g =
@@ -246,6 +263,7 @@ module _ (t : Table) where
   abbrev creation : Creation
   creation = t .creation
 
+  -- 4 deliver
   pub deliver-kept : (place b c : ℕ) → Keeps t (deliverRule t place b c)
   unfolding deliverRule
   deliver-kept place b c =
@@ -254,12 +272,14 @@ module _ (t : Table) where
       taken (withPlaces t (removed (t .places) place)) (removed-kept t f place) (slotOf (t .places) place)
       (f .places place (ltb-true place placeLimit (r .0))))
 
+  -- 5 drop
   pub drop-kept : (place b c : ℕ) → Keeps t (dropRule t place b c)
   unfolding dropRule
   drop-kept place b c = keeps t (dropRule t place b c) (λ f e p. removed-kept t f place)
 
   -- ---- the chunks' events
 
+  -- 9 run
   pub run-kept : (chunk block c : ℕ) → Keeps t (runRule t chunk block c)
   unfolding runRule
   run-kept chunk block c =
@@ -274,6 +294,7 @@ module _ (t : Table) where
       let g = ran-at creation (f .creation) chunk block (s .0) (s .1) r old (omega arith) in
       replied-kept (withRecord t chunk block (a .block)) (record-kept t f chunk block (a .block) l (g .block)) (a .reply) (g .reply))
 
+  -- 11 fail
   pub fail-kept : (chunk b c : ℕ) → Keeps t (failRule t chunk b c)
   unfolding failRule
   fail-kept chunk b c =
@@ -294,18 +315,22 @@ module _ (t : Table) where
       let s = three (isChunk creation chunk) (unused b) (unused c) e in
       chunk-kept t f chunk (withState (chunkOf t chunk) state) (s .0) (chunk-of t f chunk (s .0)))
 
+  -- 12 recover
   pub recover-kept : (chunk b c : ℕ) → Keeps t (recoverRule t chunk b c)
   unfolding recoverRule
   recover-kept chunk b c = state-kept chunk b c (recoverRefusals (chunkOf t chunk .state)) State.Nolease
 
+  -- 13 take lease
   pub take-lease-kept : (chunk b c : ℕ) → Keeps t (takeLeaseRule t chunk b c)
   unfolding takeLeaseRule
   take-lease-kept chunk b c = state-kept chunk b c (takeLeaseRefusals (chunkOf t chunk .state)) State.Nolease
 
+  -- 14 give lease
   pub give-lease-kept : (chunk b c : ℕ) → Keeps t (giveLeaseRule t chunk b c)
   unfolding giveLeaseRule
   give-lease-kept chunk b c = state-kept chunk b c (giveLeaseRefusals (chunkOf t chunk .state) (chunkOf t chunk .lost)) State.Normal
 
+  -- 16 overdue
   pub overdue-kept : (chunk block now : ℕ) → Keeps t (overdueRule t chunk block now)
   unfolding overdueRule
   overdue-kept chunk block now =

@@ -30,9 +30,11 @@ greatest-formed l h = fold-keeps isTimestamp (λ (x : Timestamp). isTimestamp x 
 -- ---- settlement: where the copies' records are formed, the settled record is
 
 module _ (k : Creation) where
+  -- a copy with a formed record
   abbrev copyFormed : Copy → Bool
   copyFormed c = recordFormed k (c .block)
 
+  -- the writes that wait in a copy have timestamps
   writes-of-formed : (c : Copy) → copyFormed c ≡ true → every isTimestamp (writesOf c) ≡ true
   writes-of-formed c h =
       let w = c .block .waiting in
@@ -49,6 +51,7 @@ module _ (k : Creation) where
         let members = those inSet copies in
         greatest-formed (each f members) (every-each isTimestamp copyFormed f members g (every-of-all copyFormed inSet copies h))
 
+    -- W, the latest committed one, and the settled record
     W-formed : isTimestamp (W copies) ≡ true
     unfolding W
     W-formed = over-set lastWrite (λ c g. record-facts k (c .block) g .write)
@@ -92,6 +95,7 @@ module _ (t : Table) (f : Formed t) where
       (settled-formed creation copies (every-each-number (copyFormed creation) (copyOf t b) chunkLimit (λ i n. record-of t f i b n m))))
       (λ _. emptied-at creation c b (recordOf t c b) (f .records c b l m)))
 
+  -- a chunk of the store's is blank in the next epoch; any other is zero as it was
   renewed-at : (c : ℕ) → c < chunkLimit
       → cond (isChunk creation c) (chunkFormed creation (next (t .epoch)) (renewed t c)) (isZeroChunk (renewed t c)) ≡ true
   renewed-at c l = go (isChunk creation c) (f .chunks c l)
@@ -104,6 +108,7 @@ module _ (t : Table) (f : Formed t) where
       go true h = blank-formed creation (next (t .epoch)) blank (eq-eqb (t .epoch .0 + 1) (t .epoch .0 + 1) refl) refl
       go false h = h
 
+  -- there is a next epoch
   changed-formed : eqb (t .epoch .0) greatestClock ≡ false → Formed (epochChanged t)
   changed-formed e =
       let last = eqb-false (t .epoch .0) greatestClock e in
@@ -116,6 +121,7 @@ module _ (t : Table) (f : Formed t) where
         places = f .places;
       }
 
+-- 15 epoch change
 pub epoch-kept : (t : Table) (a b c : ℕ) → Keeps t (epochRule t a b c)
 unfolding epochRule
 epoch-kept t a b c =

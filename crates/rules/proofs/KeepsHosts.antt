@@ -12,7 +12,7 @@ use Rattle.rules.specs.Codes.{Row, codeOf}
 use Rattle.rules.specs.Creation.{isCreation, ofStore}
 use Rattle.rules.specs.Events.{unused, holdersOf, intakeRule, readRule, writeRule, startRule, finishRule, hostRule, timeoutRule, refreshRule, stopRule}
 use Rattle.rules.specs.Formed.{operationFormed, attemptFormed, hostFormed, messageFormed}
-use Rattle.rules.specs.Hosts.{withQueue, withAttempt, operationsOf, queueOf, front, hasCurrent, isOutstanding, appended, only, openingTo, opening, started, suits, counts, answeredBy, heard, atHost, closingTo, closing, goesBack, ended, finished, timeoutRefusals, timedOut, workingRefusals, refreshed, stopped}
+use Rattle.rules.specs.Hosts.{withQueue, withAttempt, withOkay, withRestart, withResult, operationsOf, queueOf, front, hasCurrent, isOutstanding, appended, only, openingTo, opening, started, suits, counts, answeredBy, heard, atHost, closingTo, closing, goesBack, ended, finished, timeoutRefusals, timedOut, workingRefusals, refreshed, stopped}
 use Rattle.rules.specs.Kinds.{isReading, headerOf, headed}
 use Rattle.rules.specs.Limits.{chunkLimit, blockLimit, operationLimit, greatestClock, greatestTimestamp, oneTo}
 use Rattle.rules.specs.Tables.{isHost, isChunk, isBlock, hostOf, withHost}
@@ -48,10 +48,17 @@ module _ (k : Creation) where
       let r = host-facts k h f in
       host-formed k (withAttempt h a) (record { queue = r .queue; attempt = e; epoch = r .epoch; clock = r .clock })
 
+  -- a host with a current attempt
+  current : (h : Host) (a : Attempt) → hostFormed k h ≡ true → a .timestamp above never ≡ true
+      → FormedAttempt k (h .queue .count) (a .timestamp) (a .outstanding) → hostFormed k (withAttempt h a) ≡ true
+  current h a f e r = attempted h a f (attempt-formed k (h .queue .count) a e r)
+
+  -- the empty set is the store's
   nobody-of-store : ofStore k zeroSet ≡ true
   unfolding every from
   nobody-of-store = refl
 
+  -- .. and so is one of the store's chunks alone
   only-of-store : (c : ℕ) → isChunk k c ≡ true → ofStore k (only c) ≡ true
   only-of-store c h = is-of-store k (only c) (λ i l e. rw (sym (eqb-true c i (sym (each-number (eqb c) chunkLimit i false l) ∙ e))) h)
 
@@ -64,6 +71,7 @@ module _ (k : Creation) where
 
   -- ---- one host
 
+  -- one operation more
   appended-formed : (h : Host) (o : Operation) → hostFormed k h ≡ true → isBlock k (o .block) ≡ true
       → leb operationLimit (h .queue .count) ≡ false → hostFormed k (appended h o) ≡ true
   unfolding appended queueOf
@@ -88,6 +96,7 @@ module _ (k : Creation) where
       let r = one-to greatestClock clock c in
       le-leb (clock * 8 + host) greatestTimestamp (omega (arith, r .1, host-place k host e w))
 
+  -- a start: a clock, a timestamp, and the store's chunks outstanding
   started-formed : (h : Host) (clock host : ℕ) (to : Set) → hostFormed k h ≡ true → isTimestamp (stamp clock host) ≡ true
       → oneTo greatestClock clock ≡ true → 1 ≤ h .queue .count → ofStore k to ≡ true
       → hostFormed k (started h (stamp clock host) clock to) ≡ true
@@ -103,6 +112,7 @@ module _ (k : Creation) where
         clock = le-leb clock greatestClock (u .1);
       })
 
+  -- a finish: no attempt, and the operation goes or stays
   finished-formed : (h : Host) → hostFormed k h ≡ true → hostFormed k (finished h) ≡ true
   unfolding finished queueOf
   finished-formed h f =
@@ -119,37 +129,32 @@ module _ (k : Creation) where
         clock = r .clock;
       }))
 
+  -- a timeout: nobody outstanding
   timed-out-formed : (h : Host) → hostFormed k h ≡ true → isEmpty (h .attempt .outstanding) ≡ false → hostFormed k (timedOut h) ≡ true
   timed-out-formed h f e =
       let n = h .queue .count in
       let now = outstanding-current k n (h .attempt) (host-facts k h f .attempt) e in
       let r = attempt-facts k n (h .attempt) (host-facts k h f .attempt) now in
       let a = timedOut h .attempt in
-      attempted h a f (attempt-formed k n a now (record { one = r .one; timestamp = r .timestamp; outstanding = nobody-of-store }))
+      current h a f now (record { one = r .one; timestamp = r .timestamp; outstanding = nobody-of-store })
 
   -- ---- a reply at a host
 
-  -- a current attempt with other okay, restart and result
-  flagged : (h : Host) (a : Attempt) (okay restart : Bool) (result : ℕ) → hostFormed k h ≡ true → a .timestamp above never ≡ true
-      → FormedAttempt k (h .queue .count) a
-      → hostFormed k (withAttempt h (record { timestamp = a .timestamp; outstanding = a .outstanding; okay = okay; restart = restart; result = result })) ≡ true
-  flagged h a okay restart result f e r =
-      let b : Attempt = record { timestamp = a .timestamp; outstanding = a .outstanding; okay = okay; restart = restart; result = result } in
-      attempted h b f (attempt-formed k (h .queue .count) b e (record { one = r .one; timestamp = r .timestamp; outstanding = r .outstanding }))
-
+  -- a reply that counts
   heard-formed : (h : Host) (a : Attempt) (m : Message) → hostFormed k h ≡ true → a .timestamp above never ≡ true
-      → FormedAttempt k (h .queue .count) a → hostFormed k (heard h a m) ≡ true
-  heard-formed h a (Message.Mismatch header) f e r = flagged h a false (a .restart) (a .result) f e r
-  heard-formed h a (Message.OutOfOrder header) f e r = flagged h a false (a .restart) (a .result) f e r
-  heard-formed h a (Message.Busy header) f e r = flagged h a false (a .restart) (a .result) f e r
-  heard-formed h a (Message.Error header) f e r = flagged h a false false (a .result) f e r
-  heard-formed h a (Message.ReadReply header v) f e r = flagged h a (a .okay) (a .restart) v f e r
-  heard-formed h a (Message.PrewriteReply header) f e r = flagged h a (a .okay) (a .restart) (a .result) f e r
+      → FormedAttempt k (h .queue .count) (a .timestamp) (a .outstanding) → hostFormed k (heard h a m) ≡ true
+  heard-formed h a (Message.Mismatch header) f e r = current h (withOkay a false) f e r
+  heard-formed h a (Message.OutOfOrder header) f e r = current h (withOkay a false) f e r
+  heard-formed h a (Message.Busy header) f e r = current h (withOkay a false) f e r
+  heard-formed h a (Message.Error header) f e r = current h (withRestart (withOkay a false) false) f e r
+  heard-formed h a (Message.ReadReply header v) f e r = current h (withResult a v) f e r
+  heard-formed h a (Message.PrewriteReply header) f e r = current h a f e r
   heard-formed h a (Message.Read header epoch) f e r = f
   heard-formed h a (Message.Prewrite header epoch v) f e r = f
   heard-formed h a (Message.Commit header epoch) f e r = f
   heard-formed h a (Message.Abort header epoch) f e r = f
 
+  -- any message: one that counts finds its chunk outstanding, so there is a current operation
   pub at-host-formed : (h : Host) (m : Message) → isCreation k ≡ true → hostFormed k h ≡ true → messageFormed k m ≡ true
       → hostFormed k (atHost h m) ≡ true
   unfolding atHost
@@ -167,6 +172,7 @@ module _ (k : Creation) where
 
   -- ---- the messages of start and finish
 
+  -- they go to the store's chunks
   opening-of-store : (a : Action) (copy : ℕ) (holders : Set) → isChunk k copy ≡ true → ofStore k holders ≡ true
       → ofStore k (openingTo a copy holders) ≡ true
   opening-of-store Action.Read copy holders h g = only-of-store copy h
@@ -176,6 +182,7 @@ module _ (k : Creation) where
   closing-of-store Action.Read holders g = nobody-of-store
   closing-of-store (Action.Write v) holders g = g
 
+  -- and are formed where their header is
   opening-formed : (header : Header) (epoch : Epoch) (a : Action) → FormedHeader k header → isEpoch epoch ≡ true
       → messageFormed k (opening header epoch a) ≡ true
   opening-formed header epoch Action.Read f e = message-formed k (Message.Read header epoch) f e
@@ -192,6 +199,7 @@ module _ (t : Table) where
   abbrev creation : Creation
   creation = t .creation
 
+  -- read and write
   intake-kept : (host block : ℕ) (inRange : Bool) (o : Operation) → o .block ≡ block → Keeps t (intakeRule t host block inRange o)
   intake-kept host block inRange o about =
       keeps t (intakeRule t host block inRange o) (λ f e p.
@@ -200,10 +208,12 @@ module _ (t : Table) where
       let full = passed-second (not (h .working)) (leb operationLimit (h .queue .count)) 1 3 [] p .0 in
       host-kept t f host (appended h o) (r .0) (appended-formed creation h o (host-of t f host (r .0)) (rw about (r .1)) full))
 
+  -- 1 read
   pub read-kept : (host block c : ℕ) → Keeps t (readRule t host block c)
   unfolding readRule
   read-kept host block c = intake-kept host block (unused c) (record { block = block; action = Action.Read }) refl
 
+  -- 2 write
   pub write-kept : (host block value : ℕ) → Keeps t (writeRule t host block value)
   unfolding writeRule
   write-kept host block value = intake-kept host block true (record { block = block; action = Action.Write value }) refl
@@ -224,6 +234,7 @@ module _ (t : Table) where
         let l = lt-ltb block blockLimit (block-place creation block front-of (f .creation)) in
         record { host = e; chunk = h; block = l; timestamp = g }
 
+  -- 3 start
   pub start-kept : (host clock copy : ℕ) → Keeps t (startRule t host clock copy)
   unfolding startRule
   start-kept host clock copy =
@@ -244,6 +255,7 @@ module _ (t : Table) where
       (λ c q. opening-formed creation (headed host c (o .block) now) (h .epoch) (o .action)
       (header-of f host (r .0) one now s c q) (host-facts creation h g .epoch)))
 
+  -- 6 finish
   pub finish-kept : (host b c : ℕ) → Keeps t (finishRule t host b c)
   unfolding finishRule
   finish-kept host b c =
@@ -270,6 +282,7 @@ module _ (t : Table) where
       let r = three (isHost creation host) (unused b) (unused c) e in
       host-kept t f host (change (hostOf t host)) (r .0) (g f (hostOf t host) (host-of t f host (r .0)) p))
 
+  -- 7 timeout
   pub timeout-kept : (host b c : ℕ) → Keeps t (timeoutRule t host b c)
   unfolding timeoutRule
   timeout-kept host b c =
@@ -278,6 +291,7 @@ module _ (t : Table) where
       let some = not-false (not empty) (passed-second (not (h .working)) (not (isOutstanding h)) 1 1 [] p .0) in
       timed-out-formed creation h g (not-true empty some))
 
+  -- 8 refresh
   pub refresh-kept : (host b c : ℕ) → Keeps t (refreshRule t host b c)
   unfolding refreshRule
   refresh-kept host b c =
@@ -285,6 +299,7 @@ module _ (t : Table) where
       let r = host-facts creation h g in
       host-formed creation (refreshed h (t .epoch)) (record { queue = r .queue; attempt = r .attempt; epoch = f .epoch; clock = r .clock }))
 
+  -- 10 stop
   pub stop-kept : (host b c : ℕ) → Keeps t (stopRule t host b c)
   unfolding stopRule
   stop-kept host b c = alone-kept host b c workingRefusals stopped (λ f h g _. g)

@@ -55,6 +55,7 @@ module _ (t : Table) where
 -- ---- a host, a chunk, records
 
 module _ (t : Table) (f : Formed t) where
+  -- a formed host in its place
   pub host-kept : (h : ℕ) (x : Host) → isHost (t .creation) h ≡ true → hostFormed (t .creation) x ≡ true → Formed (withHost t h x)
   host-kept h x e g = record {
     creation = f .creation;
@@ -65,6 +66,7 @@ module _ (t : Table) (f : Formed t) where
     places = f .places;
   }
 
+  -- a formed chunk in its place
   pub chunk-kept : (c : ℕ) (x : Chunk) → isChunk (t .creation) c ≡ true → chunkFormed (t .creation) (t .epoch) x ≡ true
       → Formed (withChunk t c x)
   chunk-kept c x e g = record {
@@ -76,6 +78,7 @@ module _ (t : Table) (f : Formed t) where
     places = f .places;
   }
 
+  -- a record where it may stand
   pub record-kept : (c b : ℕ) (x : Record) → b < blockLimit → RecordAt (t .creation) c b x → Formed (withRecord t c b x)
   record-kept c b x l g = record {
     creation = f .creation;
@@ -111,6 +114,7 @@ module _ (t : Table) (f : Formed t) where
     places = f .places;
   }
 
+  -- formed places
   places-kept : (l : List Place) → FormedPlaces (t .creation) l → Formed (withPlaces t l)
   places-kept l g = record {
     creation = f .creation;
@@ -128,23 +132,27 @@ module _ (k : Creation) where
   laid : (l : List Place) (p : ℕ) (x : Place) → FormedPlaces k l → slotFormed k (x .slot) ≡ true → FormedPlaces k (set l p x)
   laid l p x f h = set-all (λ i (y : Place). i < placeLimit → slotFormed k (y .slot) ≡ true) zeroPlace l p x (λ _. h) f
 
+  -- a formed message sent
   sent-formed : (l : List Place) (m : Message) → FormedPlaces k l → messageFormed k m ≡ true → FormedPlaces k (sent l m)
   unfolding sent
   sent-formed l m f h = laid l (place isFree l) (record { slot = Slot.Full m }) f h
 
+  -- a formed reply, or none
   replied-formed : (l : List Place) (s : Slot) → FormedPlaces k l → slotFormed k s ≡ true → FormedPlaces k (replied l s)
   unfolding replied
   replied-formed l Slot.Empty f h = f
   replied-formed l (Slot.Full m) f h = sent-formed l m f h
 
 module _ (t : Table) (f : Formed t) where
+  -- a message removed
   pub removed-kept : (p : ℕ) → Formed (withPlaces t (removed (t .places) p))
   removed-kept p = places-kept t f (removed (t .places) p) (laid (t .creation) (t .places) p zeroPlace (f .places) refl)
 
+  -- a reply sent, or none
   pub replied-kept : (s : Slot) → slotFormed (t .creation) s ≡ true → Formed (withPlaces t (replied (t .places) s))
   replied-kept s h = places-kept t f (replied (t .places) s) (replied-formed (t .creation) (t .places) s (f .places) h)
 
-  -- messages to a set of the store's chunks
+  -- formed messages sent to a set of the store's chunks
   pub sent-to-each-kept : (to : Set) (m : (chunk : ℕ) → Message) → ofStore (t .creation) to ≡ true
       → ((c : ℕ) → isChunk (t .creation) c ≡ true → messageFormed (t .creation) (m c) ≡ true)
       → Formed (withPlaces t (sentToEach (t .places) to m))

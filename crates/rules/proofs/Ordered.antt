@@ -13,6 +13,7 @@ use Rattle.rules.specs.Words.{every}
 use Rattle.rules.specs.Zero.{zeroEntry}
 use Rattle.rules.proofs.Lists.{both, and-true, walk}
 
+-- an entry's timestamp as a number
 abbrev stampOf : Entry → ℕ
 stampOf e = e .timestamp .0
 
@@ -29,6 +30,7 @@ Ordered l = OrderedFrom 0 l
 abbrev pub Ascends : List Entry → Type 0
 Ascends l = (i : ℕ) → suc i < length l → stampOf (getD l i zeroEntry) ≤ stampOf (getD l (suc i) zeroEntry)
 
+-- the two say the same
 ascends-from : (x : Entry) (xs : List Entry) → Ascends (x ∷ xs) → OrderedFrom (stampOf x) xs
 ascends-from x [] h = tt
 ascends-from x (y ∷ ys) h = (h 0 (omega arith), ascends-from y ys (λ i l. h (suc i) (omega arith)))
@@ -55,6 +57,7 @@ insert-ordered n e (x ∷ xs) h o = go (e .timestamp below x .timestamp) refl (�
     go true q f = let k = ltb-true (stampOf e) (stampOf x) q in (h, (omega arith, o .1))
     go false q f = (o .0, f (ltb-false (stampOf e) (stampOf x) q))
 
+-- insertion: one entry more, and what holds of each still does
 pub insert-length : (e : Entry) (l : List Entry) → length (insert e l) ≡ suc (length l)
 unfolding insert
 insert-length e [] = refl
@@ -70,6 +73,7 @@ insert-every p e (x ∷ xs) h k =
     (λ _. and-true (p e) (p x && every p xs) h k)
     (λ _. let b = both (p x) (every p xs) k in and-true (p x) (every p (insert e xs)) (b .0) (insert-every p e xs h (b .1)))
 
+-- a lower bound lowered
 lowered : (n m : ℕ) (l : List Entry) → n ≤ m → OrderedFrom m l → OrderedFrom n l
 lowered n m [] h o = tt
 lowered n m (x ∷ xs) h o = let k = o .0 in (omega arith, o .1)
