@@ -20,7 +20,7 @@ use Rattle.rules.specs.Waiting.{inOrder, holding, head}
 use Rattle.rules.specs.Words.{every, some, numbers, filled}
 use Rattle.rules.specs.Zero.{_among_, isEmpty, zeroEntry, isZeroEntry, isZeroRecord, zeroOperation, isZeroOperation}
 use Rattle.rules.proofs.Lists.{both, three, four, five, implied, implies, every-at, every-number, every-numbers, none-number, used-at, used-of, take-short, every-take, filled-here, filled-past}
-use Rattle.rules.proofs.Ordered.{Ordered, ascends-ordered, ordered-ascends}
+use Rattle.rules.proofs.Order.{Ordered, ascends-ordered, ordered-ascends}
 
 -- a number from 1 to the greatest
 pub one-to : (greatest n : ℕ) → oneTo greatest n ≡ true → (1 ≤ n) × (n ≤ greatest)

@@ -10,13 +10,14 @@ use native.Mathlib.Omega.{arith}
 use Rattle.rules.specs.Types.{Creation, Table, Event, Answer}
 use Rattle.rules.specs.Codes.{Row, _gives_⨾_, codeOf}
 use Rattle.rules.specs.Creation.{isCreation, firstEpoch, freshChunk, freshHost, fresh}
-use Rattle.rules.specs.Events.{Rule, readRule, writeRule, startRule, finishRule, timeoutRule, refreshRule, stopRule, deliverRule, dropRule, runRule, failRule, recoverRule, takeLeaseRule, giveLeaseRule, overdueRule, epochRule, ruleOf, rows, answered, step}
+use Rattle.rules.specs.Events.{readRule, writeRule, startRule, finishRule, timeoutRule, refreshRule, stopRule, deliverRule, dropRule, runRule, failRule, recoverRule, takeLeaseRule, giveLeaseRule, overdueRule, epochRule, ruleOf, rows, answered, step}
 use Rattle.rules.specs.Formed.{hostFormed, chunkFormed, recordFormed, wellFormed}
 use Rattle.rules.specs.Limits.{hostLimit, chunkLimit, blockLimit, placeLimit}
 use Rattle.rules.specs.Tables.{isHost, isChunk, isBlock, at}
 use Rattle.rules.specs.Words.{every, some, from}
 use Rattle.rules.specs.Zero.{zeroRecord, isZeroRecord, zeroChunk, isZeroChunk, zeroHost, isZeroHost, zeroPlace, zeroTable, noRecord, noChunk, noHost}
 use Rattle.rules.proofs.Lists.{both, walk, each-number}
+use Rattle.rules.proofs.Events.{by-kind}
 use Rattle.rules.proofs.Formed.{well-formed}
 use Rattle.rules.proofs.KeepsParts.{Keeps, passed-second}
 use Rattle.rules.proofs.KeepsHosts.{read-kept, write-kept, start-kept, finish-kept, timeout-kept, refresh-kept, stop-kept}
@@ -44,34 +45,20 @@ module _ (k : Creation) where
 
 -- ---- the rules: each keeps well-formedness, and none of its own refusals is above 7
 
-record Sound (t : Table) (r : Rule) : Type 0 where
-  keeps : Keeps t r
-  codes : every (λ row. leb (row .code) 7) (r .refusals) ≡ true
-
-rule-sound : (t : Table) (e : Event) → Sound t (ruleOf t e)
-unfolding ruleOf every readRule writeRule startRule finishRule timeoutRule refreshRule stopRule deliverRule dropRule runRule failRule recoverRule takeLeaseRule giveLeaseRule overdueRule epochRule
-rule-sound t e =
-    let k = e .kind in
+rule-keeps : (t : Table) (e : Event) → Keeps t (ruleOf t e)
+rule-keeps t e =
     let a = e .a in
     let b = e .b in
     let c = e .c in
-    walk (Sound t) (eqb k 1) _ _ (λ _. record { keeps = read-kept t a b c; codes = refl }) (λ _.
-    walk (Sound t) (eqb k 2) _ _ (λ _. record { keeps = write-kept t a b c; codes = refl }) (λ _.
-    walk (Sound t) (eqb k 3) _ _ (λ _. record { keeps = start-kept t a b c; codes = refl }) (λ _.
-    walk (Sound t) (eqb k 4) _ _ (λ _. record { keeps = deliver-kept t a b c; codes = refl }) (λ _.
-    walk (Sound t) (eqb k 5) _ _ (λ _. record { keeps = drop-kept t a b c; codes = refl }) (λ _.
-    walk (Sound t) (eqb k 6) _ _ (λ _. record { keeps = finish-kept t a b c; codes = refl }) (λ _.
-    walk (Sound t) (eqb k 7) _ _ (λ _. record { keeps = timeout-kept t a b c; codes = refl }) (λ _.
-    walk (Sound t) (eqb k 8) _ _ (λ _. record { keeps = refresh-kept t a b c; codes = refl }) (λ _.
-    walk (Sound t) (eqb k 9) _ _ (λ _. record { keeps = run-kept t a b c; codes = refl }) (λ _.
-    walk (Sound t) (eqb k 10) _ _ (λ _. record { keeps = stop-kept t a b c; codes = refl }) (λ _.
-    walk (Sound t) (eqb k 11) _ _ (λ _. record { keeps = fail-kept t a b c; codes = refl }) (λ _.
-    walk (Sound t) (eqb k 12) _ _ (λ _. record { keeps = recover-kept t a b c; codes = refl }) (λ _.
-    walk (Sound t) (eqb k 13) _ _ (λ _. record { keeps = take-lease-kept t a b c; codes = refl }) (λ _.
-    walk (Sound t) (eqb k 14) _ _ (λ _. record { keeps = give-lease-kept t a b c; codes = refl }) (λ _.
-    walk (Sound t) (eqb k 15) _ _ (λ _. record { keeps = epoch-kept t a b c; codes = refl }) (λ _.
-    walk (Sound t) (eqb k 16) _ _ (λ _. record { keeps = overdue-kept t a b c; codes = refl }) (λ _.
-    record { keeps = λ h _ _. h; codes = refl }))))))))))))))))
+    by-kind (Keeps t) t e (read-kept t a b c) (write-kept t a b c) (start-kept t a b c) (deliver-kept t a b c) (drop-kept t a b c)
+    (finish-kept t a b c) (timeout-kept t a b c) (refresh-kept t a b c) (run-kept t a b c) (stop-kept t a b c) (fail-kept t a b c)
+    (recover-kept t a b c) (take-lease-kept t a b c) (give-lease-kept t a b c) (epoch-kept t a b c) (overdue-kept t a b c) (λ h _ _. h)
+
+rule-codes : (t : Table) (e : Event) → every (λ row. leb (row .code) 7) (ruleOf t e .refusals) ≡ true
+unfolding every readRule writeRule startRule finishRule timeoutRule refreshRule stopRule deliverRule dropRule runRule failRule recoverRule takeLeaseRule giveLeaseRule overdueRule epochRule
+rule-codes t e =
+    by-kind (λ r. every (λ row. leb (row .code) 7) (r .refusals) ≡ true) t e
+    refl refl refl refl refl refl refl refl refl refl refl refl refl refl refl refl refl
 
 -- no row above n, no code above n
 code-most : (n : ℕ) (l : List Row) → every (λ row. leb (row .code) n) l ≡ true → codeOf l ≤ n
@@ -87,7 +74,7 @@ unfolding step answered rows codeOf every
 step-most t e h =
     let r = ruleOf t e in
     walk (λ (a : Answer). a .code ≤ 7) (eqb (codeOf (rows t r)) 0) _ _ (λ _. omega arith)
-    (λ _. rw h (code-most 7 (not (r .ranges) gives 1 ⨾ r .refusals) (rule-sound t e .codes)))
+    (λ _. rw h (code-most 7 (not (r .ranges) gives 1 ⨾ r .refusals) (rule-codes t e)))
 
 -- ---- the theorems
 
@@ -116,7 +103,7 @@ step-formed t e h =
     let r = ruleOf t e in
     walk (λ (a : Answer). wellFormed (a .table) ≡ true) (eqb (codeOf (rows t r)) 0) _ _ (λ done.
     let own = passed-second (not (wellFormed t)) (not (r .ranges)) 7 0 (r .refusals) (eqb-true (codeOf (rows t r)) 0 done) in
-    rule-sound t e .keeps h (not-false (r .ranges) (own .0)) (own .1))
+    rule-keeps t e h (not-false (r .ranges) (own .0)) (own .1))
     (λ _. h)
 
 -- the table after the events, each given to the step

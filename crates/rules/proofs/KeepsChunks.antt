@@ -23,7 +23,7 @@ use Rattle.rules.specs.Waiting.{inOrder, insert, inserted, head, headRem
 use Rattle.rules.specs.Words.{every, from, numbers}
 use Rattle.rules.specs.Zero.{noBlocks, zeroEntry, isZeroEntry, zeroWaiting, isZeroRecord}
 use Rattle.rules.proofs.Lists.{three, five, walk, every-drop, every-change, set-all, take-short}
-use Rattle.rules.proofs.Ordered.{insert-length, insert-every, insert-ordered, tail-ordered, mark-ordered}
+use Rattle.rules.proofs.Order.{insert-length, insert-every, insert-ordered, tail-ordered, mark-ordered}
 use Rattle.rules.proofs.Formed.{Formed, chunk-place, block-place, chunk-facts, chunk-formed, waiting-facts, entries-length, entries-formed, entries-ordered, waiting-formed, head-formed, FormedRecord, record-facts, record-formed, FormedHeader, message-facts, message-formed, host-of, chunk-of, record-of}
 use Rattle.rules.proofs.KeepsParts.{Keeps, keeps, passed-second, RecordAt, host-kept, chunk-kept, record-kept, records-kept, removed-kept, replied-kept}
 use Rattle.rules.proofs.KeepsHosts.{at-host-formed}

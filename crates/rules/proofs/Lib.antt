@@ -6,7 +6,6 @@ pub mod Order
 pub mod Relies
 pub mod Errors
 pub mod Cases
-pub mod Ordered
 pub mod Formed
 pub mod KeepsParts
 pub mod KeepsHosts

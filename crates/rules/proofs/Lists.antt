@@ -1,6 +1,6 @@
 -- Laws about the words of the rules, over any element
 use Prim.Native.Nat.{ℕ, zero, suc, _+_, _-_, _*_, _≤_, _<_}
-use mathlib.Core.Path.{_≡_, refl, sym, ap, _∙_}
+use mathlib.Core.Path.{_≡_, refl, ap, _∙_}
 use mathlib.Core.Logic.{_⊎_, inl, inr}
 use mathlib.Core.Bool.{Bool, true, false, cond, not, _&&_, _||_, true≢false, false≢true}
 use mathlib.Core.List.{List, [], _∷_, _++_}
@@ -9,9 +9,9 @@ use native.Mathlib.Decide.{decLe}
 use native.Mathlib.Omega.{arith}
 use borrow.Author.Tests.{ltb-true, ltb-false, lt-ltb}
 use lib.Dec.{ltb}
-use lib.ListN.{length, getD, set, take, drop, replicate, length-append, length-take, length-replicate, getD-replicate, List·getD-eq-default, List·getD-append}
+use lib.ListN.{length, getD, set, take, drop, replicate, length-take, List·getD-eq-default, List·getD-append}
 use lib.Seq.{getD-append-add, getD-take, take-take, take-append-seam}
-use Rattle.rules.specs.Words.{those, each, joined, every, some, none, place, fold, from, numbers, filled}
+use Rattle.rules.specs.Words.{those, each, joined, every, some, fold, from, numbers, filled}
 
 -- ---- tests
 
