@@ -1,0 +1,23 @@
+-- What the functions on parts of the table are given
+use Prim.Native.Nat.{ℕ}
+use mathlib.Core.Bool.{Bool, false, _||_, not}
+use mathlib.Core.List.{[]}
+use lib.Dec.{ltb}
+use lib.ListN.{getD}
+use Rattle.rules.specs.declared.Creation.{Creation}
+use Rattle.rules.specs.declared.Chunk.{Chunk}
+use Rattle.rules.specs.declared.Table.{Table}
+use Rattle.rules.specs.Timestamps.{noEpoch}
+use Rattle.sound.specs.declared.Counts.{Counts}
+
+-- a creation of these counts: the rules about a store's parts look at no more of it
+abbrev pub counted : Counts → Creation
+counted n = record { hosts = n .hosts; chunks = n .chunks; blocks = n .blocks; age = 0; sets = [] }
+
+-- a table of these counts, into which one array is put: the rules about that array look at no more of it
+abbrev pub bare : Counts → Table
+bare n = record { creation = counted n; epoch = noEpoch; hosts = []; chunks = []; records = []; places = [] }
+
+-- block b, where it needs reconciliation, is below the number of blocks
+abbrev pub ofBlocks : (blocks : ℕ) → Chunk → ℕ → Bool
+ofBlocks blocks c b = not (getD (c .reconcile) b false) || ltb b blocks
