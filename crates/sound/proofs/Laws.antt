@@ -1,18 +1,27 @@
 -- Laws that the proofs of the functions cite
-use Prim.Native.Nat.{ℕ}
+use Prim.Native.Nat.{ℕ, _-_, _*_, _/_, _%_}
 use mathlib.Core.Path.{_≡_, refl, ap}
 use mathlib.Core.Bool.{Bool, true, false, cond, not, _&&_, _||_}
 use mathlib.Core.List.{List, [], _∷_}
+use native.Mathlib.Nat.{div-add-mod'}
 use native.Mathlib.Omega.{arith}
 use lib.Dec.{eqb, ltb}
+use lib.ListN.{getD}
 use borrow.Author.Tests.{le-ltb, eqb-true}
+use Rattle.rules.specs.declared.Creation.{Creation}
+use Rattle.rules.specs.declared.Host.{Host}
+use Rattle.rules.specs.declared.Record.{Record}
 use Rattle.rules.specs.declared.Table.{Table}
 use Rattle.rules.specs.Creation.{isCreation}
-use Rattle.rules.specs.Formed.{hostAt, chunkAt, recordsAt, placeAt, wellFormed}
-use Rattle.rules.specs.Limits.{hostLimit, chunkLimit, placeLimit}
-use Rattle.rules.specs.Timestamps.{isEpoch}
+use Rattle.rules.specs.Formed.{operationFormed, operationAt, entryFormed, entryAt, recordFormed, hostAt, chunkAt, recordAt, recordsAt, placeAt, wellFormed}
+use Rattle.rules.specs.Limits.{hostLimit, chunkLimit, blockLimit, operationLimit, waitingLimit, placeLimit}
+use Rattle.rules.specs.Tables.{withRecords}
+use Rattle.rules.specs.Timestamps.{never, _is_, _above_, _same_, noEpoch, isEpoch}
 use Rattle.rules.specs.Words.{every, some, numbers}
-use Rattle.rules.proofs.Loops.{every-same}
+use Rattle.rules.specs.Zero.{zeroEntry, isZeroEntry, zeroOperation, isZeroOperation, isZeroAttempt, isZeroHost, isZeroRecord, noRecord}
+use Rattle.rules.proofs.Loops.{every-same, every-flat}
+use Rattle.sound.specs.declared.Counts.{Counts}
+use Rattle.sound.specs.Parts.{counted, bare, recordInPlace}
 
 -- ---- unused places
 
@@ -38,6 +47,30 @@ none-used a count used unused l = go a (eqb count 0) refl
     go false b e = refl
     go true false e = refl
     go true true e = every-same (λ i. cond (ltb i count) (used i) (unused i)) unused (at (eqb-true count 0 e)) l
+
+module _ (k : Creation) where
+  pub zero-host : (h : Host) (operations attempt : Bool) → operations ≡ every (operationAt k (h .queue)) (numbers operationLimit) → attempt ≡ isZeroAttempt (h .attempt)
+      → not (h .working) && eqb (h .queue .count) 0 && operations && attempt && h .epoch same noEpoch && not (h .mapped) && eqb (h .clock) 0 ≡ isZeroHost h
+  zero-host h operations attempt ho ha =
+      rw (ho, ha, none-used (not (h .working)) (h .queue .count) (λ i. operationFormed k (getD (h .queue .operations) i zeroOperation)) (λ i. isZeroOperation (getD (h .queue .operations) i zeroOperation)) (numbers operationLimit)) refl
+
+  pub zero-record : (x : Record) (entries : Bool) → entries ≡ every (entryAt k (x .waiting)) (numbers waitingLimit)
+      → eqb (x .value) 0 && x .read is never && x .write is never && eqb (x .waiting .count) 0 && entries ≡ isZeroRecord x
+  zero-record x entries h =
+      rw h (none-used (eqb (x .value) 0 && x .read is never && x .write is never) (x .waiting .count)
+      (λ i. entryFormed k (getD (x .waiting .entries) i zeroEntry) && not (getD (x .waiting .entries) (i - 1) zeroEntry .timestamp above getD (x .waiting .entries) i zeroEntry .timestamp))
+      (λ i. isZeroEntry (getD (x .waiting .entries) i zeroEntry)) (numbers waitingLimit))
+
+-- ---- the records: chunk by chunk, and in them block by block
+
+module _ (n : Counts) (records : List Record) where
+  pub record-at : (i : ℕ)
+      → recordInPlace n records i
+      ≡ cond (ltb (i / blockLimit) (n .chunks) && ltb (i % blockLimit) (n .blocks)) (recordFormed (counted n) (getD records i noRecord)) (isZeroRecord (getD records i noRecord))
+  record-at i = rw (div-add-mod' i blockLimit) refl
+
+  pub record-by-record : every (recordInPlace n records) (numbers (chunkLimit * blockLimit)) ≡ every (recordsAt (withRecords (bare n) records)) (numbers chunkLimit)
+  record-by-record = every-flat (recordAt (withRecords (bare n) records)) chunkLimit blockLimit (omega arith)
 
 -- ---- the table: the first fault decides
 

@@ -1,12 +1,16 @@
 -- What the functions on parts of the table are given
-use Prim.Native.Nat.{ℕ}
+use Prim.Native.Nat.{ℕ, _/_, _%_}
 use mathlib.Core.Bool.{Bool, false, _||_, not}
-use mathlib.Core.List.{[]}
+use mathlib.Core.List.{List, []}
 use lib.Dec.{ltb}
 use lib.ListN.{getD}
 use Rattle.rules.specs.declared.Creation.{Creation}
 use Rattle.rules.specs.declared.Chunk.{Chunk}
+use Rattle.rules.specs.declared.Record.{Record}
 use Rattle.rules.specs.declared.Table.{Table}
+use Rattle.rules.specs.Formed.{recordAt}
+use Rattle.rules.specs.Limits.{blockLimit}
+use Rattle.rules.specs.Tables.{withRecords}
 use Rattle.rules.specs.Timestamps.{noEpoch}
 use Rattle.sound.specs.declared.Counts.{Counts}
 
@@ -17,6 +21,10 @@ counted n = record { hosts = n .hosts; chunks = n .chunks; blocks = n .blocks; a
 -- a table of these counts, into which one array is put: the rules about that array look at no more of it
 abbrev pub bare : Counts → Table
 bare n = record { creation = counted n; epoch = noEpoch; hosts = []; chunks = []; records = []; places = [] }
+
+-- the record at i: that of chunk i / 16 and block i % 16
+abbrev pub recordInPlace : Counts → List Record → ℕ → Bool
+recordInPlace n records i = recordAt (withRecords (bare n) records) (i / blockLimit) (i % blockLimit)
 
 -- block b, where it needs reconciliation, is below the number of blocks
 abbrev pub ofBlocks : (blocks : ℕ) → Chunk → ℕ → Bool

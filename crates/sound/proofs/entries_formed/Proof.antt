@@ -42,7 +42,7 @@ entry-at-requires c κs = search needs
 returns : tie.Need-returns Inv-loop μ-loop
 returns c =
     let l = c .before .before .before .before .before .before in
-    sym (every-stop _ 8 (l .loop .i) (omega arith) (sym (c .before .entry-at .ensures) ∙ not-true _ (c .if1 .taken)))
+    sym (every-stop _ 8 (l .loop .i) (omega arith) (sym (rw (c .before .before .before .before2 .ensures) at (c .before .entry-at .ensures)) ∙ not-true _ (c .if1 .taken)))
 
 add-i : tie.Need-add-i Inv-loop μ-loop
 add-i c = search needs
@@ -53,7 +53,7 @@ loop-less c = search needs
 loop-again : tie.Need-loop-again Inv-loop μ-loop
 loop-again c =
     let l = c .before .before .before .before .before .before in
-    (omega arith, every-next _ _ (l .loop .inv .1) (sym (c .before .entry-at .ensures) ∙ not-false _ (c .if1 .left)))
+    (omega arith, every-next _ _ (l .loop .inv .1) (sym (rw (c .before .before .before .before2 .ensures) at (c .before .entry-at .ensures)) ∙ not-false _ (c .if1 .left)))
 
 returns-2 : tie.Need-returns-2 Inv-loop μ-loop
 returns-2 c =
