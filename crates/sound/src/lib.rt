@@ -496,7 +496,7 @@ pub fn well_formed(t: Table) -> bool
     if !is_creation(k) {
         return false;
     }
-    if !(t.epoch.0 <= GREATEST_CLOCK) {
+    if GREATEST_CLOCK < t.epoch.0 {
         return false;
     }
     let n = Counts {
