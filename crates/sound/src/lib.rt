@@ -4,13 +4,13 @@ ghost use mathlib.Core.Bool.{Bool, _&&_, not};
 ghost use Prim.Native.Nat.{ℕ, _-_, _<_};
 ghost use Rattle.rules.specs.Creation.{isCreation, ofStore, isSetOf};
 ghost use Rattle.rules.specs.Formed.{operationFormed, operationAt, queueFormed, attemptFormed, hostFormed, chunkFormed, entryFormed, entryAt, waitingFormed, recordFormed, messageFormed, slotFormed, hostAt, chunkAt, recordsAt, placeAt, wellFormed};
-ghost use Rattle.rules.specs.Kinds.{isRead, isNormal, isReading, headerOf, epochOf};
+ghost use Rattle.rules.specs.Kinds.{isRead, isNormal, isReading};
 ghost use Rattle.rules.specs.Limits.{hostLimit, chunkLimit, blockLimit, operationLimit, waitingLimit, placeLimit};
 ghost use Rattle.rules.specs.Tables.{withEpoch, withHosts, withChunks, withRecords, withPlaces};
 ghost use Rattle.rules.specs.Timestamps.{_above_};
 ghost use Rattle.rules.specs.Words.{if_then_else_, every, none, numbers};
 ghost use Rattle.rules.specs.Zero.{isEmpty, isZeroEntry, isZeroRecord, isZeroChunk, isZeroOperation, isZeroAttempt, isZeroHost};
-ghost use Rattle.sound.specs.Parts.{counted, bare, ofBlocks};
+ghost use Rattle.sound.specs.Parts.{counted, bare, headerFormed, ofBlocks};
 use rules::Action;
 use rules::Attempt;
 use rules::Chunk;
@@ -74,49 +74,6 @@ fn is_reading(a: Action) -> bool
     match a {
         Action::Read => true,
         Action::Write(_) => false,
-    }
-}
-
-fn header_of(m: Message) -> Header
-    ensures { λ r. ⌜ r ≡ headerOf m ⌝ }
-{
-    match m {
-        Message::Read { header, epoch: _ } => header,
-        Message::Prewrite {
-            header,
-            epoch: _,
-            value: _,
-        } => header,
-        Message::Commit { header, epoch: _ } => header,
-        Message::Abort { header, epoch: _ } => header,
-        Message::Mismatch { header } => header,
-        Message::Error { header } => header,
-        Message::OutOfOrder { header } => header,
-        Message::Busy { header } => header,
-        Message::ReadReply { header, value: _ } => header,
-        Message::PrewriteReply { header } => header,
-    }
-}
-
-// The epoch that the host knows; a reply has none.
-fn epoch_of(m: Message) -> Epoch
-    ensures { λ r. ⌜ r ≡ epochOf m ⌝ }
-{
-    match m {
-        Message::Read { header: _, epoch } => epoch,
-        Message::Prewrite {
-            header: _,
-            epoch,
-            value: _,
-        } => epoch,
-        Message::Commit { header: _, epoch } => epoch,
-        Message::Abort { header: _, epoch } => epoch,
-        Message::Mismatch { .. } => Epoch(0),
-        Message::Error { .. } => Epoch(0),
-        Message::OutOfOrder { .. } => Epoch(0),
-        Message::Busy { .. } => Epoch(0),
-        Message::ReadReply { .. } => Epoch(0),
-        Message::PrewriteReply { .. } => Epoch(0),
     }
 }
 
@@ -448,22 +405,38 @@ fn records_formed(n: Counts, records: [Record; 128]) -> bool
 
 // ---- a message
 
-// "a message's block may be 0 to 15 and a timestamp anything up to 34,359,738,367"
-fn message_formed(n: Counts, m: Message) -> bool
-    ensures { λ r. ⌜ r ≡ messageFormed (counted n) m ⌝ }
+// "a message's block may be 0 to 15 and a timestamp anything up to 34,359,738,367"; a reply's epoch is 0.
+fn header_formed(n: Counts, h: Header, epoch: Epoch) -> bool
+    ensures { λ r. ⌜ r ≡ headerFormed n h epoch ⌝ }
 {
-    let h = header_of(m);
-    let e = epoch_of(m);
     (h.host < n.hosts)
         & (h.chunk < n.chunks)
         & (h.block < rules::BLOCKS as u64)
         & (h.timestamp.0 <= GREATEST_TIMESTAMP)
-        & (e.0 <= GREATEST_CLOCK)
+        & (epoch.0 <= GREATEST_CLOCK)
 }
 
-fn slot_formed(n: Counts, s: Slot) -> bool
-    ensures { λ r. ⌜ r ≡ slotFormed (counted n) s ⌝ }
+fn message_formed(n: Counts, m: Message) -> bool
+    ensures { λ r. ⌜ r ≡ messageFormed (counted n) m ⌝ }
 {
+    match m {
+        Message::Read { header, epoch } => header_formed(n, header, epoch),
+        Message::Prewrite { header, epoch, value: _ } => header_formed(n, header, epoch),
+        Message::Commit { header, epoch } => header_formed(n, header, epoch),
+        Message::Abort { header, epoch } => header_formed(n, header, epoch),
+        Message::Mismatch { header } => header_formed(n, header, Epoch(0)),
+        Message::Error { header } => header_formed(n, header, Epoch(0)),
+        Message::OutOfOrder { header } => header_formed(n, header, Epoch(0)),
+        Message::Busy { header } => header_formed(n, header, Epoch(0)),
+        Message::ReadReply { header, value: _ } => header_formed(n, header, Epoch(0)),
+        Message::PrewriteReply { header } => header_formed(n, header, Epoch(0)),
+    }
+}
+
+fn place_formed(n: Counts, p: Place) -> bool
+    ensures { λ r. ⌜ r ≡ slotFormed (counted n) (p .slot) ⌝ }
+{
+    let s = p.slot;
     match s {
         Slot::Empty => true,
         Slot::Full(m) => message_formed(n, m),
@@ -476,8 +449,7 @@ fn places_formed(n: Counts, places: [Place; 64]) -> bool
     let mut i: usize = 0;
     while i < rules::PLACES {
         let p = places[i];
-        let s = p.slot;
-        if !slot_formed(n, s) {
+        if !place_formed(n, p) {
             return false;
         }
         i = i + 1;

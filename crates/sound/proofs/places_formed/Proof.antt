@@ -28,13 +28,13 @@ mul-p c = search needs
 array-copy-out-p : tie.Need-array-copy-out-p Inv-loop μ-loop
 array-copy-out-p c = search needs
 
-slot-formed-requires : tie.Need-slot-formed-requires Inv-loop μ-loop
-slot-formed-requires c κs = search needs
+place-formed-requires : tie.Need-place-formed-requires Inv-loop μ-loop
+place-formed-requires c κs = search needs
 
 returns : tie.Need-returns Inv-loop μ-loop
 returns c =
     let l = c .before .before .before .before in
-    sym (every-stop _ 64 (l .loop .i) (omega arith) (sym (c .before .slot-formed .ensures) ∙ not-true _ (c .if1 .taken)))
+    sym (every-stop _ 64 (l .loop .i) (omega arith) (sym (c .before .place-formed .ensures) ∙ not-true _ (c .if1 .taken)))
 
 add-i : tie.Need-add-i Inv-loop μ-loop
 add-i c = search needs
@@ -45,7 +45,7 @@ loop-less c = search needs
 loop-again : tie.Need-loop-again Inv-loop μ-loop
 loop-again c =
     let l = c .before .before .before .before in
-    (omega arith, every-next _ _ (l .loop .inv .1) (sym (c .before .slot-formed .ensures) ∙ not-false _ (c .if1 .left)))
+    (omega arith, every-next _ _ (l .loop .inv .1) (sym (c .before .place-formed .ensures) ∙ not-false _ (c .if1 .left)))
 
 returns-2 : tie.Need-returns-2 Inv-loop μ-loop
 returns-2 c =
@@ -61,7 +61,7 @@ places-formed-spec =
     loop-holds
     mul-p
     array-copy-out-p
-    slot-formed-requires
+    place-formed-requires
     returns
     add-i
     loop-less

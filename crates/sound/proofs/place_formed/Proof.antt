@@ -1,8 +1,7 @@
--- `sound::slot_formed` meets its contract
-use mathlib.Core.Path.{refl}
+-- `sound::place_formed` meets its contract
 use borrow.Author.Needs.{needs}
-use Rattle.sound.proofs.slot_formed.Statement.{statement}
-use Rattle.sound.proofs.slot_formed.Tie as tie
+use Rattle.sound.proofs.place_formed.Statement.{statement}
+use Rattle.sound.proofs.place_formed.Tie as tie
 
 enum-told : tie.Need-enum-told
 enum-told c = search needs
@@ -19,6 +18,6 @@ returns c = search needs
 returns-2 : tie.Need-returns-2
 returns-2 c = rw (c .before .before .s .given .1) (c .message-formed .ensures)
 
-pub slot-formed-spec : {M : Type 1} → statement M
-slot-formed-spec =
+pub place-formed-spec : {M : Type 1} → statement M
+place-formed-spec =
     tie.close (tie.spec enum-told enum-known-s message-formed-requires returns returns-2)
