@@ -1,12 +1,14 @@
 -- Loops: what a loop over an array cites, and how a word of the rules is a loop. Over any element
-use Prim.Native.Nat.{ℕ, zero, suc, _+_, _-_, _≤_, _<_, compare·suc-suc}
+use Prim.Native.Nat.{ℕ, zero, suc, _+_, _-_, _*_, _/_, _%_, _≤_, _<_, compare·suc-suc}
 use mathlib.Core.Path.{_≡_, refl, sym, ap, _∙_}
 use mathlib.Core.Bool.{Bool, true, false, cond, _&&_, _||_, not, true≢false}
 use mathlib.Core.List.{List, [], _∷_, _++_}
+use native.Mathlib.Nat.{mod-lt, div-lt-iff-lt-mul}
 use native.Mathlib.Numerals.{add-one}
 use native.Mathlib.Decide.{decLe}
 use native.Mathlib.Omega.{arith}
 use lib.ListN.{length, getD, take, drop, drop-of-length-le, length-take}
+use lib.Arith.{digits-lt, digits-div, digits-mod}
 use lib.Dec.{ltb}
 use borrow.Author.Tests.{lt-ltb}
 use lib.Seq.{drop-cons}
@@ -171,3 +173,28 @@ module _ (p : ℕ → Bool) where
       go : (b : Bool) → some p (numbers n) ≡ b → b ≡ true
       go true e = refl
       go false e = absurd (true≢false (sym h ∙ none-number p n e i l))
+
+-- ---- sound: m rows of n, one behind the other, are looked at by one loop
+
+same-truth : (a b : Bool) → (a ≡ true → b ≡ true) → (b ≡ true → a ≡ true) → a ≡ b
+same-truth true b f g = sym (f refl)
+same-truth false true f g = g refl
+same-truth false false f g = refl
+
+module _ (p : ℕ → ℕ → Bool) (m n : ℕ) (some-columns : 0 < n) where
+  abbrev flat : Bool
+  flat = every (λ i. p (i / n) (i % n)) (numbers (m * n))
+
+  abbrev rows : Bool
+  rows = every (λ r. every (p r) (numbers n)) (numbers m)
+
+  flat-rows : flat ≡ true → rows ≡ true
+  flat-rows h = every-numbers (λ r. every (p r) (numbers n)) m (λ r k. every-numbers (p r) n (λ c l.
+      rw (digits-div r l, digits-mod r l) at (every-number (λ i. p (i / n) (i % n)) (m * n) h (r * n + c) (digits-lt k l))))
+
+  rows-flat : rows ≡ true → flat ≡ true
+  rows-flat h = every-numbers (λ i. p (i / n) (i % n)) (m * n) (λ i k.
+      every-number (p (i / n)) n (every-number (λ r. every (p r) (numbers n)) m h (i / n) (div-lt-iff-lt-mul some-columns .1 k)) (i % n) (mod-lt i some-columns))
+
+  pub every-flat : flat ≡ rows
+  every-flat = same-truth flat rows flat-rows rows-flat
