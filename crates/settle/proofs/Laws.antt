@@ -1,8 +1,8 @@
 -- The steps of the code are the rules of settlement
 use Prim.Native.Nat.{ℕ, _≤_, _<_}
 use mathlib.Core.Path.{_≡_, refl, sym, ap, _∙_}
-use mathlib.Core.Logic.{_⊎_, inl, inr, ⊎-elim}
-use mathlib.Core.Bool.{Bool, true, false, cond, _&&_, _||_, not, and-true, and-false, false≢true}
+use mathlib.Core.Logic.{⊎-elim}
+use mathlib.Core.Bool.{Bool, true, false, cond, _&&_, _||_, not, and-true, and-false, true≢false, false≢true}
 use mathlib.Core.List.{List, [], _∷_, _++_}
 use native.Mathlib.Omega.{arith}
 use lib.Dec.{ltb, eqb}
@@ -20,7 +20,7 @@ use Rattle.rules.specs.Timestamps.{never, later, _is_, _above_, greatest}
 use Rattle.rules.specs.Waiting.{inOrder}
 use Rattle.rules.specs.Words.{those, each, joined, every, some, none, place, first, fold}
 use Rattle.rules.specs.Zero.{zeroEntry, zeroWaiting, noCopy}
-use Rattle.rules.proofs.Lists.{both}
+use Rattle.rules.proofs.Lists.{both, true-or-false}
 use Rattle.rules.proofs.Loops.{fold-those, fold-each, fold-append, fold-same, every-same, every-those, every-both, first-those, those-both, those-every, none-every}
 use Rattle.settle.specs.Steps.{withWrite, withRead, beside, agrees, withEntry, withBlock}
 
@@ -131,19 +131,27 @@ module _ (p : Timestamp → Bool) where
   part : (m : Timestamp) (a b : List Timestamp) → ((u : Timestamp) → p u ≡ true → some (λ t. t is u) a ≡ true) → fold taken m (a ++ b) ≡ fold taken m a
   part m a b h = fold-append taken m a b ∙ stays (fold taken m a) b (λ u k. reaches u m a k (h u k))
 
-  -- where all that are p are above w: none is, and it is w; or some one is, and it is the greatest of them
-  best : (w : Timestamp) → ((u : Timestamp) → p u ≡ true → w .0 < u .0) → (l : List Timestamp)
-      → ((some p l ≡ false) × (fold taken w l ≡ w)) ⊎ ((some p l ≡ true) × (p (fold taken w l) ≡ true) × (greatest (those p l) ≡ fold taken w l))
-  unfolding fold some those
-  best w h [] = inl (refl, refl)
-  best w h (x ∷ xs) = go (p x) refl (best w h xs)
+  none-taken : (m : Timestamp) (l : List Timestamp) → some p l ≡ false → fold taken m l ≡ m
+  unfolding fold some
+  none-taken m [] h = refl
+  none-taken m (x ∷ xs) h = go (p x) h (none-taken m xs)
     where
-      go : (b : Bool) → p x ≡ b → ((some p xs ≡ false) × (fold taken w xs ≡ w)) ⊎ ((some p xs ≡ true) × (p (fold taken w xs) ≡ true) × (greatest (those p xs) ≡ fold taken w xs))
-          → ((b || some p xs ≡ false) × (fold taken (cond b (later w x) w) xs ≡ w)) ⊎ ((b || some p xs ≡ true) × (p (fold taken (cond b (later w x) w) xs) ≡ true) × (greatest (cond b (x ∷ those p xs) (those p xs)) ≡ fold taken (cond b (later w x) w) xs))
-      go true e r =
-          let k = h x e in
-          rw (later-above w x k) (inr (refl, keeps x xs e, ap (λ (m : Timestamp). fold later m (those p xs)) (later-above never x (omega arith)) ∙ fold-those later p x xs))
-      go false e r = r
+      go : (b : Bool) → b || some p xs ≡ false → (some p xs ≡ false → fold taken m xs ≡ m) → fold taken (cond b (later m x) m) xs ≡ m
+      go true h f = absurd (true≢false h)
+      go false h f = f h
+
+  -- where all that are p are above m, it is one of them and their greatest
+  one-taken : (m : Timestamp) → ((u : Timestamp) → p u ≡ true → m .0 < u .0) → (l : List Timestamp) → some p l ≡ true → (p (fold taken m l) ≡ true) × (greatest (those p l) ≡ fold taken m l)
+  unfolding fold some those
+  one-taken m above-m [] h = absurd (false≢true h)
+  one-taken m above-m (x ∷ xs) h = go (p x) refl h (one-taken m above-m xs)
+    where
+      go : (b : Bool) → p x ≡ b → b || some p xs ≡ true → (some p xs ≡ true → (p (fold taken m xs) ≡ true) × (greatest (those p xs) ≡ fold taken m xs))
+          → (p (fold taken (cond b (later m x) m) xs) ≡ true) × (greatest (cond b (x ∷ those p xs) (those p xs)) ≡ fold taken (cond b (later m x) m) xs)
+      go true e h f =
+          let k = above-m x e in
+          rw (later-above m x k) (keeps x xs e, ap (λ (t : Timestamp). fold later t (those p xs)) (later-above never x (omega arith)) ∙ fold-those later p x xs)
+      go false e h f = f h
 
 -- ---- the latest committed write: a chunk that is not lost has it among its writes
 
@@ -193,7 +201,7 @@ module _ (cs : List Copy) where
   unfolding writtenWith
   lowest-value t h =
       let e : first noCopy (λ c. notLost c && holds t c) cs ≡ lowest =
-          first-those noCopy (λ c. notLost c && holds t c) cs ∙ rw (those-both notLost (holds t) cs, those-every (holds t) (those notLost cs) (all-hold t h)) (sym (first-those noCopy notLost cs)) in
+      first-those noCopy (λ c. notLost c && holds t c) cs ∙ rw (those-both notLost (holds t) cs, those-every (holds t) (those notLost cs) (all-hold t h)) (sym (first-those noCopy notLost cs)) in
       rw e refl
 
   -- the code's fold over the entries of one chunk
@@ -210,26 +218,26 @@ module _ (cs : List Copy) where
 
   -- ---- the settled block
 
-  module _ (m : Timestamp) (is-latest : m ≡ latestOf (writes cs)) where
-    abbrev settledTo : Record
-    settledTo = record {
-      value = cond (m above W cs) (valueOf (first zeroEntry (writeWith m) (waiting lowest) .kind)) (besideW cs);
-      read = greatest (each lastRead (those inSet cs));
-      write = m;
-      waiting = zeroWaiting;
-    }
+  abbrev settledTo : Timestamp → Record
+  settledTo m = record {
+    value = cond (m above W cs) (valueOf (first zeroEntry (writeWith m) (waiting lowest) .kind)) (besideW cs);
+    read = greatest (each lastRead (those inSet cs));
+    write = m;
+    waiting = zeroWaiting;
+  }
 
-    record-is : settledTo ≡ settledRecord cs
-    unfolding settledRecord latest commits
-    record-is = ⊎-elim else-W latest-one (best (committed cs) (W cs) above-W (writes cs))
-      where
-        else-W : (some (committed cs) (writes cs) ≡ false) × (latestOf (writes cs) ≡ W cs) → settledTo ≡ settledRecord cs
-        else-W h = rw (h .0, is-latest, h .1, le-ltb (W cs .0) (W cs .0) (omega arith)) refl
+  record-is : (m : Timestamp) → m ≡ latestOf (writes cs) → settledTo m ≡ settledRecord cs
+  unfolding settledRecord latest commits
+  record-is m e = ⊎-elim latest-one else-W (true-or-false (some (committed cs) (writes cs)))
+    where
+      latest-one : some (committed cs) (writes cs) ≡ true → settledTo m ≡ settledRecord cs
+      latest-one h =
+          let r = one-taken (committed cs) (W cs) above-W (writes cs) h in
+          let k : committed cs m ≡ true = rw e (r .0) in
+          rw (h, r .1, ← e, lt-ltb (W cs .0) (m .0) (above-W m k), lowest-value m k) refl
 
-        latest-one : (some (committed cs) (writes cs) ≡ true) × (committed cs (latestOf (writes cs)) ≡ true) × (greatest (those (committed cs) (writes cs)) ≡ latestOf (writes cs)) → settledTo ≡ settledRecord cs
-        latest-one h =
-            let k : committed cs m ≡ true = rw is-latest (h .1) in
-            rw (h .0, h .2, ← is-latest, lt-ltb (W cs .0) (m .0) (above-W m k), lowest-value m k) refl
+      else-W : some (committed cs) (writes cs) ≡ false → settledTo m ≡ settledRecord cs
+      else-W h = rw (h, e, none-taken (committed cs) (W cs) (writes cs) h, le-ltb (W cs .0) (W cs .0) (omega arith)) refl
 
   module _ (w l r : Timestamp) (v : ℕ) (q n : Waiting) where
     pub block-is : w ≡ fold withWrite never cs → inOrder q ≡ waiting lowest → l ≡ fold (withEntry cs w) w (inOrder q)

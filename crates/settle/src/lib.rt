@@ -1,9 +1,9 @@
 // Settlement of one block: "Settling takes all copies of one block together".
 ghost use Prim.Native.Nat.{_≤_};
-ghost use mathlib.Core.Bool.{not};
 ghost use mathlib.Core.Path.{_≡_};
 ghost use lib.ListN.{length};
 ghost use Rattle.rules.specs.Kinds.{isWrite, isAborted, valueOf};
+ghost use Rattle.rules.specs.Limits.{waitingLimit};
 ghost use Rattle.rules.specs.Settlement.{notLost, waiting, writeWith, abortedWith, agreed, settledRecord, settled, allLost};
 ghost use Rattle.rules.specs.Timestamps.{never, later, _above_};
 ghost use Rattle.rules.specs.Waiting.{inOrder};
@@ -66,10 +66,11 @@ fn value_of(k: Kind) -> u64
 
 // How many wait: a count above 8 is 8.
 fn used(q: Waiting) -> usize
-    ensures { λ r. ⌜ (r ≡ length (inOrder q)) × (r ≤ 8) ⌝ }
+    ensures { λ r. ⌜ (r ≡ length (inOrder q)) × (r ≤ waitingLimit) ⌝ }
 {
-    if q.count < 8 {
-        return q.count as usize;
+    let n = q.count as usize;
+    if n < WAITING {
+        return n;
     }
     WAITING
 }
@@ -190,7 +191,7 @@ fn beside(w: Timestamp, c: Copy) -> bool
 fn value_beside(copies: [Copy; CHUNKS], w: Timestamp) -> u64
     ensures { λ r. ⌜ r ≡ first noCopy (beside w) copies .block .value ⌝ }
 {
-    let mut i: usize = 0;
+    let mut i: usize = 0; // the lowest chunk first
     while i < CHUNKS {
         let c = copies[i];
         if beside(w, c) {

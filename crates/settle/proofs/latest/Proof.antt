@@ -46,10 +46,11 @@ loop-again c =
     let l = c .before .before .before in
     let a = l .before .before .args in
     let k = l .before .used .ensures .0 in
-    let f = withEntry (a .copies) (a .w) in
-    (omega arith,
-    ap (λ (m : Timestamp). fold f m (drop (l .loop .i + 1) (inOrder (a .t3)))) (c .with-entry .ensures ∙ ap (λ (e : Entry). f (l .loop .m) e) (sym (entry-at (a .t3) (l .loop .i) (omega arith))))
-    ∙ sym (fold-more f zeroEntry (inOrder (a .t3)) (l .loop .i) (l .loop .m) (omega arith)) ∙ l .loop .inv .1)
+    let f = withEntry (a .copies) (a .w) in (
+      omega arith,
+      ap (λ (m : Timestamp). fold f m (drop (l .loop .i + 1) (inOrder (a .t3)))) (c .with-entry .ensures ∙ ap (λ (e : Entry). f (l .loop .m) e) (sym (entry-at (a .t3) (l .loop .i) (omega arith))))
+          ∙ sym (fold-more f zeroEntry (inOrder (a .t3)) (l .loop .i) (l .loop .m) (omega arith)) ∙ l .loop .inv .1,
+    )
 
 returns : tie.Need-returns Inv-loop μ-loop
 returns c =
