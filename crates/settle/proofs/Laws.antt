@@ -5,7 +5,7 @@ use mathlib.Core.Logic.{⊎-elim}
 use mathlib.Core.Bool.{Bool, true, false, cond, _&&_, _||_, not, and-true, and-false, true≢false, false≢true}
 use mathlib.Core.List.{List, [], _∷_, _++_}
 use native.Mathlib.Omega.{arith}
-use lib.Dec.{ltb, eqb}
+use lib.Dec.{ltb}
 use lib.ListN.{length, getD, take, length-take}
 use lib.Seq.{getD-take}
 use borrow.Author.Tests.{lt-ltb, le-ltb, ltb-true, ltb-false, eqb-true}
@@ -18,7 +18,7 @@ use Rattle.rules.specs.Kinds.{isWrite, valueOf}
 use Rattle.rules.specs.Settlement.{inSet, isLost, notLost, lastRead, lastWrite, waiting, writeWith, holds, holdsAborted, writesOf, W, besideW, agreed, committed, writes, commits, latest, writtenWith, settledRecord, settled, allLost}
 use Rattle.rules.specs.Timestamps.{never, later, _is_, _above_, greatest}
 use Rattle.rules.specs.Waiting.{inOrder}
-use Rattle.rules.specs.Words.{those, each, joined, every, some, none, place, first, fold}
+use Rattle.rules.specs.Words.{those, each, joined, every, some, none, first, fold}
 use Rattle.rules.specs.Zero.{zeroEntry, zeroWaiting, noCopy}
 use Rattle.rules.proofs.Lists.{both, true-or-false}
 use Rattle.rules.proofs.Loops.{fold-those, fold-each, fold-append, fold-same, every-same, every-those, every-both, first-those, those-both, those-every, none-every}

@@ -7,7 +7,7 @@ ghost use Rattle.rules.specs.Limits.{waitingLimit};
 ghost use Rattle.rules.specs.Settlement.{notLost, waiting, writeWith, abortedWith, agreed, settledRecord, settled, allLost};
 ghost use Rattle.rules.specs.Timestamps.{never, later, _above_};
 ghost use Rattle.rules.specs.Waiting.{inOrder};
-ghost use Rattle.rules.specs.Words.{if_then_else_, each, some, place, first, fold};
+ghost use Rattle.rules.specs.Words.{if_then_else_, some, place, first, fold};
 ghost use Rattle.rules.specs.Zero.{zeroEntry, zeroWaiting, noCopy};
 ghost use Rattle.settle.specs.Steps.{withWrite, withRead, beside, agrees, withEntry, withBlock};
 use rules::CHUNKS;

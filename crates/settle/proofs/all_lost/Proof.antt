@@ -1,4 +1,6 @@
-use mathlib.Core.Path.{_≡_}
+use Prim.Native.Nat.{ℕ}
+use mathlib.Core.Path.{_≡_, sym, ap, _∙_}
+use mathlib.Core.Bool.{not}
 use lib.ListN.{length}
 use lib.Dec.{ltb}
 use borrow.Author.Needs.{needs}
@@ -19,7 +21,7 @@ returns : tie.Need-returns
 returns c =
     let cs = c .before .args .copies in
     let e : some notLost cs ≡ ltb (place notLost cs) 8 = rw (len (c .before)) at (some-place notLost cs) in
-    rw (c .lowest .ensures, ← e) (lost-steps cs)
+    ap (λ (i : ℕ). not (ltb i 8)) (c .lowest .ensures) ∙ ap not (sym e) ∙ lost-steps cs
 
 pub all-lost-spec : {M : Type 1} → statement M
 all-lost-spec = tie.close (tie.spec lowest-requires returns)
