@@ -9,11 +9,12 @@ use native.Mathlib.Decide.{decLe}
 use native.Mathlib.Omega.{arith}
 use lib.ListN.{length, getD, take, drop, drop-of-length-le, length-take}
 use lib.Arith.{digits-lt, digits-div, digits-mod}
+use lib.ListN.{length, getD, set, take, drop, drop-of-length-le, length-take, List·getD-eq-default}
 use lib.Dec.{ltb}
 use borrow.Author.Tests.{lt-ltb}
 use lib.Seq.{drop-cons}
-use Rattle.rules.specs.Words.{those, each, joined, every, some, place, fold, from, numbers}
-use Rattle.rules.proofs.Lists.{every-number, every-numbers, none-number, some-number}
+use Rattle.rules.specs.Words.{those, each, joined, every, some, place, first, fold, from, numbers}
+use Rattle.rules.proofs.Lists.{both, every-number, every-numbers, none-number, some-number}
 
 -- ---- a loop over l by its index i: l from i on is the element at i, and l from i + 1 on
 
@@ -198,3 +199,76 @@ module _ (p : ℕ → ℕ → Bool) (m n : ℕ) (some-columns : 0 < n) where
 
   pub every-flat : flat ≡ rows
   every-flat = same-truth flat rows flat-rows rows-flat
+-- ---- settle: the first that is p, and those that are; a list rewritten element by element
+
+-- the first that is p, by a loop that stops at it
+module _ {A : Type 0} (p : A → Bool) (d : A) (l : List A) (i : ℕ) (far : place p l ≡ i + place p (drop i l)) where
+  pub first-here : i < length l → p (getD l i d) ≡ true → getD l i d ≡ first d p l
+  first-here h e = let k = place-here p d l i h e in let z : place p l ≡ i = omega arith in rw z refl
+
+  pub first-none : length l ≤ i → d ≡ first d p l
+  first-none h = let k = place-end p d l i h in sym (List·getD-eq-default l d {n = place p l} (omega arith))
+
+pub first-those : {A : Type 0} (d : A) (p : A → Bool) (l : List A) → first d p l ≡ getD (those p l) 0 d
+unfolding place those
+first-those d p [] = refl
+first-those d p (x ∷ xs) = go (p x) (first-those d p xs)
+  where
+    go : (b : Bool) → first d p xs ≡ getD (those p xs) 0 d → getD (x ∷ xs) (cond b 0 (suc (place p xs))) d ≡ getD (cond b (x ∷ those p xs) (those p xs)) 0 d
+    go true h = refl
+    go false h = h
+
+pub those-both : {A : Type 0} (p q : A → Bool) (l : List A) → those (λ x. p x && q x) l ≡ those q (those p l)
+unfolding those
+those-both p q [] = refl
+those-both p q (x ∷ xs) = go (p x) (those-both p q xs)
+  where
+    go : (b : Bool) → those (λ x. p x && q x) xs ≡ those q (those p xs) → cond (b && q x) (x ∷ those (λ x. p x && q x) xs) (those (λ x. p x && q x) xs) ≡ those q (cond b (x ∷ those p xs) (those p xs))
+    go true h = ap (λ (t : List _). cond (q x) (x ∷ t) t) h
+    go false h = h
+
+pub those-every : {A : Type 0} (p : A → Bool) (l : List A) → every p l ≡ true → those p l ≡ l
+unfolding those every
+those-every p [] h = refl
+those-every p (x ∷ xs) h = let r = both (p x) (every p xs) h in rw (r .0, those-every p xs (r .1)) refl
+
+pub none-every : {A : Type 0} (p : A → Bool) (l : List A) → not (some p l) ≡ every (λ x. not (p x)) l
+unfolding some every
+none-every p [] = refl
+none-every p (x ∷ xs) = go (p x) (none-every p xs)
+  where
+    go : (b : Bool) → not (some p xs) ≡ every (λ x. not (p x)) xs → not (b || some p xs) ≡ (not b && every (λ x. not (p x)) xs)
+    go true h = refl
+    go false h = h
+
+pub every-both : {A : Type 0} (p q : A → Bool) (l : List A) → (every p l && every q l) ≡ every (λ x. p x && q x) l
+unfolding every
+every-both p q [] = refl
+every-both p q (x ∷ xs) = go (p x) (q x) (every p xs) (every-both p q xs)
+  where
+    go : (a b e : Bool) → (e && every q xs) ≡ every (λ x. p x && q x) xs → ((a && e) && (b && every q xs)) ≡ ((a && b) && every (λ x. p x && q x) xs)
+    go true true e h = h
+    go true false true h = refl
+    go true false false h = refl
+    go false b e h = refl
+
+-- a loop that puts f of each in its place: its invariant is that the first i are done
+abbrev pub eachTo : {A : Type 0} → (A → A) → ℕ → List A → List A
+eachTo f i l = each f (take i l) ++ drop i l
+
+module _ {A : Type 0} (f : A → A) (d : A) where
+  pub each-next : (l : List A) (i : ℕ) → i < length l → set (eachTo f i l) i (f (getD l i d)) ≡ eachTo f (i + 1) l
+  unfolding each
+  each-next l i h = rw add-one (go l i h)
+    where
+      go : (l : List A) (i : ℕ) → i < length l → set (eachTo f i l) i (f (getD l i d)) ≡ eachTo f (suc i) l
+      go [] i h = absurd (omega arith)
+      go (x ∷ xs) zero h = refl
+      go (x ∷ xs) (suc i) h = ap (λ (t : List A). f x ∷ t) (go xs i (omega arith))
+
+  pub each-end : (l : List A) (i : ℕ) → length l ≤ i → eachTo f i l ≡ each f l
+  unfolding each
+  each-end [] zero h = refl
+  each-end [] (suc i) h = refl
+  each-end (x ∷ xs) zero h = absurd (omega arith)
+  each-end (x ∷ xs) (suc i) h = ap (λ (t : List A). f x ∷ t) (each-end xs i (omega arith))

@@ -1,0 +1,16 @@
+use mathlib.Core.Path.{refl}
+use borrow.Author.Needs.{needs}
+use Rattle.settle.proofs.with_block.Statement.{statement}
+use Rattle.settle.proofs.with_block.Tie as tie
+
+returns : tie.Need-returns
+returns c = rw (c .if1 .taken) refl
+
+nothing-requires : tie.Need-nothing-requires
+nothing-requires c κs = search needs
+
+returns-2 : tie.Need-returns-2
+returns-2 c = rw (c .before .before .if1 .left, c .before .nothing .ensures) refl
+
+pub with-block-spec : {M : Type 1} → statement M
+with-block-spec = tie.close (tie.spec returns nothing-requires returns-2)
