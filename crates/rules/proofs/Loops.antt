@@ -11,7 +11,7 @@ use lib.Dec.{ltb}
 use borrow.Author.Tests.{lt-ltb}
 use lib.Seq.{drop-cons, take-suc, take-take, take-at, append-snoc, length-take-le, set-at, getD-at, getD-take, getD-drop, getD-append-add, take-append-le, drop-append-le, set-append-left, take-set-lt, ext-getD}
 use Rattle.rules.specs.Words.{those, each, joined, every, some, place, fold, from, numbers, filled}
-use Rattle.rules.proofs.Lists.{every-number, every-numbers, none-number, some-number}
+use Rattle.rules.proofs.Lists.{every-number, every-numbers, none-number, some-number, filled-here, filled-past}
 
 -- ---- a loop over l by its index i: l from i on is the element at i, and l from i + 1 on
 
@@ -274,3 +274,10 @@ pub filled-same : {A : Type 0} (d : A) (n : ℕ) (k l : List A) → ((i : ℕ) �
 filled-same d n k l h =
     ext-getD d (filled n d k) (filled n d l) (filled-length d n k ∙ sym (filled-length d n l))
     (λ i m. let q : i < n = rw (filled-length d n k) at m in filled-at d n k i q ∙ h i ∙ sym (filled-at d n l i q))
+
+pub filled-any : {A : Type 0} (d : A) (n : ℕ) (l : List A) → length l ≤ n → (i : ℕ) → getD (filled n d l) i d ≡ getD l i d
+filled-any d n l room i = go (decLe (length l) i)
+  where
+    go : Dec (length l ≤ i) → getD (filled n d l) i d ≡ getD l i d
+    go (yes k) = filled-past d n l room i k ∙ sym (List·getD-eq-default l d k)
+    go (no k) = filled-here d n l room i (omega arith)
