@@ -10,6 +10,7 @@ use lib.ListN.{length, getD, set, take, drop, replicate, drop-of-length-le, take
 use lib.Dec.{ltb}
 use borrow.Author.Tests.{lt-ltb}
 use lib.Seq.{drop-cons, take-suc, take-take, take-at, append-snoc, length-take-le, set-at, getD-at, getD-take, getD-drop, getD-append-add, take-append-le, drop-append-le, set-append-left, take-set-lt, ext-getD}
+use Rattle.rules.specs.Codes.{Row, codeOf, _gives_⨾_, granted}
 use Rattle.rules.specs.Words.{those, each, joined, every, some, place, fold, from, numbers, filled}
 use Rattle.rules.proofs.Lists.{every-number, every-numbers, none-number, some-number, filled-here, filled-past}
 
@@ -281,3 +282,18 @@ filled-any d n l room i = go (decLe (length l) i)
     go : Dec (length l ≤ i) → getD (filled n d l) i d ≡ getD l i d
     go (yes k) = filled-past d n l room i k ∙ sym (List·getD-eq-default l d k)
     go (no k) = filled-here d n l room i (omega arith)
+
+-- ---- chunk: refusals in code, a row of early returns
+
+module _ (situation : Bool) (k : ℕ) (rest : List Row) where
+  pub refused-here : situation ≡ true → k ≡ codeOf (situation gives k ⨾ rest)
+  unfolding codeOf
+  refused-here h = rw h refl
+
+  pub refused-later : (n : ℕ) → situation ≡ false → n ≡ codeOf rest → n ≡ codeOf (situation gives k ⨾ rest)
+  unfolding codeOf
+  refused-later n h e = rw h e
+
+pub refused-nowhere : 0 ≡ codeOf granted
+unfolding codeOf
+refused-nowhere = refl
