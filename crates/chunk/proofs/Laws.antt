@@ -3,7 +3,6 @@ use Prim.Native.Nat.{ℕ, _≤_, _<_}
 use mathlib.Core.Path.{_≡_, refl, sym, ap, _∙_}
 use mathlib.Core.Bool.{Bool, true, false}
 use borrow.Author.Tests.{eq-eqb, ne-eqb, lt-ltb, le-ltb, le-leb, lt-leb}
-use Rattle.rules.specs.declared.Timestamp.{Timestamp}
 use Rattle.rules.specs.declared.Epoch.{Epoch}
 use Rattle.rules.specs.declared.Kind.{Kind}
 use Rattle.rules.specs.declared.Entry.{Entry}
@@ -11,7 +10,6 @@ use Rattle.rules.specs.declared.Waiting.{Waiting}
 use Rattle.rules.specs.declared.Record.{Record}
 use Rattle.rules.specs.declared.Header.{Header}
 use Rattle.rules.specs.declared.Message.{Message}
-use Rattle.rules.specs.declared.Arrived.{Arrived}
 use Rattle.rules.specs.Chunks.{withWaiting, answering, silent, isOutOfOrder, waits, arrived, decides, entryOf, runs, ran}
 use Rattle.rules.specs.Kinds.{isRead}
 use Rattle.rules.specs.Waiting.{inserted, head, headRemoved, marked}

@@ -135,7 +135,14 @@ fn waits(r: Record, header: Header, epoch: Epoch, kind: Kind) -> Arrived
 }
 
 // "Read or prewrite at a chunk, in this order": version mismatch, error, out of order, busy; else it waits.
-fn read_or_prewrite(blocks: u64, current: Epoch, r: Record, header: Header, epoch: Epoch, kind: Kind) -> Arrived
+fn read_or_prewrite(
+    blocks: u64,
+    current: Epoch,
+    r: Record,
+    header: Header,
+    epoch: Epoch,
+    kind: Kind,
+) -> Arrived
     ensures { λ a. ⌜ a ≡ arrived blocks current r header epoch kind ⌝ }
 {
     if epoch.0 != current.0 {
@@ -149,7 +156,7 @@ fn read_or_prewrite(blocks: u64, current: Epoch, r: Record, header: Header, epoc
         return answering(r, Message::OutOfOrder { header: header });
     }
     let w = r.waiting;
-    if 8 <= w.count {
+    if rules::WAITING as u64 <= w.count {
         return answering(r, Message::Busy { header: header });
     }
     waits(r, header, epoch, kind)
@@ -175,8 +182,19 @@ pub fn arrive(blocks: u64, current: Epoch, r: Record, m: Message) -> Arrived
     ensures { λ a. ⌜ a ≡ atChunk blocks current r m ⌝ }
 {
     match m {
-        Message::Read { header, epoch } => read_or_prewrite(blocks, current, r, header, epoch, Kind::Read),
-        Message::Prewrite { header, epoch, value } => read_or_prewrite(blocks, current, r, header, epoch, Kind::Undecided(value)),
+        Message::Read { header, epoch } => read_or_prewrite(
+            blocks,
+            current,
+            r,
+            header,
+            epoch,
+            Kind::Read,
+        ),
+        Message::Prewrite {
+            header,
+            epoch,
+            value,
+        } => read_or_prewrite(blocks, current, r, header, epoch, Kind::Undecided(value)),
         Message::Commit { header, epoch: _ } => commit_or_abort(blocks, r, header, true),
         Message::Abort { header, epoch: _ } => commit_or_abort(blocks, r, header, false),
         Message::Mismatch { .. } => silent(r),
@@ -226,7 +244,13 @@ fn run_read(chunk: u64, block: u64, r: Record, e: Entry) -> Arrived
     let read = later(r.read, t);
     let mut out = r;
     out.read = read;
-    answering(out, Message::ReadReply { header: header, value: r.value })
+    answering(
+        out,
+        Message::ReadReply {
+            header: header,
+            value: r.value,
+        },
+    )
 }
 
 // "Committed: value set, last write raised to its timestamp".
@@ -269,7 +293,7 @@ pub fn fail_code(state: State) -> u64
     0
 }
 
-// "its reconciliation set go[es], lost is set; .. epoch persist[s]".
+// "its reconciliation set go[es], lost is set; .. epoch persist[s]": the waiting entries are the records'.
 pub fn fail(c: Chunk) -> Chunk
     ensures { λ r. ⌜ r ≡ failed c ⌝ }
 {
@@ -396,7 +420,7 @@ pub fn overdue(c: Chunk, block: u64) -> Chunk
     ensures { λ r. ⌜ r ≡ overdue c block ⌝ }
 {
     let mut out = c;
-    if block < 16 {
+    if block < rules::BLOCKS as u64 {
         let b = block as usize;
         out.reconcile[b] = true;
     }

@@ -191,8 +191,12 @@ module _ {A : Type 0} (d : A) (new old : List A) (i : ℕ) where
   -- a store at i takes it one further
   pub mixed-more : i < length new → i < length old → set (mixed i new old) i (getD new i d) ≡ mixed (i + 1) new old
   mixed-more h k =
-      rw (drop-cons old i d k, set-at (take i new) (getD old i d) (drop (suc i) old) (getD new i d) i (length-take-le i new (omega arith)),
-      add-one, take-suc new i d h) (sym (append-snoc (take i new) (getD new i d) (drop (suc i) old)))
+      rw (
+        drop-cons old i d k,
+        set-at (take i new) (getD old i d) (drop (suc i) old) (getD new i d) i (length-take-le i new (omega arith)),
+        add-one,
+        take-suc new i d h,
+      ) (sym (append-snoc (take i new) (getD new i d) (drop (suc i) old)))
 
 -- nothing of the old is left
 pub mixed-whole : {A : Type 0} (new old : List A) (i : ℕ) → length old ≤ i → mixed i new old ≡ take i new

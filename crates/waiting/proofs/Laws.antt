@@ -4,7 +4,7 @@ use mathlib.Core.Path.{_≡_, refl, sym, ap, _∙_}
 use mathlib.Core.Bool.{Bool, true, false}
 use mathlib.Core.List.{List, [], _∷_}
 use native.Mathlib.Omega.{arith}
-use lib.ListN.{length, getD, set, take, drop, length-drop, length-set, List·getD-eq-default}
+use lib.ListN.{length, getD, set, drop, length-drop, length-set}
 use lib.Seq.{getD-drop, take-all, set-out}
 use Rattle.rules.specs.declared.Timestamp.{Timestamp}
 use Rattle.rules.specs.declared.Entry.{Entry}
@@ -25,6 +25,10 @@ places l = filled waitingLimit zeroEntry l
 pub holding-of : (l : List Entry) (n : ℕ) (x : List Entry) → n ≡ length l → x ≡ places l → record { count = n; entries = x } ≡ holding l
 unfolding holding
 holding-of l n x h k = rw (h, k) refl
+
+-- an array of eight that is rewritten to its end
+rewritten : (l old : List Entry) → length old ≡ 8 → mixed 8 (places l) old ≡ places l
+rewritten l old h = mixed-whole (places l) old 8 (omega arith) ∙ take-all 8 (places l) (omega (arith, filled-length zeroEntry 8 l))
 
 -- ---- a search through the entries in waiting order
 
@@ -54,9 +58,7 @@ module _ (w : Waiting) (n : ℕ) (used : n ≡ length (inOrder w)) (room : n ≤
         ∙ mixed-more zeroEntry (places (inOrder w)) (w .entries) i (rw (filled-length zeroEntry 8 (inOrder w)) k) (omega arith)
 
     pub tidied : record { count = n; entries = mixed 8 (places (inOrder w)) (w .entries) } ≡ holding (inOrder w)
-    tidied =
-        holding-of (inOrder w) n (mixed 8 (places (inOrder w)) (w .entries)) used
-        (mixed-whole (places (inOrder w)) (w .entries) 8 (omega arith) ∙ take-all 8 (places (inOrder w)) (omega (arith, filled-length zeroEntry 8 (inOrder w))))
+    tidied = holding-of (inOrder w) n (mixed 8 (places (inOrder w)) (w .entries)) used (rewritten (inOrder w) (w .entries) len)
 
 -- ---- a store that takes what stands behind the head one place forward
 
@@ -98,8 +100,8 @@ module _ (w t : Waiting) (tidy : t ≡ holding (inOrder w)) where
         (mixed-whole (opened p e (t .entries)) (t .entries) 8 (omega (arith, entries-length t l tidy))
         ∙ rw (put, entries-are t l tidy) (filled-opened zeroEntry 8 l e p place-inside))
 
-  -- the head is removed, and what stands behind it goes one place forward
   module _ (room : t .count ≤ 8) where
+    -- the head is removed, and what stands behind it goes one place forward
     pub removed : record { count = t .count - 1; entries = mixed 8 (places (drop 1 (t .entries))) (t .entries) } ≡ headRemoved w
     unfolding headRemoved
     removed =
@@ -107,8 +109,7 @@ module _ (w t : Waiting) (tidy : t ≡ holding (inOrder w)) where
         let n = count-is t l tidy in
         holding-of (drop 1 l) (t .count - 1) (mixed 8 (places (drop 1 (t .entries))) (t .entries))
         (rw (length-drop 1 l, n) refl)
-        (mixed-whole (places (drop 1 (t .entries))) (t .entries) 8 (omega (arith, entries-length t l tidy))
-        ∙ take-all 8 (places (drop 1 (t .entries))) (omega (arith, filled-length zeroEntry 8 (drop 1 (t .entries))))
+        (rewritten (drop 1 (t .entries)) (t .entries) (entries-length t l tidy)
         ∙ filled-same zeroEntry 8 (drop 1 (t .entries)) (drop 1 l)
         (λ i. getD-drop 1 (t .entries) i zeroEntry ∙ rw (entries-are t l tidy) (filled-any zeroEntry 8 l (omega arith) (1 + i)) ∙ sym (getD-drop 1 l i zeroEntry)))
 

@@ -3,6 +3,7 @@
 ghost use mathlib.Core.Path.{_≡_};
 ghost use Prim.Native.Nat.{_≤_};
 ghost use lib.ListN.{length};
+ghost use Rattle.rules.specs.Limits.{waitingLimit};
 ghost use Rattle.rules.specs.Waiting.{inOrder, holding, inserted, head, headRemoved, firstWith, decidedKind, decided, marked};
 ghost use Rattle.rules.specs.Zero.{zeroEntry};
 ghost use Rattle.rules.proofs.Order.{behind};
@@ -26,17 +27,17 @@ fn zero_entry() -> Entry
 
 // How many wait.
 fn used(w: Waiting) -> u64
-    ensures { λ r. ⌜ (r ≡ length (inOrder w)) × (r ≤ 8) ⌝ }
+    ensures { λ r. ⌜ (r ≡ length (inOrder w)) × (r ≤ waitingLimit) ⌝ }
 {
-    if w.count < 8 {
+    if w.count < rules::WAITING as u64 {
         return w.count;
     }
-    8
+    rules::WAITING as u64
 }
 
 // The same entries, with the unused places zero.
 fn tidy(w: Waiting) -> Waiting
-    ensures { λ r. ⌜ (r ≡ holding (inOrder w)) × (r .count ≤ 8) ⌝ }
+    ensures { λ r. ⌜ (r ≡ holding (inOrder w)) × (r .count ≤ waitingLimit) ⌝ }
 {
     let n = used(w);
     let mut out = w;

@@ -37,7 +37,7 @@ is-undecided-requires : tie.Need-is-undecided-requires
 is-undecided-requires c κs = search needs
 
 returns-2 : tie.Need-returns-2
-returns-2 c =     refused-later _ _ _ _ (normal (c .before .before .before)) (refused-here _ _ _ (undecided (c .before) ∙ c .if2 .taken))
+returns-2 c = refused-later _ _ _ _ (normal (c .before .before .before)) (refused-here _ _ _ (undecided (c .before) ∙ c .if2 .taken))
 
 is-overdue-requires : tie.Need-is-overdue-requires
 is-overdue-requires c κs = search needs

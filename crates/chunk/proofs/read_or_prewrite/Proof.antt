@@ -1,8 +1,6 @@
 -- `chunk::read_or_prewrite` meets its contract
-use mathlib.Core.Path.{_≡_, sym, _∙_}
+use mathlib.Core.Path.{sym, _∙_}
 use borrow.Author.Needs.{needs}
-use mathlib.Core.Bool.{false}
-use Rattle.rules.specs.Chunks.{isOutOfOrder}
 use Rattle.chunk.proofs.Laws.{mismatch, outside, disorder, full, room}
 use Rattle.chunk.proofs.read_or_prewrite.Statement.{statement}
 use Rattle.chunk.proofs.read_or_prewrite.Tie as tie

@@ -1,6 +1,6 @@
 -- `waiting::insert` meets its contract. The loop's invariant: before i the array is as it shall be, from i on as it was, and held is what i shall have
 use Prim.Native.Nat.{_-_, _≤_}
-use mathlib.Core.Path.{_≡_, refl, sym, ap, _∙_}
+use mathlib.Core.Path.{_≡_, refl, sym, _∙_}
 use native.Mathlib.Omega.{arith}
 use borrow.Author.Needs.{needs}
 use lib.ListN.{length, getD}
@@ -72,9 +72,13 @@ loop-again c =
     let k = len (l .before) in
     let f = fits (l .before) in
     let m = opened-length zeroEntry e old p f in
-    let inv = l .loop .inv in
-    (omega arith, omega arith, inv .2, rw (inv .3, inv .4) (mixed-more zeroEntry (opened p e old) old i (omega arith) (omega arith)),
-    rw (inv .3) (mixed-at zeroEntry (opened p e old) old i (omega arith) i (omega arith) ∙ sym (opened-later zeroEntry e old p f i (inv .0))))
+    let inv = l .loop .inv in (
+      omega arith,
+      omega arith,
+      inv .2,
+      rw (inv .3, inv .4) (mixed-more zeroEntry (opened p e old) old i (omega arith) (omega arith)),
+      rw (inv .3) (mixed-at zeroEntry (opened p e old) old i (omega arith) i (omega arith) ∙ sym (opened-later zeroEntry e old p f i (inv .0))),
+    )
 
 add-out : tie.Need-add-out Inv-loop μ-loop
 add-out c = search needs

@@ -1,6 +1,6 @@
 -- `waiting::remove_head` meets its contract. The loop's invariant: before i the array is as it shall be, from i on as it was
 use Prim.Native.Nat.{_+_, _-_, _≤_}
-use mathlib.Core.Path.{_≡_, refl, sym, ap, _∙_}
+use mathlib.Core.Path.{_≡_, refl, sym}
 use native.Mathlib.Omega.{arith}
 use borrow.Author.Needs.{needs}
 use lib.ListN.{length, drop, List·getD-eq-default}
@@ -57,9 +57,11 @@ loop-again c =
     let l = c .before .before in
     let old = l .before .before .tidy .result .entries in
     let k = len (l .before .before) in
-    let inv = l .loop .inv in
-    (omega arith, inv .1,
-    rw (inv .2) (forward old k (l .loop .i) (omega arith) _ (mixed-at zeroEntry (places (drop 1 old)) old (l .loop .i) (omega (arith, filled-length zeroEntry 8 (drop 1 old))) (l .loop .i + 1) (omega arith))))
+    let inv = l .loop .inv in (
+      omega arith,
+      inv .1,
+      rw (inv .2) (forward old k (l .loop .i) (omega arith) _ (mixed-at zeroEntry (places (drop 1 old)) old (l .loop .i) (omega (arith, filled-length zeroEntry 8 (drop 1 old))) (l .loop .i + 1) (omega arith))),
+    )
 
 zero-entry-requires : tie.Need-zero-entry-requires Inv-loop μ-loop
 zero-entry-requires c κs = search needs

@@ -1,9 +1,9 @@
 -- `waiting::tidy` meets its contract. The loop's invariant: before i the array is as it shall be, from i on as it was
 use Prim.Native.Nat.{_-_, _≤_}
-use mathlib.Core.Path.{_≡_, refl, ap, _∙_}
+use mathlib.Core.Path.{_≡_}
 use native.Mathlib.Omega.{arith}
 use borrow.Author.Needs.{needs}
-use lib.ListN.{length, length-map, set}
+use lib.ListN.{length, length-map}
 use Rattle.rules.specs.Waiting.{inOrder}
 use Rattle.rules.proofs.Loops.{mixed}
 use Rattle.waiting.proofs.Laws.{places, tidy-start, tidy-more, tidied}
@@ -45,9 +45,11 @@ loop-less c = search needs
 loop-again : tie.Need-loop-again Inv-loop μ-loop
 loop-again c =
     let l = c .before .before in
-    let u = l .before .used .ensures in
-    (omega arith, omega arith,
-    rw (c .zero-entry .ensures, l .loop .inv .2) (tidy-more (l .before .before .args .w) (l .before .used .result) (u .0) (u .1) (len (l .before .before)) (l .loop .i) (omega arith) (omega arith)))
+    let u = l .before .used .ensures in (
+      omega arith,
+      omega arith,
+      rw (c .zero-entry .ensures, l .loop .inv .2) (tidy-more (l .before .before .args .w) (l .before .used .result) (u .0) (u .1) (len (l .before .before)) (l .loop .i) (omega arith) (omega arith)),
+    )
 
 returns : tie.Need-returns Inv-loop μ-loop
 returns c =
