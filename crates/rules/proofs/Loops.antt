@@ -15,6 +15,17 @@ use borrow.Author.Tests.{lt-ltb}
 use lib.Seq.{drop-cons}
 use Rattle.rules.specs.Words.{those, each, joined, every, some, place, first, fold, from, numbers}
 use Rattle.rules.proofs.Lists.{both, every-number, every-numbers, none-number, some-number}
+use mathlib.Core.List.{List, [], _∷_, _++_, append-assoc, append-nil}
+use native.Mathlib.Numerals.{add-one}
+use native.Mathlib.Decide.{decLe}
+use native.Mathlib.Omega.{arith}
+use lib.ListN.{length, getD, set, take, drop, replicate, drop-of-length-le, take-append-drop, length-take, length-drop, length-append, length-replicate, getD-replicate, List·getD-eq-default, List·getD-append}
+use lib.Dec.{ltb}
+use borrow.Author.Tests.{lt-ltb}
+use lib.Seq.{drop-cons, take-suc, take-take, take-at, append-snoc, length-take-le, set-at, getD-at, getD-take, getD-drop, getD-append-add, take-append-le, drop-append-le, set-append-left, take-set-lt, ext-getD}
+use Rattle.rules.specs.Codes.{Row, codeOf, _gives_⨾_, granted}
+use Rattle.rules.specs.Words.{those, each, joined, every, some, place, fold, from, numbers, filled}
+use Rattle.rules.proofs.Lists.{every-number, every-numbers, none-number, some-number, filled-here, filled-past}
 
 -- ---- a loop over l by its index i: l from i on is the element at i, and l from i + 1 on
 
@@ -272,3 +283,131 @@ module _ {A : Type 0} (f : A → A) (d : A) where
   each-end [] (suc i) h = refl
   each-end (x ∷ xs) zero h = absurd (omega arith)
   each-end (x ∷ xs) (suc i) h = ap (λ (t : List A). f x ∷ t) (each-end xs i (omega arith))
+-- ---- waiting: an array that is rewritten in place from the front: the first i of `new`, then what `old` has from i on
+
+abbrev pub mixed : {A : Type 0} → ℕ → List A → List A → List A
+mixed i new old = take i new ++ drop i old
+
+module _ {A : Type 0} (d : A) (new old : List A) (i : ℕ) where
+  -- not yet rewritten from i on
+  pub mixed-at : i ≤ length new → (j : ℕ) → i ≤ j → getD (mixed i new old) j d ≡ getD old j d
+  mixed-at h j k =
+      let m : length (take i new) ≡ i = length-take-le i new h in
+      let x : j ≡ length (take i new) + (j - i) = omega arith in
+      let y : i + (j - i) ≡ j = omega arith in
+      ap (λ (n : ℕ). getD (mixed i new old) n d) x ∙ getD-append-add (take i new) (drop i old) (j - i) d
+      ∙ getD-drop i old (j - i) d ∙ ap (λ (n : ℕ). getD old n d) y
+
+  -- a store at i takes it one further
+  pub mixed-more : i < length new → i < length old → set (mixed i new old) i (getD new i d) ≡ mixed (i + 1) new old
+  mixed-more h k =
+      rw (
+        drop-cons old i d k,
+        set-at (take i new) (getD old i d) (drop (suc i) old) (getD new i d) i (length-take-le i new (omega arith)),
+        add-one,
+        take-suc new i d h,
+      ) (sym (append-snoc (take i new) (getD new i d) (drop (suc i) old)))
+
+-- nothing of the old is left
+pub mixed-whole : {A : Type 0} (new old : List A) (i : ℕ) → length old ≤ i → mixed i new old ≡ take i new
+mixed-whole new old i h = rw (drop-of-length-le old h) (append-nil (take i new))
+
+pub place-le : {A : Type 0} (p : A → Bool) (l : List A) → place p l ≤ length l
+unfolding place
+place-le p [] = omega arith
+place-le p (x ∷ xs) = go (p x) (place-le p xs)
+  where
+    go : (b : Bool) → place p xs ≤ length xs → cond b 0 (suc (place p xs)) ≤ suc (length xs)
+    go true h = omega arith
+    go false h = omega arith
+
+-- the first n of an array, and what stands after as many
+pub take-rest : {A : Type 0} (n : ℕ) (l : List A) → take n l ++ drop (length (take n l)) l ≡ l
+take-rest zero l = refl
+take-rest (suc n) [] = refl
+take-rest (suc n) (x ∷ xs) = ap (λ (t : List _). x ∷ t) (take-rest n xs)
+
+pub taken-at : {A : Type 0} (d : A) (n : ℕ) (l : List A) (i : ℕ) → i < length (take n l) → getD (take n l) i d ≡ getD l i d
+taken-at d n l i h = getD-take n l i d (omega (arith, length-take n l))
+
+-- ---- waiting: e put in at p, and what stood there and after it one place on
+
+abbrev pub opened : {A : Type 0} → ℕ → A → List A → List A
+opened p e l = take p l ++ e ∷ drop p l
+
+module _ {A : Type 0} (d e : A) (l : List A) (p : ℕ) (ple : p ≤ length l) where
+  pub opened-here : getD (opened p e l) p d ≡ e
+  opened-here = getD-at (take p l) e (drop p l) d p (length-take-le p l ple)
+
+  -- rewriting l to it starts at p: before p they agree
+  pub opened-start : l ≡ mixed p (opened p e l) l
+  opened-start = rw (take-at (take p l) (e ∷ drop p l) p (length-take-le p l ple)) (sym (take-append-drop p l))
+
+  pub opened-length : length (opened p e l) ≡ length l + 1
+  opened-length = simp (length-append, length-take-le p l ple, length-drop) (omega arith)
+
+  pub opened-later : (i : ℕ) → p ≤ i → getD (opened p e l) (i + 1) d ≡ getD l i d
+  opened-later i h =
+      let k : length (take p l) ≡ p = length-take-le p l ple in
+      let x : i + 1 ≡ length (take p l) + suc (i - p) = omega arith in
+      let y : p + (i - p) ≡ i = omega arith in
+      rw (x, getD-append-add (take p l) (e ∷ drop p l) (suc (i - p)) d) (rw (getD-drop p l (i - p) d, y) refl)
+
+-- of the first n places, those after n tell nothing
+opened-cut : {A : Type 0} (e : A) (p n : ℕ) (l : List A) → take n (opened p e (take n l)) ≡ take n (opened p e l)
+opened-cut e zero zero l = refl
+opened-cut e zero (suc n) l = ap (λ (t : List _). e ∷ t) (take-take n (suc n) l (omega arith))
+opened-cut e (suc p) zero l = refl
+opened-cut e (suc p) (suc n) [] = refl
+opened-cut e (suc p) (suc n) (x ∷ xs) = ap (λ (t : List _). x ∷ t) (opened-cut e p n xs)
+
+-- ---- waiting: an array with l in its first places and the others zero
+
+module _ {A : Type 0} (d : A) (n : ℕ) (l : List A) where
+  pub filled-length : length (filled n d l) ≡ n
+  filled-length = simp (length-take, length-append, length-replicate) (omega arith)
+
+  pub filled-at : (i : ℕ) → i < n → getD (filled n d l) i d ≡ getD l i d
+  filled-at i h = getD-take n (l ++ replicate n d) i d h ∙ go (decLe (length l) i)
+    where
+      go : Dec (length l ≤ i) → getD (l ++ replicate n d) i d ≡ getD l i d
+      go (yes k) =
+          let e : i ≡ length l + (i - length l) = omega arith in
+          rw e (getD-append-add l (replicate n d) (i - length l) d ∙ getD-replicate n (i - length l) d d (omega arith)) ∙ sym (List·getD-eq-default l d k)
+      go (no k) = List·getD-append l (replicate n d) d i (omega arith)
+
+  pub filled-set : (i : ℕ) (x : A) → i < length l → i < n → set (filled n d l) i x ≡ filled n d (set l i x)
+  filled-set i x h k = sym (take-set-lt n (l ++ replicate n d) i x k) ∙ ap (take n) (set-append-left l (replicate n d) i x h)
+
+  pub filled-opened : (e : A) (p : ℕ) → p ≤ length l → take n (opened p e (filled n d l)) ≡ filled n d (opened p e l)
+  filled-opened e p h =
+      opened-cut e p n (l ++ replicate n d)
+      ∙ rw (take-append-le p l (replicate n d) h, drop-append-le p l (replicate n d) h) (ap (take n) (sym (append-assoc (take p l) (e ∷ drop p l) (replicate n d))))
+
+-- what is filled in tells by its elements
+pub filled-same : {A : Type 0} (d : A) (n : ℕ) (k l : List A) → ((i : ℕ) → getD k i d ≡ getD l i d) → filled n d k ≡ filled n d l
+filled-same d n k l h =
+    ext-getD d (filled n d k) (filled n d l) (filled-length d n k ∙ sym (filled-length d n l))
+    (λ i m. let q : i < n = rw (filled-length d n k) at m in filled-at d n k i q ∙ h i ∙ sym (filled-at d n l i q))
+
+pub filled-any : {A : Type 0} (d : A) (n : ℕ) (l : List A) → length l ≤ n → (i : ℕ) → getD (filled n d l) i d ≡ getD l i d
+filled-any d n l room i = go (decLe (length l) i)
+  where
+    go : Dec (length l ≤ i) → getD (filled n d l) i d ≡ getD l i d
+    go (yes k) = filled-past d n l room i k ∙ sym (List·getD-eq-default l d k)
+    go (no k) = filled-here d n l room i (omega arith)
+
+-- ---- chunk: refusals in code, a row of early returns
+
+module _ (situation : Bool) (k : ℕ) (rest : List Row) where
+  pub refused-here : situation ≡ true → k ≡ codeOf (situation gives k ⨾ rest)
+  unfolding codeOf
+  refused-here h = rw h refl
+
+  pub refused-later : (n : ℕ) → situation ≡ false → n ≡ codeOf rest → n ≡ codeOf (situation gives k ⨾ rest)
+  unfolding codeOf
+  refused-later n h e = rw h e
+
+pub refused-nowhere : 0 ≡ codeOf granted
+unfolding codeOf
+refused-nowhere = refl

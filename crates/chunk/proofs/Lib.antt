@@ -1,0 +1,2 @@
+pub mod Difference
+pub mod Laws

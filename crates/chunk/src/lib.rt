@@ -1,0 +1,428 @@
+// One chunk: a message arrives at it, the head of a waiting list runs, it fails, recovers, takes and gives its lease, a block is overdue.
+ghost use mathlib.Core.Path.{_≡_};
+ghost use mathlib.Core.Bool.{true, false};
+ghost use Prim.Native.Nat.{_<_, _^_};
+ghost use lib.IntN.{pos, _-ℤ_};
+ghost use lib.Signed.{ltZ};
+ghost use Rattle.rules.specs.declared.Kind.{Kind};
+ghost use Rattle.rules.specs.Codes.{codeOf};
+ghost use Rattle.rules.specs.Kinds.{isRead, isUndecided, isNormal, isNolease, isFailed};
+ghost use Rattle.rules.specs.Timestamps.{later};
+ghost use Rattle.rules.specs.Chunks.{withState, withValue, withWrite, answering, silent, isOutOfOrder, waits, arrived, decides, atChunk, runRefusals, runs, ran, failRefusals, failed, recoverRefusals, recovered, takeLeaseRefusals, leaseTaken, giveLeaseRefusals, leaseGiven, isOverdue, overdueRefusals, overdue};
+use rules::Arrived;
+use rules::Chunk;
+use rules::Entry;
+use rules::Epoch;
+use rules::Header;
+use rules::Kind;
+use rules::Message;
+use rules::Record;
+use rules::Slot;
+use rules::State;
+use rules::Timestamp;
+use rules::Waiting;
+
+// The greatest number that an i64 holds.
+const SIGNED: u64 = 9223372036854775807;
+
+fn is_read(k: Kind) -> bool
+    ensures { λ r. ⌜ r ≡ isRead k ⌝ }
+{
+    match k {
+        Kind::Read => true,
+        Kind::Undecided(_) => false,
+        Kind::Committed(_) => false,
+        Kind::Aborted(_) => false,
+    }
+}
+
+fn is_undecided(k: Kind) -> bool
+    ensures { λ r. ⌜ r ≡ isUndecided k ⌝ }
+{
+    match k {
+        Kind::Read => false,
+        Kind::Undecided(_) => true,
+        Kind::Committed(_) => false,
+        Kind::Aborted(_) => false,
+    }
+}
+
+fn is_normal(state: State) -> bool
+    ensures { λ r. ⌜ r ≡ isNormal state ⌝ }
+{
+    match state {
+        State::Normal => true,
+        State::Nolease => false,
+        State::Failed => false,
+    }
+}
+
+fn is_nolease(state: State) -> bool
+    ensures { λ r. ⌜ r ≡ isNolease state ⌝ }
+{
+    match state {
+        State::Normal => false,
+        State::Nolease => true,
+        State::Failed => false,
+    }
+}
+
+fn is_failed(state: State) -> bool
+    ensures { λ r. ⌜ r ≡ isFailed state ⌝ }
+{
+    match state {
+        State::Normal => false,
+        State::Nolease => false,
+        State::Failed => true,
+    }
+}
+
+fn later(t: Timestamp, u: Timestamp) -> Timestamp
+    ensures { λ r. ⌜ r ≡ later t u ⌝ }
+{
+    if t.0 < u.0 {
+        return u;
+    }
+    t
+}
+
+// The record, with a reply.
+fn answering(r: Record, m: Message) -> Arrived
+    ensures { λ a. ⌜ a ≡ answering r m ⌝ }
+{
+    Arrived {
+        block: r,
+        reply: Slot::Full(m),
+    }
+}
+
+// The record, with no reply.
+fn silent(r: Record) -> Arrived
+    ensures { λ a. ⌜ a ≡ silent r ⌝ }
+{
+    Arrived {
+        block: r,
+        reply: Slot::Empty,
+    }
+}
+
+// "timestamp below last write (a prewrite: or below last read), out of order".
+fn is_out_of_order(k: Kind, t: Timestamp, r: Record) -> bool
+    ensures { λ b. ⌜ b ≡ isOutOfOrder k t r ⌝ }
+{
+    (t.0 < r.write.0) | (!is_read(k) & (t.0 < r.read.0))
+}
+
+// "else it waits, after its equals, and a prewrite is answered with a prewrite reply".
+fn waits(r: Record, header: Header, epoch: Epoch, kind: Kind) -> Arrived
+    ensures { λ a. ⌜ a ≡ waits r header epoch kind ⌝ }
+{
+    let t = header.timestamp;
+    let e = Entry {
+        timestamp: t,
+        sender: header.host,
+        epoch: epoch,
+        kind: kind,
+    };
+    let w = r.waiting;
+    let now = waiting::insert(w, e);
+    let mut out = r;
+    out.waiting = now;
+    if is_read(kind) {
+        return silent(out);
+    }
+    answering(out, Message::PrewriteReply { header: header })
+}
+
+// "Read or prewrite at a chunk, in this order": version mismatch, error, out of order, busy; else it waits.
+fn read_or_prewrite(
+    blocks: u64,
+    current: Epoch,
+    r: Record,
+    header: Header,
+    epoch: Epoch,
+    kind: Kind,
+) -> Arrived
+    ensures { λ a. ⌜ a ≡ arrived blocks current r header epoch kind ⌝ }
+{
+    if epoch.0 != current.0 {
+        return answering(r, Message::Mismatch { header: header });
+    }
+    if blocks <= header.block {
+        return answering(r, Message::Error { header: header });
+    }
+    let t = header.timestamp;
+    if is_out_of_order(kind, t, r) {
+        return answering(r, Message::OutOfOrder { header: header });
+    }
+    let w = r.waiting;
+    if rules::WAITING as u64 <= w.count {
+        return answering(r, Message::Busy { header: header });
+    }
+    waits(r, header, epoch, kind)
+}
+
+// "Commit and abort ignore the epoch"; "for a block outside, nothing changes".
+fn commit_or_abort(blocks: u64, r: Record, header: Header, commit: bool) -> Arrived
+    ensures { λ a. ⌜ a ≡ decides blocks r header commit ⌝ }
+{
+    if blocks <= header.block {
+        return silent(r);
+    }
+    let t = header.timestamp;
+    let w = r.waiting;
+    let now = waiting::mark(w, t, commit);
+    let mut out = r;
+    out.waiting = now;
+    silent(out)
+}
+
+// A message at a chunk of the given epoch, with its record of the message's block. (Replies go to hosts.)
+pub fn arrive(blocks: u64, current: Epoch, r: Record, m: Message) -> Arrived
+    ensures { λ a. ⌜ a ≡ atChunk blocks current r m ⌝ }
+{
+    match m {
+        Message::Read { header, epoch } => read_or_prewrite(
+            blocks,
+            current,
+            r,
+            header,
+            epoch,
+            Kind::Read,
+        ),
+        Message::Prewrite {
+            header,
+            epoch,
+            value,
+        } => read_or_prewrite(blocks, current, r, header, epoch, Kind::Undecided(value)),
+        Message::Commit { header, epoch: _ } => commit_or_abort(blocks, r, header, true),
+        Message::Abort { header, epoch: _ } => commit_or_abort(blocks, r, header, false),
+        Message::Mismatch { .. } => silent(r),
+        Message::Error { .. } => silent(r),
+        Message::OutOfOrder { .. } => silent(r),
+        Message::Busy { .. } => silent(r),
+        Message::ReadReply { .. } => silent(r),
+        Message::PrewriteReply { .. } => silent(r),
+    }
+}
+
+// "normal, head exists and isn't undecided (2); room if the head is a read (5)".
+pub fn run_code(state: State, w: Waiting, free: u64) -> u64
+    ensures { λ r. ⌜ r ≡ codeOf (runRefusals state w free) ⌝ }
+{
+    if !is_normal(state) {
+        return 2;
+    }
+    if w.count == 0 {
+        return 2;
+    }
+    let e = waiting::head(w);
+    let k = e.kind;
+    if is_undecided(k) {
+        return 2;
+    }
+    if is_read(k) & (free == 0) {
+        return 5;
+    }
+    0
+}
+
+// "Read: below last write, out of order goes to the sender; else last read is raised and a read reply goes".
+fn run_read(chunk: u64, block: u64, r: Record, e: Entry) -> Arrived
+    ensures { λ a. ⌜ a ≡ runs chunk block r e Kind.Read ⌝ }
+{
+    let t = e.timestamp;
+    let header = Header {
+        host: e.sender,
+        chunk: chunk,
+        block: block,
+        timestamp: t,
+    };
+    if t.0 < r.write.0 {
+        return answering(r, Message::OutOfOrder { header: header });
+    }
+    let read = later(r.read, t);
+    let mut out = r;
+    out.read = read;
+    answering(
+        out,
+        Message::ReadReply {
+            header: header,
+            value: r.value,
+        },
+    )
+}
+
+// "Committed: value set, last write raised to its timestamp".
+fn run_committed(r: Record, t: Timestamp, v: u64) -> Arrived
+    ensures { λ a. ⌜ a ≡ silent (withWrite (withValue r v) (later (r .write) t)) ⌝ }
+{
+    let write = later(r.write, t);
+    let mut out = r;
+    out.value = v;
+    out.write = write;
+    silent(out)
+}
+
+// "The head is removed; for an aborted one that is all". (An undecided head is refused.)
+pub fn run(chunk: u64, block: u64, r: Record) -> Arrived
+    ensures { λ a. ⌜ a ≡ ran chunk block r ⌝ }
+{
+    let w = r.waiting;
+    let e = waiting::head(w);
+    let rest = waiting::remove_head(w);
+    let mut out = r;
+    out.waiting = rest;
+    let k = e.kind;
+    let t = e.timestamp;
+    match k {
+        Kind::Read => run_read(chunk, block, out, e),
+        Kind::Undecided(_) => silent(out),
+        Kind::Committed(v) => run_committed(out, t, v),
+        Kind::Aborted(_) => silent(out),
+    }
+}
+
+// "from normal or nolease".
+pub fn fail_code(state: State) -> u64
+    ensures { λ r. ⌜ r ≡ codeOf (failRefusals state) ⌝ }
+{
+    if is_failed(state) {
+        return 2;
+    }
+    0
+}
+
+// "its reconciliation set go[es], lost is set; .. epoch persist[s]": the waiting entries are the records'.
+pub fn fail(c: Chunk) -> Chunk
+    ensures { λ r. ⌜ r ≡ failed c ⌝ }
+{
+    let epoch = c.epoch;
+    Chunk {
+        state: State::Failed,
+        lost: true,
+        epoch: epoch,
+        reconcile: [false; rules::BLOCKS],
+    }
+}
+
+// The chunk in another state.
+fn with_state(c: Chunk, state: State) -> Chunk
+    ensures { λ r. ⌜ r ≡ withState c state ⌝ }
+{
+    let epoch = c.epoch;
+    let reconcile = c.reconcile;
+    Chunk {
+        state: state,
+        lost: c.lost,
+        epoch: epoch,
+        reconcile: reconcile,
+    }
+}
+
+pub fn recover_code(state: State) -> u64
+    ensures { λ r. ⌜ r ≡ codeOf (recoverRefusals state) ⌝ }
+{
+    if !is_failed(state) {
+        return 2;
+    }
+    0
+}
+
+// "failed to nolease".
+pub fn recover(c: Chunk) -> Chunk
+    ensures { λ r. ⌜ r ≡ recovered c ⌝ }
+{
+    with_state(c, State::Nolease)
+}
+
+pub fn take_lease_code(state: State) -> u64
+    ensures { λ r. ⌜ r ≡ codeOf (takeLeaseRefusals state) ⌝ }
+{
+    if !is_normal(state) {
+        return 2;
+    }
+    0
+}
+
+// "normal to nolease".
+pub fn take_lease(c: Chunk) -> Chunk
+    ensures { λ r. ⌜ r ≡ leaseTaken c ⌝ }
+{
+    with_state(c, State::Nolease)
+}
+
+// "nolease to normal, if not lost. Else 2".
+pub fn give_lease_code(state: State, lost: bool) -> u64
+    ensures { λ r. ⌜ r ≡ codeOf (giveLeaseRefusals state lost) ⌝ }
+{
+    if !is_nolease(state) {
+        return 2;
+    }
+    if lost {
+        return 2;
+    }
+    0
+}
+
+// "nolease to normal".
+pub fn give_lease(c: Chunk) -> Chunk
+    ensures { λ r. ⌜ r ≡ leaseGiven c ⌝ }
+{
+    with_state(c, State::Normal)
+}
+
+// "The difference may be below zero, and then nothing is overdue": a signed difference, of numbers that an i64 holds.
+fn signed_above(now: u64, clock: u64, age: u64) -> bool
+    requires { ⌜ (now < 2 ^ 63) × (clock < 2 ^ 63) × (age < 2 ^ 63) ⌝ }
+    ensures { λ r. ⌜ r ≡ ltZ (pos age) (pos now -ℤ pos clock) ⌝ }
+{
+    let difference = (now as i64) - (clock as i64);
+    (age as i64) < difference
+}
+
+// "now minus the head's clock above the age limit". Now and the age limit of a store have 32 bits; the promise is for every number,
+// so those that no i64 holds are compared unsigned.
+fn is_overdue(now: u64, t: Timestamp, age: u64) -> bool
+    ensures { λ r. ⌜ r ≡ isOverdue now t age ⌝ }
+{
+    let clock = t.0 / 8;
+    if (now <= SIGNED) & (age <= SIGNED) {
+        return signed_above(now, clock, age);
+    }
+    if now < clock {
+        return false;
+    }
+    age < now - clock
+}
+
+// "normal, head undecided, and now minus the head's clock above the age limit, else 2".
+pub fn overdue_code(state: State, w: Waiting, now: u64, age: u64) -> u64
+    ensures { λ r. ⌜ r ≡ codeOf (overdueRefusals state w now age) ⌝ }
+{
+    if !is_normal(state) {
+        return 2;
+    }
+    let e = waiting::head(w);
+    let k = e.kind;
+    if !is_undecided(k) {
+        return 2;
+    }
+    let t = e.timestamp;
+    if !is_overdue(now, t, age) {
+        return 2;
+    }
+    0
+}
+
+// "The block joins the set". (A store's block is below 16; of any other there is no mark.)
+pub fn overdue(c: Chunk, block: u64) -> Chunk
+    ensures { λ r. ⌜ r ≡ overdue c block ⌝ }
+{
+    let mut out = c;
+    if block < rules::BLOCKS as u64 {
+        let b = block as usize;
+        out.reconcile[b] = true;
+    }
+    out
+}
