@@ -11,7 +11,7 @@ use lib.Dec.{ltb}
 use borrow.Author.Tests.{lt-ltb}
 use lib.Seq.{drop-cons}
 use Rattle.rules.specs.Words.{those, each, joined, every, some, place, fold, from, numbers}
-use Rattle.rules.proofs.Lists.{every-number, every-numbers, none-number, some-number}
+use Rattle.rules.proofs.Lists.{numbers-length, numbers-at, every-number, every-numbers, none-number, some-number}
 
 -- ---- a loop over l by its index i: l from i on is the element at i, and l from i + 1 on
 
@@ -171,3 +171,26 @@ module _ (p : ℕ → Bool) where
       go : (b : Bool) → some p (numbers n) ≡ b → b ≡ true
       go true e = refl
       go false e = absurd (true≢false (sym h ∙ none-number p n e i l))
+
+-- ---- network: a loop that counts those that are p, and a loop over the numbers below n
+
+pub numbers-more : (n i : ℕ) → i < n → drop i (numbers n) ≡ i ∷ drop (i + 1) (numbers n)
+numbers-more n i h =
+    let k : i < length (numbers n) = omega (arith, numbers-length n) in
+    rw (numbers-at n i 0 h) at (drop-more 0 (numbers n) i k)
+
+pub numbers-end : (n i : ℕ) → n ≤ i → drop i (numbers n) ≡ []
+numbers-end n i h = let k : length (numbers n) ≤ i = omega (arith, numbers-length n) in drop-of-length-le (numbers n) k
+
+module _ {A : Type 0} (p : A → Bool) (x : A) (k l : List A) where
+  pub count-here : k ≡ x ∷ l → p x ≡ true → length (those p k) ≡ length (those p l) + 1
+  unfolding those
+  count-here h e = rw (h, e) (sym (add-one _))
+
+  pub count-other : k ≡ x ∷ l → p x ≡ false → length (those p k) ≡ length (those p l)
+  unfolding those
+  count-other h e = rw (h, e) refl
+
+pub count-end : {A : Type 0} (p : A → Bool) (l : List A) → l ≡ [] → length (those p l) ≡ 0
+unfolding those
+count-end p l h = rw h refl
