@@ -2,16 +2,16 @@
 use Prim.Native.Nat.{ℕ, zero, suc, _+_, _-_, _≤_, _<_, compare·suc-suc}
 use mathlib.Core.Path.{_≡_, refl, sym, ap, _∙_}
 use mathlib.Core.Bool.{Bool, true, false, cond, _&&_, _||_, not, true≢false}
-use mathlib.Core.List.{List, [], _∷_, _++_}
+use mathlib.Core.List.{List, [], _∷_, _++_, append-nil}
 use native.Mathlib.Numerals.{add-one}
-use native.Mathlib.Decide.{decLe}
+use native.Mathlib.Decide.{decLe, ℕ-discrete}
 use native.Mathlib.Omega.{arith}
-use lib.ListN.{length, getD, take, drop, drop-of-length-le, length-take}
-use lib.Dec.{ltb}
-use borrow.Author.Tests.{lt-ltb}
-use lib.Seq.{drop-cons}
-use Rattle.rules.specs.Words.{those, each, joined, every, some, place, fold, from, numbers}
-use Rattle.rules.proofs.Lists.{numbers-length, numbers-at, every-number, every-numbers, none-number, some-number}
+use lib.ListN.{length, getD, set, take, drop, replicate, drop-of-length-le, length-append, length-take, length-set, length-replicate, getD-replicate, List·getD-eq-default, List·getD-append}
+use lib.Dec.{eqb, ltb}
+use borrow.Author.Tests.{lt-ltb, eq-eqb, ne-eqb}
+use lib.Seq.{length-take-le, take-all, take-suc, drop-cons, append-snoc, getD-append-seam, getD-append-add, set-at, getD-set-same, getD-set-other, getD-take, ext-getD}
+use Rattle.rules.specs.Words.{those, each, joined, every, some, place, fold, from, numbers, filled}
+use Rattle.rules.proofs.Lists.{numbers-length, numbers-at, each-length, each-number, every-number, every-numbers, none-number, some-number}
 
 -- ---- a loop over l by its index i: l from i on is the element at i, and l from i + 1 on
 
@@ -194,3 +194,66 @@ module _ {A : Type 0} (p : A → Bool) (x : A) (k l : List A) where
 pub count-end : {A : Type 0} (p : A → Bool) (l : List A) → l ≡ [] → length (those p l) ≡ 0
 unfolding those
 count-end p l h = rw h refl
+
+-- ---- host: an array that is rewritten from the front, and one that is filled from the front
+
+-- the first i of `new`, then what `old` has from i on
+abbrev pub mixed : {A : Type 0} → ℕ → List A → List A → List A
+mixed i new old = take i new ++ drop i old
+
+module _ {A : Type 0} (d : A) (new old : List A) (i : ℕ) where
+  -- a store at i takes it one further
+  pub mixed-more : i < length new → i < length old → set (mixed i new old) i (getD new i d) ≡ mixed (i + 1) new old
+  mixed-more h k =
+      rw (
+        drop-cons old i d k,
+        set-at (take i new) (getD old i d) (drop (suc i) old) (getD new i d) i (length-take-le i new (omega arith)),
+        add-one,
+        take-suc new i d h,
+      ) (sym (append-snoc (take i new) (getD new i d) (drop (suc i) old)))
+
+  pub mixed-end : length new ≤ i → length old ≤ i → mixed i new old ≡ new
+  mixed-end h k = rw (take-all i new h, drop-of-length-le old k) (append-nil new)
+
+module _ {A : Type 0} (d : A) (n : ℕ) where
+  pub filled-length : (l : List A) → length (filled n d l) ≡ n
+  filled-length l = simp (length-take, length-append, length-replicate) (omega arith)
+
+  pub filled-at : (l : List A) (i : ℕ) → i < n → getD (filled n d l) i d ≡ getD l i d
+  filled-at l i h = getD-take n (l ++ replicate n d) i d h ∙ go (decLe (length l) i)
+    where
+      go : Dec (length l ≤ i) → getD (l ++ replicate n d) i d ≡ getD l i d
+      go (yes k) =
+          let e : i ≡ length l + (i - length l) = omega arith in
+          rw e (getD-append-add l (replicate n d) (i - length l) d ∙ getD-replicate n (i - length l) d d (omega arith)) ∙ sym (List·getD-eq-default l d k)
+      go (no k) = List·getD-append l (replicate n d) d i (omega arith)
+
+  snoc-other : (l : List A) (x : A) (i : ℕ) → (i ≡ length l → ⊥) → getD (l ++ x ∷ []) i d ≡ getD l i d
+  snoc-other [] x zero h = absurd (h refl)
+  snoc-other [] x (suc i) h = refl
+  snoc-other (y ∷ ys) x zero h = refl
+  snoc-other (y ∷ ys) x (suc i) h = snoc-other ys x i (λ e. h (ap suc e))
+
+  -- one more at the end; where the array is full it stays out
+  pub filled-more : (l : List A) (x : A) → set (filled n d l) (length l) x ≡ filled n d (l ++ x ∷ [])
+  filled-more l x =
+      let e = filled-length l in
+      ext-getD d (set (filled n d l) (length l) x) (filled n d (l ++ x ∷ [])) (simp (length-set, filled-length)) (λ i h.
+      let k : i < n = omega (arith, length-set (filled n d l) (length l) x) in
+      go i k (ℕ-discrete i (length l)) ∙ sym (filled-at (l ++ x ∷ []) i k))
+    where
+      go : (i : ℕ) → i < n → Dec (i ≡ length l) → getD (set (filled n d l) (length l) x) i d ≡ getD (l ++ x ∷ []) i d
+      go i h (yes e) =
+          rw e (getD-set-same (filled n d l) (length l) x d (omega (arith, filled-length l)) ∙ sym (getD-append-seam l x [] d))
+      go i h (no e) = getD-set-other (filled n d l) (length l) i x d e ∙ filled-at l i h ∙ sym (snoc-other l x i e)
+
+-- one place marked among n; a place beyond them marks none
+pub marked-only : (n c : ℕ) → set (replicate n false) c true ≡ each (eqb c) (numbers n)
+marked-only n c =
+    ext-getD false (set (replicate n false) c true) (each (eqb c) (numbers n)) (simp (length-set, length-replicate, each-length, numbers-length)) (λ i h.
+    let k : i < n = omega (arith, length-set (replicate n false) c true, length-replicate n false) in
+    go i k (ℕ-discrete i c) ∙ sym (each-number (eqb c) n i false k))
+  where
+    go : (i : ℕ) → i < n → Dec (i ≡ c) → getD (set (replicate n false) c true) i false ≡ eqb c i
+    go i h (yes e) = rw (← e, eq-eqb i i refl) (getD-set-same (replicate n false) i true false (omega (arith, length-replicate n false)))
+    go i h (no e) = rw (ne-eqb c i (λ k. e (sym k))) (getD-set-other (replicate n false) c i true false e ∙ getD-replicate n i false false h)
