@@ -1,0 +1,24 @@
+-- `host::timeout_code` meets its contract
+use mathlib.Core.Path.{refl}
+use Rattle.rules.specs.Codes.{codeOf}
+use borrow.Author.Needs.{needs}
+use Rattle.host.proofs.timeout_code.Statement.{statement}
+use Rattle.host.proofs.timeout_code.Tie as tie
+
+returns : tie.Need-returns
+unfolding codeOf
+returns c = rw (c .if1 .taken) refl
+
+is-outstanding-requires : tie.Need-is-outstanding-requires
+is-outstanding-requires c κs = search needs
+
+returns-2 : tie.Need-returns-2
+unfolding codeOf
+returns-2 c = rw (c .before .before .if1 .left, ← c .before .is-outstanding .ensures, c .if2 .taken) refl
+
+returns-3 : tie.Need-returns-3
+unfolding codeOf
+returns-3 c = rw (c .before .before .if1 .left, ← c .before .is-outstanding .ensures, c .if2 .left) refl
+
+pub timeout-code-spec : {M : Type 1} → statement M
+timeout-code-spec = tie.close (tie.spec returns is-outstanding-requires returns-2 returns-3)

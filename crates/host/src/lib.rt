@@ -1,0 +1,579 @@
+// One host: operations come in, one starts with a timestamp that the clock keeper drew, replies arrive, it finishes.
+ghost use mathlib.Core.Path.{_≡_};
+ghost use mathlib.Core.Bool.{false};
+ghost use mathlib.Core.List.{[], _∷_, _++_};
+ghost use Prim.Native.Nat.{_≤_};
+ghost use lib.ListN.{length, getD, set, take, drop};
+ghost use Rattle.rules.specs.Codes.{codeOf};
+ghost use Rattle.rules.specs.Hosts.{operationsOf, queueOf, front, hasCurrent, isOutstanding, withAttempt, withOkay, only};
+ghost use Rattle.rules.specs.Hosts.{intakeRefusals, appended, startRefusals, openingTo, started, suits, counts, answeredBy};
+ghost use Rattle.rules.specs.Hosts.{heard, atHost, finishRefusals, closingTo, doneAs, failedAs, finishOutcome, finished};
+ghost use Rattle.rules.specs.Hosts.{timeoutRefusals, timedOut, workingRefusals, refreshed, stopped};
+ghost use Rattle.rules.specs.Kinds.{isReading};
+ghost use Rattle.rules.specs.Limits.{operationLimit};
+ghost use Rattle.rules.specs.Words.{filled};
+ghost use Rattle.rules.specs.Zero.{_among_, zeroSet, zeroOperation, zeroAttempt};
+ghost use Rattle.host.specs.Keeper.{drawn};
+use rules::Action;
+use rules::Attempt;
+use rules::Epoch;
+use rules::Host;
+use rules::Message;
+use rules::Operation;
+use rules::Outcome;
+use rules::Queue;
+use rules::Set;
+use rules::Timestamp;
+
+// Limits of a draw.
+const GREATEST_CLOCK: u64 = 4294967295;
+
+fn is_reading(a: Action) -> bool
+    ensures { λ r. ⌜ r ≡ isReading a ⌝ }
+{
+    match a {
+        Action::Read => true,
+        Action::Write(_) => false,
+    }
+}
+
+// ---- sets of chunks
+
+fn no_chunks() -> Set
+    ensures { λ r. ⌜ r ≡ zeroSet ⌝ }
+{
+    Set {
+        chunks: [false; rules::CHUNKS],
+    }
+}
+
+// Beyond the last chunk's number there is none in the set.
+fn among(chunk: u64, s: Set) -> bool
+    ensures { λ r. ⌜ r ≡ (chunk among s) ⌝ }
+{
+    let i = chunk as usize;
+    if i < rules::CHUNKS {
+        return s.chunks[i];
+    }
+    false
+}
+
+fn only(chunk: u64) -> Set
+    ensures { λ r. ⌜ r ≡ only chunk ⌝ }
+{
+    let mut out = no_chunks();
+    let i = chunk as usize;
+    if i < rules::CHUNKS {
+        out.chunks[i] = true;
+    }
+    out
+}
+
+fn without(s: Set, chunk: u64) -> Set
+    ensures { λ r. ⌜ r ≡ record { chunks = set (s .chunks) chunk false } ⌝ }
+{
+    let mut out = s;
+    let i = chunk as usize;
+    if i < rules::CHUNKS {
+        out.chunks[i] = false;
+    }
+    out
+}
+
+fn has_current(h: Host) -> bool
+    ensures { λ r. ⌜ r ≡ hasCurrent h ⌝ }
+{
+    0 < h.attempt.timestamp.0
+}
+
+fn is_outstanding(h: Host) -> bool
+    ensures { λ r. ⌜ r ≡ isOutstanding h ⌝ }
+{
+    let a = h.attempt;
+    let s = a.outstanding;
+    let mut i: usize = 0;
+    while i < rules::CHUNKS {
+        if s.chunks[i] {
+            return true;
+        }
+        i = i + 1;
+    }
+    false
+}
+
+// ---- operations
+
+// How many there are: a count above 8 counts as 8.
+fn held(q: Queue) -> u64
+    ensures { λ r. ⌜ (r ≡ length (take (q .count) (q .operations))) × (r ≤ operationLimit) ⌝ }
+{
+    if q.count < rules::OPERATIONS as u64 {
+        return q.count;
+    }
+    rules::OPERATIONS as u64
+}
+
+// Operation i; zero where there is none, whatever the unused place holds.
+fn operation(q: Queue, i: u64) -> Operation
+    ensures { λ r. ⌜ r ≡ getD (take (q .count) (q .operations)) i zeroOperation ⌝ }
+{
+    if i < held(q) {
+        let p = i as usize;
+        return q.operations[p];
+    }
+    Operation {
+        block: 0,
+        action: Action::Read,
+    }
+}
+
+// The operation that is current, or would become it.
+pub fn front(h: Host) -> Operation
+    ensures { λ r. ⌜ r ≡ front h ⌝ }
+{
+    let q = h.queue;
+    operation(q, 0)
+}
+
+// The operations from `first` on, moved to the front of an array whose unused places are zero.
+fn operations_from(q: Queue, first: u64) -> [Operation; rules::OPERATIONS]
+    requires { ⌜ first ≤ operationLimit ⌝ }
+    ensures { λ r. ⌜ r ≡ filled operationLimit zeroOperation (drop first (take (q .count) (q .operations))) ⌝ }
+{
+    let mut out = q.operations;
+    let mut i: usize = 0;
+    while i < rules::OPERATIONS {
+        let o = operation(q, first + i as u64);
+        out[i] = o;
+        i = i + 1;
+    }
+    out
+}
+
+fn with_last(q: Queue, o: Operation) -> Queue
+    ensures { λ r. ⌜ r ≡ queueOf (take (q .count) (q .operations) ++ o ∷ []) ⌝ }
+{
+    let n = held(q);
+    let mut out = operations_from(q, 0);
+    let i = n as usize;
+    if i < rules::OPERATIONS {
+        out[i] = o;
+    }
+    Queue {
+        count: n + 1,
+        operations: out,
+    }
+}
+
+fn without_front(q: Queue) -> Queue
+    ensures { λ r. ⌜ r ≡ queueOf (drop 1 (take (q .count) (q .operations))) ⌝ }
+{
+    let n = held(q);
+    let out = operations_from(q, 1);
+    if n == 0 {
+        return Queue {
+            count: 0,
+            operations: out,
+        };
+    }
+    Queue {
+        count: n - 1,
+        operations: out,
+    }
+}
+
+// ---- intake
+
+// "Stopped: 2. Full: 4".
+pub fn intake_code(h: Host) -> u64
+    ensures { λ r. ⌜ r ≡ codeOf (intakeRefusals h) ⌝ }
+{
+    if !h.working {
+        return 2;
+    }
+    if rules::OPERATIONS as u64 <= h.queue.count {
+        return 4;
+    }
+    0
+}
+
+// "Else appended".
+pub fn append(h: Host, o: Operation) -> Host
+    ensures { λ r. ⌜ r ≡ appended h o ⌝ }
+{
+    let q = h.queue;
+    let longer = with_last(q, o);
+    let mut out = h;
+    out.queue = longer;
+    out
+}
+
+// ---- start
+
+// "Needs working, no current operation, one waiting, map current (2); .. a read's copy must be in the set (1); clock (3);
+// room (5)".
+pub fn start_code(h: Host, clock: u64, copy: u64, holders: Set, free: u64, messages: u64) -> u64
+    ensures { λ r. ⌜ r ≡ codeOf (startRefusals h clock copy holders free messages) ⌝ }
+{
+    if !h.working {
+        return 2;
+    }
+    if has_current(h) {
+        return 2;
+    }
+    if h.queue.count == 0 {
+        return 2;
+    }
+    if !h.mapped {
+        return 2;
+    }
+    let o = front(h);
+    let a = o.action;
+    if is_reading(a) & !among(copy, holders) {
+        return 1;
+    }
+    if clock <= h.clock {
+        return 3;
+    }
+    if free < messages {
+        return 5;
+    }
+    0
+}
+
+// "A read sends one read to the copy; a write sends a prewrite to each chunk of the set".
+pub fn opening_to(action: Action, copy: u64, holders: Set) -> Set
+    ensures { λ r. ⌜ r ≡ openingTo action copy holders ⌝ }
+{
+    match action {
+        Action::Read => only(copy),
+        Action::Write(_) => holders,
+    }
+}
+
+// "Okay and restart become true, the result value 0 .. Those are outstanding".
+pub fn start(h: Host, t: Timestamp, clock: u64, to: Set) -> Host
+    ensures { λ r. ⌜ r ≡ started h t clock to ⌝ }
+{
+    let a = Attempt {
+        timestamp: t,
+        outstanding: to,
+        okay: true,
+        restart: true,
+        result: 0,
+    };
+    let mut out = h;
+    out.attempt = a;
+    out.clock = clock;
+    out
+}
+
+// "each host's clock keeper hands out a number and remembers it".
+pub struct Keeper {
+    pub host: u64,
+    pub last: u64,
+}
+
+pub struct Drawn {
+    pub keeper: Keeper,
+    pub code: u64,
+    pub timestamp: Timestamp,
+}
+
+// The timestamp of a clock above the last, or the refusal.
+pub fn draw(k: Keeper, clock: u64) -> Drawn
+    ensures { λ r. ⌜ r ≡ drawn k clock ⌝ }
+{
+    if rules::HOSTS as u64 <= k.host {
+        return Drawn {
+            keeper: k,
+            code: 1,
+            timestamp: Timestamp(0),
+        };
+    }
+    if GREATEST_CLOCK < clock {
+        return Drawn {
+            keeper: k,
+            code: 1,
+            timestamp: Timestamp(0),
+        };
+    }
+    if clock <= k.last {
+        return Drawn {
+            keeper: k,
+            code: 3,
+            timestamp: Timestamp(0),
+        };
+    }
+    let mut kept = k;
+    kept.last = clock;
+    Drawn {
+        keeper: kept,
+        code: 0,
+        timestamp: Timestamp(clock * 8 + k.host),
+    }
+}
+
+// ---- a reply arrives
+
+// "a read or prewrite reply suits the operation".
+fn suits(reading: bool, m: Message) -> bool
+    ensures { λ r. ⌜ r ≡ suits reading m ⌝ }
+{
+    match m {
+        Message::ReadReply { .. } => reading,
+        Message::PrewriteReply { .. } => !reading,
+        Message::Mismatch { .. } => true,
+        Message::Error { .. } => true,
+        Message::OutOfOrder { .. } => true,
+        Message::Busy { .. } => true,
+        Message::Read { .. } => true,
+        Message::Prewrite { .. } => true,
+        Message::Commit { .. } => true,
+        Message::Abort { .. } => true,
+    }
+}
+
+// "a reply counts only if its timestamp is the current one, its chunk is outstanding, and a read or prewrite reply suits".
+fn counts(h: Host, m: Message) -> bool
+    ensures { λ r. ⌜ r ≡ counts h m ⌝ }
+{
+    let header = network::header_of(m);
+    let attempt = h.attempt;
+    let o = front(h);
+    let a = o.action;
+    (header.timestamp.0 == attempt.timestamp.0)
+        & among(header.chunk, attempt.outstanding)
+        & suits(is_reading(a), m)
+}
+
+// "The chunk is then no longer outstanding".
+fn answered_by(a: Attempt, chunk: u64) -> Attempt
+    ensures { λ r. ⌜ r ≡ answeredBy a chunk ⌝ }
+{
+    let s = a.outstanding;
+    let rest = without(s, chunk);
+    let mut out = a;
+    out.outstanding = rest;
+    out
+}
+
+fn with_attempt(h: Host, a: Attempt) -> Host
+    ensures { λ r. ⌜ r ≡ withAttempt h a ⌝ }
+{
+    let mut out = h;
+    out.attempt = a;
+    out
+}
+
+fn not_okay(a: Attempt) -> Attempt
+    ensures { λ r. ⌜ r ≡ withOkay a false ⌝ }
+{
+    let mut out = a;
+    out.okay = false;
+    out
+}
+
+// "Mismatch, out of order, busy and error clear okay; mismatch also makes the map not current; error clears restart. A
+// read reply sets the result value."
+fn heard(h: Host, a: Attempt, m: Message) -> Host
+    ensures { λ r. ⌜ r ≡ heard h a m ⌝ }
+{
+    match m {
+        Message::Mismatch { .. } => {
+            let mut out = with_attempt(h, not_okay(a));
+            out.mapped = false;
+            out
+        }
+        Message::OutOfOrder { .. } => with_attempt(h, not_okay(a)),
+        Message::Busy { .. } => with_attempt(h, not_okay(a)),
+        Message::Error { .. } => {
+            let mut b = not_okay(a);
+            b.restart = false;
+            with_attempt(h, b)
+        }
+        Message::ReadReply { header: _, value } => {
+            let mut b = a;
+            b.result = value;
+            with_attempt(h, b)
+        }
+        Message::PrewriteReply { .. } => with_attempt(h, a),
+        Message::Read { .. } => h,
+        Message::Prewrite { .. } => h,
+        Message::Commit { .. } => h,
+        Message::Abort { .. } => h,
+    }
+}
+
+// A reply that does not count changes nothing.
+pub fn at_host(h: Host, m: Message) -> Host
+    ensures { λ r. ⌜ r ≡ atHost h m ⌝ }
+{
+    if counts(h, m) {
+        let header = network::header_of(m);
+        let a = h.attempt;
+        return heard(h, answered_by(a, header.chunk), m);
+    }
+    h
+}
+
+// ---- finish
+
+// "Needs working, a current operation, nothing outstanding (2); room for a write's messages (5)".
+pub fn finish_code(h: Host, free: u64, messages: u64) -> u64
+    ensures { λ r. ⌜ r ≡ codeOf (finishRefusals h free messages) ⌝ }
+{
+    if !h.working {
+        return 2;
+    }
+    if !has_current(h) {
+        return 2;
+    }
+    if is_outstanding(h) {
+        return 2;
+    }
+    if free < messages {
+        return 5;
+    }
+    0
+}
+
+// A write's messages go to each chunk of the set; a read has none.
+pub fn closing_to(action: Action, holders: Set) -> Set
+    ensures { λ r. ⌜ r ≡ closingTo action holders ⌝ }
+{
+    match action {
+        Action::Read => no_chunks(),
+        Action::Write(_) => holders,
+    }
+}
+
+// "Okay write: .. write done .. Okay read: read done".
+fn done_as(host: u64, o: Operation, result: u64) -> Outcome
+    ensures { λ r. ⌜ r ≡ doneAs host o (o .action) result ⌝ }
+{
+    let action = o.action;
+    match action {
+        Action::Read => Outcome::ReadDone {
+            host: host,
+            block: o.block,
+            value: result,
+        },
+        Action::Write(_) => Outcome::WriteDone {
+            host: host,
+            block: o.block,
+        },
+    }
+}
+
+fn failed_as(host: u64, o: Operation) -> Outcome
+    ensures { λ r. ⌜ r ≡ failedAs host o (o .action) ⌝ }
+{
+    let action = o.action;
+    match action {
+        Action::Read => Outcome::ReadFailed {
+            host: host,
+            block: o.block,
+        },
+        Action::Write(_) => Outcome::WriteFailed {
+            host: host,
+            block: o.block,
+        },
+    }
+}
+
+// "with restart the operation goes back to the front, otherwise it has failed".
+pub fn finish_outcome(host: u64, h: Host) -> Outcome
+    ensures { λ r. ⌜ r ≡ finishOutcome host h ⌝ }
+{
+    let o = front(h);
+    if h.attempt.okay {
+        return done_as(host, o, h.attempt.result);
+    }
+    if h.attempt.restart {
+        return Outcome::None;
+    }
+    failed_as(host, o)
+}
+
+fn no_attempt() -> Attempt
+    ensures { λ r. ⌜ r ≡ zeroAttempt ⌝ }
+{
+    let none = no_chunks();
+    Attempt {
+        timestamp: Timestamp(0),
+        outstanding: none,
+        okay: false,
+        restart: false,
+        result: 0,
+    }
+}
+
+// "No current operation remains, and its fields become zero or false".
+pub fn finish(h: Host) -> Host
+    ensures { λ r. ⌜ r ≡ finished h ⌝ }
+{
+    let mut out = with_attempt(h, no_attempt());
+    if !h.attempt.okay & h.attempt.restart {
+        return out;
+    }
+    let q = h.queue;
+    let rest = without_front(q);
+    out.queue = rest;
+    out
+}
+
+// ---- timeout, refresh, stop
+
+// "needs working, something outstanding (2)".
+pub fn timeout_code(h: Host) -> u64
+    ensures { λ r. ⌜ r ≡ codeOf (timeoutRefusals h) ⌝ }
+{
+    if !h.working {
+        return 2;
+    }
+    if !is_outstanding(h) {
+        return 2;
+    }
+    0
+}
+
+// "Okay false, nothing outstanding".
+pub fn time_out(h: Host) -> Host
+    ensures { λ r. ⌜ r ≡ timedOut h ⌝ }
+{
+    let a = h.attempt;
+    let mut b = not_okay(a);
+    let none = no_chunks();
+    b.outstanding = none;
+    with_attempt(h, b)
+}
+
+// "8 refresh (host): working (2)"; "10 stop (host), once".
+pub fn working_code(h: Host) -> u64
+    ensures { λ r. ⌜ r ≡ codeOf (workingRefusals h) ⌝ }
+{
+    if !h.working {
+        return 2;
+    }
+    0
+}
+
+// "Epoch known becomes the store's, map current".
+pub fn refresh(h: Host, epoch: Epoch) -> Host
+    ensures { λ r. ⌜ r ≡ refreshed h epoch ⌝ }
+{
+    let mut out = h;
+    out.epoch = epoch;
+    out.mapped = true;
+    out
+}
+
+// "its other fields stay".
+pub fn stop(h: Host) -> Host
+    ensures { λ r. ⌜ r ≡ stopped h ⌝ }
+{
+    let mut out = h;
+    out.working = false;
+    out
+}

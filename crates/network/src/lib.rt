@@ -1,0 +1,258 @@
+// The network: "64 places .. New messages go to the lowest free places, by ascending chunk".
+ghost use mathlib.Core.Path.{_≡_};
+ghost use Rattle.rules.specs.Codes.{codeOf};
+ghost use Rattle.rules.specs.Hosts.{opening, closing};
+ghost use Rattle.rules.specs.Kinds.{headerOf, isForChunk, headed, isEmptySlot};
+ghost use Rattle.rules.specs.Network.{isFree, freePlaces, removed, sent, howMany, sentToEach, replied, placeRefusals};
+ghost use Rattle.rules.specs.Words.{place};
+ghost use Rattle.network.specs.Steps.{messageOf, requestTo};
+use rules::Action;
+use rules::Epoch;
+use rules::Header;
+use rules::Message;
+use rules::Place;
+use rules::Set;
+use rules::Slot;
+use rules::Timestamp;
+
+// "Each has host, chunk, block and timestamp".
+pub fn header_of(m: Message) -> Header
+    ensures { λ r. ⌜ r ≡ headerOf m ⌝ }
+{
+    match m {
+        Message::Read { header, .. } => header,
+        Message::Prewrite { header, .. } => header,
+        Message::Commit { header, .. } => header,
+        Message::Abort { header, .. } => header,
+        Message::Mismatch { header } => header,
+        Message::Error { header } => header,
+        Message::OutOfOrder { header } => header,
+        Message::Busy { header } => header,
+        Message::ReadReply { header, .. } => header,
+        Message::PrewriteReply { header } => header,
+    }
+}
+
+// Requests go to the chunk, replies to the host.
+pub fn is_for_chunk(m: Message) -> bool
+    ensures { λ r. ⌜ r ≡ isForChunk m ⌝ }
+{
+    match m {
+        Message::Read { .. } => true,
+        Message::Prewrite { .. } => true,
+        Message::Commit { .. } => true,
+        Message::Abort { .. } => true,
+        Message::Mismatch { .. } => false,
+        Message::Error { .. } => false,
+        Message::OutOfOrder { .. } => false,
+        Message::Busy { .. } => false,
+        Message::ReadReply { .. } => false,
+        Message::PrewriteReply { .. } => false,
+    }
+}
+
+pub fn is_empty(s: Slot) -> bool
+    ensures { λ r. ⌜ r ≡ isEmptySlot s ⌝ }
+{
+    match s {
+        Slot::Empty => true,
+        Slot::Full(_) => false,
+    }
+}
+
+fn is_free(p: Place) -> bool
+    ensures { λ r. ⌜ r ≡ isFree p ⌝ }
+{
+    let s = p.slot;
+    is_empty(s)
+}
+
+// "4 deliver (place), 5 drop (place). Empty place: 2".
+pub fn place_code(s: Slot) -> u64
+    ensures { λ r. ⌜ r ≡ codeOf (placeRefusals s) ⌝ }
+{
+    if is_empty(s) {
+        return 2;
+    }
+    0
+}
+
+// How much room there is for a step's messages.
+pub fn free_places(places: [Place; rules::PLACES]) -> u64
+    ensures { λ r. ⌜ r ≡ freePlaces places ⌝ }
+{
+    let mut count: u64 = 0;
+    let mut i: usize = 0;
+    while i < rules::PLACES {
+        let p = places[i];
+        if is_free(p) {
+            count = count + 1;
+        }
+        i = i + 1;
+    }
+    count
+}
+
+// The lowest free place, or 64 where there is none.
+fn lowest_free(places: [Place; rules::PLACES]) -> usize
+    ensures { λ r. ⌜ r ≡ place isFree places ⌝ }
+{
+    let mut i: usize = 0;
+    while i < rules::PLACES {
+        let p = places[i];
+        if is_free(p) {
+            break;
+        }
+        i = i + 1;
+    }
+    i
+}
+
+// "The message is removed"; beyond the last place there is none.
+pub fn remove(places: [Place; rules::PLACES], p: u64) -> [Place; rules::PLACES]
+    ensures { λ r. ⌜ r ≡ removed places p ⌝ }
+{
+    let mut out = places;
+    let i = p as usize;
+    if i < rules::PLACES {
+        out[i] = Place { slot: Slot::Empty };
+    }
+    out
+}
+
+// "New messages go to the lowest free places"; a full network stays as it is.
+pub fn send(places: [Place; rules::PLACES], m: Message) -> [Place; rules::PLACES]
+    ensures { λ r. ⌜ r ≡ sent places m ⌝ }
+{
+    let mut out = places;
+    let i = lowest_free(places);
+    if i < rules::PLACES {
+        out[i] = Place {
+            slot: Slot::Full(m),
+        };
+    }
+    out
+}
+
+// "Its reply, if any, takes the lowest free place".
+pub fn reply(places: [Place; rules::PLACES], s: Slot) -> [Place; rules::PLACES]
+    ensures { λ r. ⌜ r ≡ replied places s ⌝ }
+{
+    match s {
+        Slot::Empty => places,
+        Slot::Full(m) => send(places, m),
+    }
+}
+
+// How many chunks a set has, and so how many messages go to it.
+pub fn how_many(to: Set) -> u64
+    ensures { λ r. ⌜ r ≡ howMany to ⌝ }
+{
+    let mut count: u64 = 0;
+    let mut i: usize = 0;
+    while i < rules::CHUNKS {
+        if to.chunks[i] {
+            count = count + 1;
+        }
+        i = i + 1;
+    }
+    count
+}
+
+// What a host asks of each chunk of a set: a start opens its operation there, a finish closes it.
+enum Request {
+    Open(Action),
+    Close(bool),
+}
+
+fn message_of(r: Request, header: Header, epoch: Epoch) -> Message
+    ensures { λ m. ⌜ m ≡ messageOf r header epoch ⌝ }
+{
+    match r {
+        Request::Open(action) => match action {
+            Action::Read => Message::Read {
+                header: header,
+                epoch: epoch,
+            },
+            Action::Write(v) => Message::Prewrite {
+                header: header,
+                epoch: epoch,
+                value: v,
+            },
+        },
+        Request::Close(okay) => {
+            if okay {
+                Message::Commit {
+                    header: header,
+                    epoch: epoch,
+                }
+            } else {
+                Message::Abort {
+                    header: header,
+                    epoch: epoch,
+                }
+            }
+        }
+    }
+}
+
+// ".. by ascending chunk".
+fn send_to_each(
+    places: [Place; rules::PLACES],
+    to: Set,
+    r: Request,
+    host: u64,
+    block: u64,
+    now: Timestamp,
+    epoch: Epoch,
+) -> [Place; rules::PLACES]
+    ensures { λ n. ⌜ n ≡ sentToEach places to (requestTo r host block now epoch) ⌝ }
+{
+    let mut out = places;
+    let mut i: usize = 0;
+    while i < rules::CHUNKS {
+        if to.chunks[i] {
+            let header = Header {
+                host: host,
+                chunk: i as u64,
+                block: block,
+                timestamp: now,
+            };
+            let m = message_of(r, header, epoch);
+            let next = send(out, m);
+            out = next;
+        }
+        i = i + 1;
+    }
+    out
+}
+
+// "A read sends one read to the copy; a write sends a prewrite to each chunk of the set".
+pub fn open(
+    places: [Place; rules::PLACES],
+    to: Set,
+    host: u64,
+    block: u64,
+    now: Timestamp,
+    epoch: Epoch,
+    action: Action,
+) -> [Place; rules::PLACES]
+    ensures { λ r. ⌜ r ≡ sentToEach places to (λ chunk. opening (headed host chunk block now) epoch action) ⌝ }
+{
+    send_to_each(places, to, Request::Open(action), host, block, now, epoch)
+}
+
+// "Okay write: commit to each chunk of the set .. Not okay: abort to each".
+pub fn close(
+    places: [Place; rules::PLACES],
+    to: Set,
+    host: u64,
+    block: u64,
+    now: Timestamp,
+    epoch: Epoch,
+    okay: bool,
+) -> [Place; rules::PLACES]
+    ensures { λ r. ⌜ r ≡ sentToEach places to (λ chunk. closing okay (headed host chunk block now) epoch) ⌝ }
+{
+    send_to_each(places, to, Request::Close(okay), host, block, now, epoch)
+}
