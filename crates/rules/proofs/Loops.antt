@@ -1,38 +1,20 @@
 -- Loops: what a loop over an array cites, and how a word of the rules is a loop. Over any element
-use Prim.Native.Nat.{ℕ, zero, suc, _+_, _-_, _*_, _/_, _%_, _≤_, _<_, compare·suc-suc}
+use Prim.Native.Nat.{ℕ, zero, suc, _+_, _-_, _≤_, _<_, compare·suc-suc, _*_, _/_, _%_}
 use mathlib.Core.Path.{_≡_, refl, sym, ap, _∙_}
 use mathlib.Core.Bool.{Bool, true, false, cond, _&&_, _||_, not, true≢false}
-use mathlib.Core.List.{List, [], _∷_, _++_}
-use native.Mathlib.Nat.{mod-lt, div-lt-iff-lt-mul}
-use mathlib.Core.List.{List, [], _∷_, _++_, append-nil}
+use mathlib.Core.List.{List, [], _∷_, _++_, append-assoc, append-nil}
 use native.Mathlib.Numerals.{add-one}
 use native.Mathlib.Decide.{decLe, ℕ-discrete}
 use native.Mathlib.Omega.{arith}
-use lib.ListN.{length, getD, take, drop, drop-of-length-le, length-take}
-use lib.Arith.{digits-lt, digits-div, digits-mod}
-use lib.ListN.{length, getD, set, take, drop, drop-of-length-le, length-take, List·getD-eq-default}
-use lib.Dec.{ltb}
-use borrow.Author.Tests.{lt-ltb}
-use lib.Seq.{drop-cons}
-use Rattle.rules.specs.Words.{those, each, joined, every, some, place, first, fold, from, numbers}
-use Rattle.rules.proofs.Lists.{both, every-number, every-numbers, none-number, some-number}
-use mathlib.Core.List.{List, [], _∷_, _++_, append-assoc, append-nil}
-use native.Mathlib.Numerals.{add-one}
-use native.Mathlib.Decide.{decLe}
-use native.Mathlib.Omega.{arith}
-use lib.ListN.{length, getD, set, take, drop, replicate, drop-of-length-le, take-append-drop, length-take, length-drop, length-append, length-replicate, getD-replicate, List·getD-eq-default, List·getD-append}
-use lib.Dec.{ltb}
-use borrow.Author.Tests.{lt-ltb}
-use lib.Seq.{drop-cons, take-suc, take-take, take-at, append-snoc, length-take-le, set-at, getD-at, getD-take, getD-drop, getD-append-add, take-append-le, drop-append-le, set-append-left, take-set-lt, ext-getD}
-use Rattle.rules.specs.Codes.{Row, codeOf, _gives_⨾_, granted}
-use Rattle.rules.specs.Words.{those, each, joined, every, some, place, fold, from, numbers, filled}
-use Rattle.rules.proofs.Lists.{every-number, every-numbers, none-number, some-number, filled-here, filled-past}
-use lib.ListN.{length, getD, set, take, drop, replicate, drop-of-length-le, length-append, length-take, length-set, length-replicate, getD-replicate, List·getD-eq-default, List·getD-append}
-use lib.Dec.{eqb, ltb}
+use lib.ListN.{length, getD, take, drop, drop-of-length-le, length-take, set, List·getD-eq-default, replicate, take-append-drop, length-drop, length-append, length-replicate, getD-replicate, List·getD-append, length-set}
+use lib.Dec.{ltb, eqb}
 use borrow.Author.Tests.{lt-ltb, eq-eqb, ne-eqb}
-use lib.Seq.{length-take-le, take-all, take-suc, drop-cons, append-snoc, getD-append-seam, getD-append-add, set-at, getD-set-same, getD-set-other, getD-take, ext-getD}
-use Rattle.rules.specs.Words.{those, each, joined, every, some, place, fold, from, numbers, filled}
-use Rattle.rules.proofs.Lists.{numbers-length, numbers-at, each-length, each-number, every-number, every-numbers, none-number, some-number}
+use lib.Seq.{drop-cons, take-suc, take-take, take-at, append-snoc, length-take-le, set-at, getD-at, getD-take, getD-drop, getD-append-add, take-append-le, drop-append-le, set-append-left, take-set-lt, ext-getD, take-all, getD-append-seam, getD-set-same, getD-set-other}
+use Rattle.rules.specs.Words.{those, each, joined, every, some, place, fold, from, numbers, first, filled}
+use Rattle.rules.proofs.Lists.{every-number, every-numbers, none-number, some-number, both, filled-here, filled-past, numbers-length, numbers-at, each-length, each-number}
+use native.Mathlib.Nat.{mod-lt, div-lt-iff-lt-mul}
+use lib.Arith.{digits-lt, digits-div, digits-mod}
+use Rattle.rules.specs.Codes.{Row, codeOf, _gives_⨾_, granted}
 
 -- ---- a loop over l by its index i: l from i on is the element at i, and l from i + 1 on
 
@@ -217,6 +199,7 @@ module _ (p : ℕ → ℕ → Bool) (m n : ℕ) (some-columns : 0 < n) where
 
   pub every-flat : flat ≡ rows
   every-flat = same-truth flat rows flat-rows rows-flat
+
 -- ---- settle: the first that is p, and those that are; a list rewritten element by element
 
 -- the first that is p, by a loop that stops at it
@@ -290,34 +273,9 @@ module _ {A : Type 0} (f : A → A) (d : A) where
   each-end [] (suc i) h = refl
   each-end (x ∷ xs) zero h = absurd (omega arith)
   each-end (x ∷ xs) (suc i) h = ap (λ (t : List A). f x ∷ t) (each-end xs i (omega arith))
+
 -- ---- waiting: an array that is rewritten in place from the front: the first i of `new`, then what `old` has from i on
 
--- ---- network: a loop that counts those that are p, and a loop over the numbers below n
-
-pub numbers-more : (n i : ℕ) → i < n → drop i (numbers n) ≡ i ∷ drop (i + 1) (numbers n)
-numbers-more n i h =
-    let k : i < length (numbers n) = omega (arith, numbers-length n) in
-    rw (numbers-at n i 0 h) at (drop-more 0 (numbers n) i k)
-
-pub numbers-end : (n i : ℕ) → n ≤ i → drop i (numbers n) ≡ []
-numbers-end n i h = let k : length (numbers n) ≤ i = omega (arith, numbers-length n) in drop-of-length-le (numbers n) k
-
-module _ {A : Type 0} (p : A → Bool) (x : A) (k l : List A) where
-  pub count-here : k ≡ x ∷ l → p x ≡ true → length (those p k) ≡ length (those p l) + 1
-  unfolding those
-  count-here h e = rw (h, e) (sym (add-one _))
-
-  pub count-other : k ≡ x ∷ l → p x ≡ false → length (those p k) ≡ length (those p l)
-  unfolding those
-  count-other h e = rw (h, e) refl
-
-pub count-end : {A : Type 0} (p : A → Bool) (l : List A) → l ≡ [] → length (those p l) ≡ 0
-unfolding those
-count-end p l h = rw h refl
-
--- ---- host: an array that is rewritten from the front, and one that is filled from the front
-
--- the first i of `new`, then what `old` has from i on
 abbrev pub mixed : {A : Type 0} → ℕ → List A → List A → List A
 mixed i new old = take i new ++ drop i old
 
@@ -402,15 +360,6 @@ module _ {A : Type 0} (d : A) (n : ℕ) (l : List A) where
 
   pub filled-at : (i : ℕ) → i < n → getD (filled n d l) i d ≡ getD l i d
   filled-at i h = getD-take n (l ++ replicate n d) i d h ∙ go (decLe (length l) i)
-  pub mixed-end : length new ≤ i → length old ≤ i → mixed i new old ≡ new
-  mixed-end h k = rw (take-all i new h, drop-of-length-le old k) (append-nil new)
-
-module _ {A : Type 0} (d : A) (n : ℕ) where
-  pub filled-length : (l : List A) → length (filled n d l) ≡ n
-  filled-length l = simp (length-take, length-append, length-replicate) (omega arith)
-
-  pub filled-at : (l : List A) (i : ℕ) → i < n → getD (filled n d l) i d ≡ getD l i d
-  filled-at l i h = getD-take n (l ++ replicate n d) i d h ∙ go (decLe (length l) i)
     where
       go : Dec (length l ≤ i) → getD (l ++ replicate n d) i d ≡ getD l i d
       go (yes k) =
@@ -453,6 +402,37 @@ module _ (situation : Bool) (k : ℕ) (rest : List Row) where
 pub refused-nowhere : 0 ≡ codeOf granted
 unfolding codeOf
 refused-nowhere = refl
+
+-- ---- network: a loop that counts those that are p, and a loop over the numbers below n
+
+pub numbers-more : (n i : ℕ) → i < n → drop i (numbers n) ≡ i ∷ drop (i + 1) (numbers n)
+numbers-more n i h =
+    let k : i < length (numbers n) = omega (arith, numbers-length n) in
+    rw (numbers-at n i 0 h) at (drop-more 0 (numbers n) i k)
+
+pub numbers-end : (n i : ℕ) → n ≤ i → drop i (numbers n) ≡ []
+numbers-end n i h = let k : length (numbers n) ≤ i = omega (arith, numbers-length n) in drop-of-length-le (numbers n) k
+
+module _ {A : Type 0} (p : A → Bool) (x : A) (k l : List A) where
+  pub count-here : k ≡ x ∷ l → p x ≡ true → length (those p k) ≡ length (those p l) + 1
+  unfolding those
+  count-here h e = rw (h, e) (sym (add-one _))
+
+  pub count-other : k ≡ x ∷ l → p x ≡ false → length (those p k) ≡ length (those p l)
+  unfolding those
+  count-other h e = rw (h, e) refl
+
+pub count-end : {A : Type 0} (p : A → Bool) (l : List A) → l ≡ [] → length (those p l) ≡ 0
+unfolding those
+count-end p l h = rw h refl
+
+-- ---- host: the whole rewritten; one more in an array that is filled from the front
+
+module _ {A : Type 0} (new old : List A) (i : ℕ) where
+  pub mixed-end : length new ≤ i → length old ≤ i → mixed i new old ≡ new
+  mixed-end h k = rw (take-all i new h, drop-of-length-le old k) (append-nil new)
+
+module _ {A : Type 0} (d : A) (n : ℕ) where
   snoc-other : (l : List A) (x : A) (i : ℕ) → (i ≡ length l → ⊥) → getD (l ++ x ∷ []) i d ≡ getD l i d
   snoc-other [] x zero h = absurd (h refl)
   snoc-other [] x (suc i) h = refl
@@ -462,15 +442,15 @@ refused-nowhere = refl
   -- one more at the end; where the array is full it stays out
   pub filled-more : (l : List A) (x : A) → set (filled n d l) (length l) x ≡ filled n d (l ++ x ∷ [])
   filled-more l x =
-      let e = filled-length l in
+      let e = filled-length d n l in
       ext-getD d (set (filled n d l) (length l) x) (filled n d (l ++ x ∷ [])) (simp (length-set, filled-length)) (λ i h.
       let k : i < n = omega (arith, length-set (filled n d l) (length l) x) in
-      go i k (ℕ-discrete i (length l)) ∙ sym (filled-at (l ++ x ∷ []) i k))
+      go i k (ℕ-discrete i (length l)) ∙ sym (filled-at d n (l ++ x ∷ []) i k))
     where
       go : (i : ℕ) → i < n → Dec (i ≡ length l) → getD (set (filled n d l) (length l) x) i d ≡ getD (l ++ x ∷ []) i d
       go i h (yes e) =
-          rw e (getD-set-same (filled n d l) (length l) x d (omega (arith, filled-length l)) ∙ sym (getD-append-seam l x [] d))
-      go i h (no e) = getD-set-other (filled n d l) (length l) i x d e ∙ filled-at l i h ∙ sym (snoc-other l x i e)
+          rw e (getD-set-same (filled n d l) (length l) x d (omega (arith, filled-length d n l)) ∙ sym (getD-append-seam l x [] d))
+      go i h (no e) = getD-set-other (filled n d l) (length l) i x d e ∙ filled-at d n l i h ∙ sym (snoc-other l x i e)
 
 -- one place marked among n; a place beyond them marks none
 pub marked-only : (n c : ℕ) → set (replicate n false) c true ≡ each (eqb c) (numbers n)
@@ -482,3 +462,19 @@ marked-only n c =
     go : (i : ℕ) → i < n → Dec (i ≡ c) → getD (set (replicate n false) c true) i false ≡ eqb c i
     go i h (yes e) = rw (← e, eq-eqb i i refl) (getD-set-same (replicate n false) i true false (omega (arith, length-replicate n false)))
     go i h (no e) = rw (ne-eqb c i (λ k. e (sym k))) (getD-set-other (replicate n false) c i true false e ∙ getD-replicate n i false false h)
+
+-- ---- lines: one element more at the end
+
+pub each-append : {A B : Type 0} (f : A → B) (k l : List A) → each f (k ++ l) ≡ each f k ++ each f l
+unfolding each
+each-append f [] l = refl
+each-append f (x ∷ k) l = ap (λ (t : List _). f x ∷ t) (each-append f k l)
+
+pub every-append : {A : Type 0} (p : A → Bool) (k l : List A) → every p (k ++ l) ≡ (every p k && every p l)
+unfolding every
+every-append p [] l = refl
+every-append p (x ∷ k) l = go (p x) (every-append p k l)
+  where
+    go : (b : Bool) → every p (k ++ l) ≡ (every p k && every p l) → (b && every p (k ++ l)) ≡ ((b && every p k) && every p l)
+    go true h = h
+    go false h = refl

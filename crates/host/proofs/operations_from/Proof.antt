@@ -62,7 +62,7 @@ returns c =
     let list = drop (a .first) (take (a .q .count) (a .q .operations)) in
     let i = c .before .loop .i in
     c .before .loop .inv .1
-    ∙ mixed-end zeroOperation (filled 8 zeroOperation list) (a .q .operations) i (omega (arith, filled-length zeroOperation 8 list)) (omega (arith, len s))
+    ∙ mixed-end (filled 8 zeroOperation list) (a .q .operations) i (omega (arith, filled-length zeroOperation 8 list)) (omega (arith, len s))
 
 pub operations-from-spec : {M : Type 1} → statement M
 operations-from-spec =
