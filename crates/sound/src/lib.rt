@@ -1,14 +1,14 @@
 // Code 8: the whole table is looked at. A part of the store's must be formed, an unused one zero.
 ghost use mathlib.Core.Path.{_≡_};
-ghost use mathlib.Core.Bool.{Bool, _&&_, not};
-ghost use Prim.Native.Nat.{ℕ, _-_, _<_};
+ghost use mathlib.Core.Bool.{_&&_, not};
+ghost use Prim.Native.Nat.{_-_};
 ghost use Rattle.rules.specs.Creation.{isCreation, ofStore, isSetOf};
 ghost use Rattle.rules.specs.Formed.{operationFormed, operationAt, queueFormed, attemptFormed, hostFormed, chunkFormed, entryFormed, entryAt, waitingFormed, recordFormed, messageFormed, slotFormed, hostAt, chunkAt, recordsAt, placeAt, wellFormed};
 ghost use Rattle.rules.specs.Kinds.{isRead, isNormal, isReading};
 ghost use Rattle.rules.specs.Limits.{hostLimit, chunkLimit, blockLimit, operationLimit, waitingLimit, placeLimit};
 ghost use Rattle.rules.specs.Tables.{withEpoch, withHosts, withChunks, withRecords, withPlaces};
 ghost use Rattle.rules.specs.Timestamps.{_above_};
-ghost use Rattle.rules.specs.Words.{if_then_else_, every, none, numbers};
+ghost use Rattle.rules.specs.Words.{if_then_else_, every, numbers};
 ghost use Rattle.rules.specs.Zero.{isEmpty, isZeroEntry, isZeroRecord, isZeroChunk, isZeroOperation, isZeroAttempt, isZeroHost};
 ghost use Rattle.sound.specs.Parts.{counted, bare, headerFormed, ofBlocks};
 use rules::Action;
@@ -240,7 +240,7 @@ fn host_at(n: Counts, used: bool, h: Host) -> bool
     is_zero_host(n, h)
 }
 
-fn hosts_formed(n: Counts, hosts: [Host; 8]) -> bool
+fn hosts_formed(n: Counts, hosts: [Host; rules::HOSTS]) -> bool
     ensures { λ r. ⌜ r ≡ every (hostAt (withHosts (bare n) hosts)) (numbers hostLimit) ⌝ }
 {
     let mut i: usize = 0;
@@ -293,7 +293,7 @@ fn chunk_at(n: Counts, epoch: Epoch, used: bool, c: Chunk) -> bool
     is_zero_chunk(c)
 }
 
-fn chunks_formed(n: Counts, epoch: Epoch, chunks: [Chunk; 8]) -> bool
+fn chunks_formed(n: Counts, epoch: Epoch, chunks: [Chunk; rules::CHUNKS]) -> bool
     ensures { λ r. ⌜ r ≡ every (chunkAt (withChunks (withEpoch (bare n) epoch) chunks)) (numbers chunkLimit) ⌝ }
 {
     let mut i: usize = 0;
@@ -387,7 +387,7 @@ fn record_at(n: Counts, used: bool, x: Record) -> bool
 }
 
 // "A chunk has a record for every block, held or not": that of chunk c and block b at c x 16 + b.
-fn records_formed(n: Counts, records: [Record; 128]) -> bool
+fn records_formed(n: Counts, records: [Record; rules::RECORDS]) -> bool
     ensures { λ r. ⌜ r ≡ every (recordsAt (withRecords (bare n) records)) (numbers chunkLimit) ⌝ }
 {
     let mut i: usize = 0;
@@ -421,14 +421,14 @@ fn message_formed(n: Counts, m: Message) -> bool
 {
     match m {
         Message::Read { header, epoch } => header_formed(n, header, epoch),
-        Message::Prewrite { header, epoch, value: _ } => header_formed(n, header, epoch),
+        Message::Prewrite { header, epoch, .. } => header_formed(n, header, epoch),
         Message::Commit { header, epoch } => header_formed(n, header, epoch),
         Message::Abort { header, epoch } => header_formed(n, header, epoch),
         Message::Mismatch { header } => header_formed(n, header, Epoch(0)),
         Message::Error { header } => header_formed(n, header, Epoch(0)),
         Message::OutOfOrder { header } => header_formed(n, header, Epoch(0)),
         Message::Busy { header } => header_formed(n, header, Epoch(0)),
-        Message::ReadReply { header, value: _ } => header_formed(n, header, Epoch(0)),
+        Message::ReadReply { header, .. } => header_formed(n, header, Epoch(0)),
         Message::PrewriteReply { header } => header_formed(n, header, Epoch(0)),
     }
 }
@@ -443,7 +443,7 @@ fn place_formed(n: Counts, p: Place) -> bool
     }
 }
 
-fn places_formed(n: Counts, places: [Place; 64]) -> bool
+fn places_formed(n: Counts, places: [Place; rules::PLACES]) -> bool
     ensures { λ r. ⌜ r ≡ every (placeAt (withPlaces (bare n) places)) (numbers placeLimit) ⌝ }
 {
     let mut i: usize = 0;
