@@ -45,7 +45,7 @@ struct Counts {
     blocks: u64,
 }
 
-// ---- cases of the enums
+// ---- an enum's first case, which an unused place holds
 
 fn is_read(k: Kind) -> bool
     ensures { λ r. ⌜ r ≡ isRead k ⌝ }
@@ -93,7 +93,7 @@ fn of_store(n: Counts, s: Set) -> bool
     true
 }
 
-// Every chunk in it is one of a store that has none.
+// Every chunk in it is one of a store that has none: there is none in it.
 fn is_empty(s: Set) -> bool
     ensures { λ r. ⌜ r ≡ isEmpty s ⌝ }
 {
@@ -116,6 +116,7 @@ fn is_set_of(n: Counts, used: bool, s: Set) -> bool
     empty
 }
 
+// The set of every block, and of every place for one.
 fn sets_formed(k: Creation) -> bool
     ensures { λ r. ⌜ r ≡ every (isSetOf k) (numbers blockLimit) ⌝ }
 {
@@ -205,6 +206,7 @@ fn attempt_formed(n: Counts, count: u64, a: Attempt) -> bool
     is_zero_attempt(a)
 }
 
+// "epoch known; .. last clock drawn", with the queue and the attempt.
 fn host_formed(n: Counts, h: Host) -> bool
     ensures { λ r. ⌜ r ≡ hostFormed (counted n) h ⌝ }
 {
@@ -231,6 +233,7 @@ fn is_zero_host(n: Counts, h: Host) -> bool
         & (h.clock == 0)
 }
 
+// One of the store's, or an unused place.
 fn host_at(n: Counts, used: bool, h: Host) -> bool
     ensures { λ r. ⌜ r ≡ if used then hostFormed (counted n) h else isZeroHost h ⌝ }
 {
@@ -277,6 +280,7 @@ fn chunk_formed(n: Counts, epoch: Epoch, c: Chunk) -> bool
     (c.epoch.0 == epoch.0) & blocks_of_store(n.blocks, c)
 }
 
+// The reconciliation set has only blocks of a store that has none: it is empty.
 fn is_zero_chunk(c: Chunk) -> bool
     ensures { λ r. ⌜ r ≡ isZeroChunk c ⌝ }
 {
@@ -284,6 +288,7 @@ fn is_zero_chunk(c: Chunk) -> bool
     is_normal(s) & !c.lost & (c.epoch.0 == 0) & blocks_of_store(0, c)
 }
 
+// One of the store's, or an unused place.
 fn chunk_at(n: Counts, epoch: Epoch, used: bool, c: Chunk) -> bool
     ensures { λ r. ⌜ r ≡ if used then chunkFormed (counted n) epoch c else isZeroChunk c ⌝ }
 {
@@ -316,6 +321,7 @@ fn is_zero_entry(e: Entry) -> bool
     (e.timestamp.0 == 0) & (e.sender == 0) & (e.epoch.0 == 0) & is_read(k)
 }
 
+// "Beside its timestamp, sender and epoch": a kind, of which any is right.
 fn entry_formed(n: Counts, e: Entry) -> bool
     ensures { λ r. ⌜ r ≡ entryFormed (counted n) e ⌝ }
 {
@@ -362,6 +368,7 @@ fn waiting_formed(n: Counts, w: Waiting) -> bool
     (w.count <= rules::WAITING as u64) & entries_formed(n, w)
 }
 
+// "a value, last read, last write": a value is any 64-bit number.
 fn record_formed(n: Counts, x: Record) -> bool
     ensures { λ r. ⌜ r ≡ recordFormed (counted n) x ⌝ }
 {
@@ -377,6 +384,7 @@ fn is_zero_record(n: Counts, x: Record) -> bool
     (x.value == 0) & (x.read.0 == 0) & (x.write.0 == 0) & (w.count == 0) & entries_formed(n, w)
 }
 
+// Of a chunk and a block of the store's, or an unused place.
 fn record_at(n: Counts, used: bool, x: Record) -> bool
     ensures { λ r. ⌜ r ≡ if used then recordFormed (counted n) x else isZeroRecord x ⌝ }
 {
@@ -405,7 +413,7 @@ fn records_formed(n: Counts, records: [Record; rules::RECORDS]) -> bool
 
 // ---- a message
 
-// "a message's block may be 0 to 15 and a timestamp anything up to 34,359,738,367"; a reply's epoch is 0.
+// "a message's block may be 0 to 15 and a timestamp anything up to 34,359,738,367"
 fn header_formed(n: Counts, h: Header, epoch: Epoch) -> bool
     ensures { λ r. ⌜ r ≡ headerFormed n h epoch ⌝ }
 {
@@ -416,6 +424,7 @@ fn header_formed(n: Counts, h: Header, epoch: Epoch) -> bool
         & (epoch.0 <= GREATEST_CLOCK)
 }
 
+// "the first four also the epoch the host knows"
 fn message_formed(n: Counts, m: Message) -> bool
     ensures { λ r. ⌜ r ≡ messageFormed (counted n) m ⌝ }
 {
