@@ -1,6 +1,6 @@
 -- Laws that the proofs of the functions cite
 use Prim.Native.Nat.{ℕ, _-_, _*_, _/_, _%_}
-use mathlib.Core.Path.{_≡_, refl, ap}
+use mathlib.Core.Path.{_≡_, refl}
 use mathlib.Core.Bool.{Bool, true, false, cond, not, _&&_, _||_}
 use mathlib.Core.List.{List, [], _∷_}
 use native.Mathlib.Nat.{div-add-mod'}

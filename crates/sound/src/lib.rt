@@ -1,14 +1,14 @@
 // Code 8: the whole table is looked at. A part of the store's must be formed, an unused one zero.
 ghost use mathlib.Core.Path.{_≡_};
-ghost use mathlib.Core.Bool.{Bool, _&&_, not};
-ghost use Prim.Native.Nat.{ℕ, _-_, _<_};
+ghost use mathlib.Core.Bool.{_&&_, not};
+ghost use Prim.Native.Nat.{_-_};
 ghost use Rattle.rules.specs.Creation.{isCreation, ofStore, isSetOf};
 ghost use Rattle.rules.specs.Formed.{operationFormed, operationAt, queueFormed, attemptFormed, hostFormed, chunkFormed, entryFormed, entryAt, waitingFormed, recordFormed, messageFormed, slotFormed, hostAt, chunkAt, recordsAt, placeAt, wellFormed};
 ghost use Rattle.rules.specs.Kinds.{isRead, isNormal, isReading};
 ghost use Rattle.rules.specs.Limits.{hostLimit, chunkLimit, blockLimit, operationLimit, waitingLimit, placeLimit};
 ghost use Rattle.rules.specs.Tables.{withEpoch, withHosts, withChunks, withRecords, withPlaces};
 ghost use Rattle.rules.specs.Timestamps.{_above_};
-ghost use Rattle.rules.specs.Words.{if_then_else_, every, none, numbers};
+ghost use Rattle.rules.specs.Words.{if_then_else_, every, numbers};
 ghost use Rattle.rules.specs.Zero.{isEmpty, isZeroEntry, isZeroRecord, isZeroChunk, isZeroOperation, isZeroAttempt, isZeroHost};
 ghost use Rattle.sound.specs.Parts.{counted, bare, headerFormed, ofBlocks};
 use rules::Action;
@@ -45,7 +45,7 @@ struct Counts {
     blocks: u64,
 }
 
-// ---- cases of the enums
+// ---- an enum's first case, which an unused place holds
 
 fn is_read(k: Kind) -> bool
     ensures { λ r. ⌜ r ≡ isRead k ⌝ }
@@ -93,7 +93,7 @@ fn of_store(n: Counts, s: Set) -> bool
     true
 }
 
-// Every chunk in it is one of a store that has none.
+// Every chunk in it is one of a store that has none: there is none in it.
 fn is_empty(s: Set) -> bool
     ensures { λ r. ⌜ r ≡ isEmpty s ⌝ }
 {
@@ -116,6 +116,7 @@ fn is_set_of(n: Counts, used: bool, s: Set) -> bool
     empty
 }
 
+// The set of every block, and of every place for one.
 fn sets_formed(k: Creation) -> bool
     ensures { λ r. ⌜ r ≡ every (isSetOf k) (numbers blockLimit) ⌝ }
 {
@@ -205,6 +206,7 @@ fn attempt_formed(n: Counts, count: u64, a: Attempt) -> bool
     is_zero_attempt(a)
 }
 
+// "epoch known; .. last clock drawn", with the queue and the attempt.
 fn host_formed(n: Counts, h: Host) -> bool
     ensures { λ r. ⌜ r ≡ hostFormed (counted n) h ⌝ }
 {
@@ -231,6 +233,7 @@ fn is_zero_host(n: Counts, h: Host) -> bool
         & (h.clock == 0)
 }
 
+// One of the store's, or an unused place.
 fn host_at(n: Counts, used: bool, h: Host) -> bool
     ensures { λ r. ⌜ r ≡ if used then hostFormed (counted n) h else isZeroHost h ⌝ }
 {
@@ -240,7 +243,7 @@ fn host_at(n: Counts, used: bool, h: Host) -> bool
     is_zero_host(n, h)
 }
 
-fn hosts_formed(n: Counts, hosts: [Host; 8]) -> bool
+fn hosts_formed(n: Counts, hosts: [Host; rules::HOSTS]) -> bool
     ensures { λ r. ⌜ r ≡ every (hostAt (withHosts (bare n) hosts)) (numbers hostLimit) ⌝ }
 {
     let mut i: usize = 0;
@@ -277,6 +280,7 @@ fn chunk_formed(n: Counts, epoch: Epoch, c: Chunk) -> bool
     (c.epoch.0 == epoch.0) & blocks_of_store(n.blocks, c)
 }
 
+// The reconciliation set has only blocks of a store that has none: it is empty.
 fn is_zero_chunk(c: Chunk) -> bool
     ensures { λ r. ⌜ r ≡ isZeroChunk c ⌝ }
 {
@@ -284,6 +288,7 @@ fn is_zero_chunk(c: Chunk) -> bool
     is_normal(s) & !c.lost & (c.epoch.0 == 0) & blocks_of_store(0, c)
 }
 
+// One of the store's, or an unused place.
 fn chunk_at(n: Counts, epoch: Epoch, used: bool, c: Chunk) -> bool
     ensures { λ r. ⌜ r ≡ if used then chunkFormed (counted n) epoch c else isZeroChunk c ⌝ }
 {
@@ -293,7 +298,7 @@ fn chunk_at(n: Counts, epoch: Epoch, used: bool, c: Chunk) -> bool
     is_zero_chunk(c)
 }
 
-fn chunks_formed(n: Counts, epoch: Epoch, chunks: [Chunk; 8]) -> bool
+fn chunks_formed(n: Counts, epoch: Epoch, chunks: [Chunk; rules::CHUNKS]) -> bool
     ensures { λ r. ⌜ r ≡ every (chunkAt (withChunks (withEpoch (bare n) epoch) chunks)) (numbers chunkLimit) ⌝ }
 {
     let mut i: usize = 0;
@@ -316,6 +321,7 @@ fn is_zero_entry(e: Entry) -> bool
     (e.timestamp.0 == 0) & (e.sender == 0) & (e.epoch.0 == 0) & is_read(k)
 }
 
+// "Beside its timestamp, sender and epoch": a kind, of which any is right.
 fn entry_formed(n: Counts, e: Entry) -> bool
     ensures { λ r. ⌜ r ≡ entryFormed (counted n) e ⌝ }
 {
@@ -362,6 +368,7 @@ fn waiting_formed(n: Counts, w: Waiting) -> bool
     (w.count <= rules::WAITING as u64) & entries_formed(n, w)
 }
 
+// "a value, last read, last write": a value is any 64-bit number.
 fn record_formed(n: Counts, x: Record) -> bool
     ensures { λ r. ⌜ r ≡ recordFormed (counted n) x ⌝ }
 {
@@ -377,6 +384,7 @@ fn is_zero_record(n: Counts, x: Record) -> bool
     (x.value == 0) & (x.read.0 == 0) & (x.write.0 == 0) & (w.count == 0) & entries_formed(n, w)
 }
 
+// Of a chunk and a block of the store's, or an unused place.
 fn record_at(n: Counts, used: bool, x: Record) -> bool
     ensures { λ r. ⌜ r ≡ if used then recordFormed (counted n) x else isZeroRecord x ⌝ }
 {
@@ -387,7 +395,7 @@ fn record_at(n: Counts, used: bool, x: Record) -> bool
 }
 
 // "A chunk has a record for every block, held or not": that of chunk c and block b at c x 16 + b.
-fn records_formed(n: Counts, records: [Record; 128]) -> bool
+fn records_formed(n: Counts, records: [Record; rules::RECORDS]) -> bool
     ensures { λ r. ⌜ r ≡ every (recordsAt (withRecords (bare n) records)) (numbers chunkLimit) ⌝ }
 {
     let mut i: usize = 0;
@@ -405,7 +413,7 @@ fn records_formed(n: Counts, records: [Record; 128]) -> bool
 
 // ---- a message
 
-// "a message's block may be 0 to 15 and a timestamp anything up to 34,359,738,367"; a reply's epoch is 0.
+// "a message's block may be 0 to 15 and a timestamp anything up to 34,359,738,367"
 fn header_formed(n: Counts, h: Header, epoch: Epoch) -> bool
     ensures { λ r. ⌜ r ≡ headerFormed n h epoch ⌝ }
 {
@@ -416,19 +424,20 @@ fn header_formed(n: Counts, h: Header, epoch: Epoch) -> bool
         & (epoch.0 <= GREATEST_CLOCK)
 }
 
+// "the first four also the epoch the host knows"
 fn message_formed(n: Counts, m: Message) -> bool
     ensures { λ r. ⌜ r ≡ messageFormed (counted n) m ⌝ }
 {
     match m {
         Message::Read { header, epoch } => header_formed(n, header, epoch),
-        Message::Prewrite { header, epoch, value: _ } => header_formed(n, header, epoch),
+        Message::Prewrite { header, epoch, .. } => header_formed(n, header, epoch),
         Message::Commit { header, epoch } => header_formed(n, header, epoch),
         Message::Abort { header, epoch } => header_formed(n, header, epoch),
         Message::Mismatch { header } => header_formed(n, header, Epoch(0)),
         Message::Error { header } => header_formed(n, header, Epoch(0)),
         Message::OutOfOrder { header } => header_formed(n, header, Epoch(0)),
         Message::Busy { header } => header_formed(n, header, Epoch(0)),
-        Message::ReadReply { header, value: _ } => header_formed(n, header, Epoch(0)),
+        Message::ReadReply { header, .. } => header_formed(n, header, Epoch(0)),
         Message::PrewriteReply { header } => header_formed(n, header, Epoch(0)),
     }
 }
@@ -443,7 +452,7 @@ fn place_formed(n: Counts, p: Place) -> bool
     }
 }
 
-fn places_formed(n: Counts, places: [Place; 64]) -> bool
+fn places_formed(n: Counts, places: [Place; rules::PLACES]) -> bool
     ensures { λ r. ⌜ r ≡ every (placeAt (withPlaces (bare n) places)) (numbers placeLimit) ⌝ }
 {
     let mut i: usize = 0;

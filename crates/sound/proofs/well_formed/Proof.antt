@@ -4,7 +4,7 @@ use mathlib.Core.Bool.{true}
 use borrow.Author.Needs.{needs}
 use borrow.Author.Tests.{le-leb, lt-leb, not-true, not-false}
 use Rattle.rules.specs.Creation.{isCreation}
-use Rattle.rules.specs.Formed.{hostAt, chunkAt, recordsAt}
+use Rattle.rules.specs.Formed.{hostAt, chunkAt}
 use Rattle.rules.specs.Limits.{hostLimit, chunkLimit, greatestClock}
 use Rattle.rules.specs.Timestamps.{isEpoch}
 use Rattle.rules.specs.Words.{every, numbers}
