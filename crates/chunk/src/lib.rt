@@ -23,8 +23,9 @@ use rules::Timestamp;
 use rules::Waiting;
 
 // The greatest number that an i64 holds.
-const SIGNED: u64 = 9223372036854775807;
+const GREATEST_SIGNED: u64 = 9223372036854775807;
 
+// The enums, case by case.
 fn is_read(k: Kind) -> bool
     ensures { λ r. ⌜ r ≡ isRead k ⌝ }
 {
@@ -77,6 +78,7 @@ fn is_failed(state: State) -> bool
     }
 }
 
+// A last read or last write is raised.
 fn later(t: Timestamp, u: Timestamp) -> Timestamp
     ensures { λ r. ⌜ r ≡ later t u ⌝ }
 {
@@ -103,6 +105,20 @@ fn silent(r: Record) -> Arrived
     Arrived {
         block: r,
         reply: Slot::Empty,
+    }
+}
+
+// The chunk in another state.
+fn with_state(c: Chunk, state: State) -> Chunk
+    ensures { λ r. ⌜ r ≡ withState c state ⌝ }
+{
+    let epoch = c.epoch;
+    let reconcile = c.reconcile;
+    Chunk {
+        state: state,
+        lost: c.lost,
+        epoch: epoch,
+        reconcile: reconcile,
     }
 }
 
@@ -293,7 +309,7 @@ pub fn fail_code(state: State) -> u64
     0
 }
 
-// "its reconciliation set go[es], lost is set; .. epoch persist[s]": the waiting entries are the records'.
+// "its reconciliation set go, lost is set; .. epoch persist". (The waiting entries are the records'.)
 pub fn fail(c: Chunk) -> Chunk
     ensures { λ r. ⌜ r ≡ failed c ⌝ }
 {
@@ -306,20 +322,7 @@ pub fn fail(c: Chunk) -> Chunk
     }
 }
 
-// The chunk in another state.
-fn with_state(c: Chunk, state: State) -> Chunk
-    ensures { λ r. ⌜ r ≡ withState c state ⌝ }
-{
-    let epoch = c.epoch;
-    let reconcile = c.reconcile;
-    Chunk {
-        state: state,
-        lost: c.lost,
-        epoch: epoch,
-        reconcile: reconcile,
-    }
-}
-
+// "failed to nolease. .. Else 2".
 pub fn recover_code(state: State) -> u64
     ensures { λ r. ⌜ r ≡ codeOf (recoverRefusals state) ⌝ }
 {
@@ -329,13 +332,14 @@ pub fn recover_code(state: State) -> u64
     0
 }
 
-// "failed to nolease".
+// "failed to nolease": what it lost stays lost.
 pub fn recover(c: Chunk) -> Chunk
     ensures { λ r. ⌜ r ≡ recovered c ⌝ }
 {
     with_state(c, State::Nolease)
 }
 
+// "normal to nolease. .. Else 2".
 pub fn take_lease_code(state: State) -> u64
     ensures { λ r. ⌜ r ≡ codeOf (takeLeaseRefusals state) ⌝ }
 {
@@ -387,7 +391,7 @@ fn is_overdue(now: u64, t: Timestamp, age: u64) -> bool
     ensures { λ r. ⌜ r ≡ isOverdue now t age ⌝ }
 {
     let clock = t.0 / 8;
-    if (now <= SIGNED) & (age <= SIGNED) {
+    if (now <= GREATEST_SIGNED) & (age <= GREATEST_SIGNED) {
         return signed_above(now, clock, age);
     }
     if now < clock {

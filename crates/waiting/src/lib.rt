@@ -72,16 +72,16 @@ fn behind(w: Waiting, e: Entry) -> u64
     ensures { λ r. ⌜ r ≡ behind e (inOrder w) ⌝ }
 {
     let n = used(w);
-    let mut i: u64 = 0;
-    while i < n {
-        let at = i as usize;
+    let mut p: u64 = 0;
+    while p < n {
+        let at = p as usize;
         let x = w.entries[at];
         if e.timestamp.0 < x.timestamp.0 {
             break;
         }
-        i = i + 1;
+        p = p + 1;
     }
-    i
+    p
 }
 
 // The head; zero where there is none.

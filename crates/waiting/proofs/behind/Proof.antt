@@ -1,4 +1,4 @@
--- `waiting::behind` meets its contract. The loop's invariant: what it looks for is i further than in what is left
+-- `waiting::behind` meets its contract. The loop's invariant: what it looks for is p further than in what is left
 use Prim.Native.Nat.{_+_, _-_, _≤_}
 use mathlib.Core.Path.{_≡_}
 use native.Mathlib.Omega.{arith}
@@ -14,10 +14,10 @@ use Rattle.waiting.proofs.behind.Statement.{statement}
 use Rattle.waiting.proofs.behind.Tie as tie
 
 abbrev Inv-loop : tie.InvT-loop
-Inv-loop e w n i₀ i = (i ≤ n) × (place (overtakes e) (inOrder w) ≡ i + place (overtakes e) (drop i (inOrder w)))
+Inv-loop e w n p₀ p = (p ≤ n) × (place (overtakes e) (inOrder w) ≡ p + place (overtakes e) (drop p (inOrder w)))
 
 abbrev μ-loop : tie.MeasureT-loop
-μ-loop e w n i₀ i = n - i
+μ-loop e w n p₀ p = n - p
 
 used-requires : tie.Need-used-requires Inv-loop μ-loop
 used-requires c κs = search needs
@@ -31,8 +31,8 @@ mul-x c = search needs
 element-copy-out-x : tie.Need-element-copy-out-x Inv-loop μ-loop
 element-copy-out-x c = search needs
 
-add-i : tie.Need-add-i Inv-loop μ-loop
-add-i c = search needs
+add-p : tie.Need-add-p Inv-loop μ-loop
+add-p c = search needs
 
 loop-less : tie.Need-loop-less Inv-loop μ-loop
 loop-less c = search needs
@@ -41,19 +41,19 @@ loop-again : tie.Need-loop-again Inv-loop μ-loop
 loop-again c =
     let l = c .before .before .before .before .before in
     let a = l .before .before .args in
-    omega (arith, search-on (overtakes (a .e)) (a .t1) (l .loop .i) (omega arith) (le-ltb _ _ (c .if1 .left)))
+    omega (arith, search-on (overtakes (a .e)) (a .t1) (l .loop .p) (omega arith) (le-ltb _ _ (c .if1 .left)))
 
 returns : tie.Need-returns Inv-loop μ-loop
 returns c =
     let l = c .before in
     let a = l .before .before .args in
-    omega (arith, place-end (overtakes (a .e)) zeroEntry (inOrder (a .t1)) (l .loop .i) (omega arith))
+    omega (arith, place-end (overtakes (a .e)) zeroEntry (inOrder (a .t1)) (l .loop .p) (omega arith))
 
 returns-2 : tie.Need-returns-2 Inv-loop μ-loop
 returns-2 c =
     let l = c .before .before .before .before .before in
     let a = l .before .before .args in
-    omega (arith, search-ends (overtakes (a .e)) (a .t1) (l .loop .i) (omega arith) (lt-ltb _ _ (c .if1 .taken)))
+    omega (arith, search-ends (overtakes (a .e)) (a .t1) (l .loop .p) (omega arith) (lt-ltb _ _ (c .if1 .taken)))
 
 pub behind-spec : {M : Type 1} → statement M
 behind-spec =
@@ -65,7 +65,7 @@ behind-spec =
     loop-holds
     mul-x
     element-copy-out-x
-    add-i
+    add-p
     loop-less
     loop-again
     returns
