@@ -555,7 +555,7 @@ pub fn working_code(h: Host) -> u64
     ensures { λ r. ⌜ r ≡ codeOf (workingRefusals h) ⌝ }
 {
     if !h.working {
-        return 2;
+        return 2; // stopped: no refresh, and no second stop
     }
     0
 }
