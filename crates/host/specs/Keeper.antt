@@ -17,9 +17,13 @@ drawRefusals k clock =
     leb clock (k .last) gives 3 ⨾
     granted
 
--- a granted draw hands out the timestamp and remembers the clock; a refused one leaves the keeper as it was
+-- a refused draw leaves the keeper as it was
+abbrev pub refused : Keeper → (code : ℕ) → Drawn
+refused k code = record { keeper = k; code = code; timestamp = never }
+
+-- a granted one hands out the timestamp and remembers the clock
 unfoldable pub drawn : Keeper → (clock : ℕ) → Drawn
 drawn k clock =
     let code = codeOf (drawRefusals k clock) in
     if eqb code 0 then record { keeper = record { host = k .host; last = clock }; code = 0; timestamp = stamp clock (k .host) } else
-    record { keeper = k; code = code; timestamp = never }
+    refused k code

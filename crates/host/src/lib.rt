@@ -5,7 +5,7 @@ ghost use mathlib.Core.List.{[], _∷_, _++_};
 ghost use Prim.Native.Nat.{_≤_};
 ghost use lib.ListN.{length, getD, set, take, drop};
 ghost use Rattle.rules.specs.Codes.{codeOf};
-ghost use Rattle.rules.specs.Hosts.{operationsOf, queueOf, front, hasCurrent, isOutstanding, withAttempt, withOkay, only};
+ghost use Rattle.rules.specs.Hosts.{queueOf, front, hasCurrent, isOutstanding, only};
 ghost use Rattle.rules.specs.Hosts.{intakeRefusals, appended, startRefusals, openingTo, started, suits, counts, answeredBy};
 ghost use Rattle.rules.specs.Hosts.{heard, atHost, finishRefusals, closingTo, doneAs, failedAs, finishOutcome, finished};
 ghost use Rattle.rules.specs.Hosts.{timeoutRefusals, timedOut, workingRefusals, refreshed, stopped};
@@ -13,7 +13,7 @@ ghost use Rattle.rules.specs.Kinds.{isReading};
 ghost use Rattle.rules.specs.Limits.{operationLimit};
 ghost use Rattle.rules.specs.Words.{filled};
 ghost use Rattle.rules.specs.Zero.{_among_, zeroSet, zeroOperation, zeroAttempt};
-ghost use Rattle.host.specs.Keeper.{drawn};
+ghost use Rattle.host.specs.Keeper.{refused, drawn};
 use rules::Action;
 use rules::Attempt;
 use rules::Epoch;
@@ -25,9 +25,10 @@ use rules::Queue;
 use rules::Set;
 use rules::Timestamp;
 
-// Limits of a draw.
+// "Clocks .. go up to 4,294,967,295".
 const GREATEST_CLOCK: u64 = 4294967295;
 
+// An operation is a read or a write.
 fn is_reading(a: Action) -> bool
     ensures { λ r. ⌜ r ≡ isReading a ⌝ }
 {
@@ -39,6 +40,7 @@ fn is_reading(a: Action) -> bool
 
 // ---- sets of chunks
 
+// The empty set.
 fn no_chunks() -> Set
     ensures { λ r. ⌜ r ≡ zeroSet ⌝ }
 {
@@ -58,6 +60,7 @@ fn among(chunk: u64, s: Set) -> bool
     false
 }
 
+// The set of one chunk; empty where the number is no chunk's.
 fn only(chunk: u64) -> Set
     ensures { λ r. ⌜ r ≡ only chunk ⌝ }
 {
@@ -69,6 +72,7 @@ fn only(chunk: u64) -> Set
     out
 }
 
+// The set with one chunk taken out.
 fn without(s: Set, chunk: u64) -> Set
     ensures { λ r. ⌜ r ≡ record { chunks = set (s .chunks) chunk false } ⌝ }
 {
@@ -80,12 +84,14 @@ fn without(s: Set, chunk: u64) -> Set
     out
 }
 
+// "With one, the current timestamp is above 0".
 fn has_current(h: Host) -> bool
     ensures { λ r. ⌜ r ≡ hasCurrent h ⌝ }
 {
     0 < h.attempt.timestamp.0
 }
 
+// Some chunk has still to answer.
 fn is_outstanding(h: Host) -> bool
     ensures { λ r. ⌜ r ≡ isOutstanding h ⌝ }
 {
@@ -150,6 +156,7 @@ fn operations_from(q: Queue, first: u64) -> [Operation; rules::OPERATIONS]
     out
 }
 
+// One operation more; beyond the eighth it is counted and has no place.
 fn with_last(q: Queue, o: Operation) -> Queue
     ensures { λ r. ⌜ r ≡ queueOf (take (q .count) (q .operations) ++ o ∷ []) ⌝ }
 {
@@ -165,6 +172,7 @@ fn with_last(q: Queue, o: Operation) -> Queue
     }
 }
 
+// The operations behind the front one.
 fn without_front(q: Queue) -> Queue
     ensures { λ r. ⌜ r ≡ queueOf (drop 1 (take (q .count) (q .operations))) ⌝ }
 {
@@ -280,30 +288,29 @@ pub struct Drawn {
     pub timestamp: Timestamp,
 }
 
-// The timestamp of a clock above the last, or the refusal.
+// A refused draw leaves the keeper as it was.
+fn refuse(k: Keeper, code: u64) -> Drawn
+    ensures { λ r. ⌜ r ≡ refused k code ⌝ }
+{
+    Drawn {
+        keeper: k,
+        code: code,
+        timestamp: Timestamp(0),
+    }
+}
+
+// "clock not above the host's last drawn" (3); a number too large for a timestamp is outside its range (1).
 pub fn draw(k: Keeper, clock: u64) -> Drawn
     ensures { λ r. ⌜ r ≡ drawn k clock ⌝ }
 {
     if rules::HOSTS as u64 <= k.host {
-        return Drawn {
-            keeper: k,
-            code: 1,
-            timestamp: Timestamp(0),
-        };
+        return refuse(k, 1);
     }
     if GREATEST_CLOCK < clock {
-        return Drawn {
-            keeper: k,
-            code: 1,
-            timestamp: Timestamp(0),
-        };
+        return refuse(k, 1);
     }
     if clock <= k.last {
-        return Drawn {
-            keeper: k,
-            code: 3,
-            timestamp: Timestamp(0),
-        };
+        return refuse(k, 3);
     }
     let mut kept = k;
     kept.last = clock;
@@ -358,51 +365,39 @@ fn answered_by(a: Attempt, chunk: u64) -> Attempt
     out
 }
 
-fn with_attempt(h: Host, a: Attempt) -> Host
-    ensures { λ r. ⌜ r ≡ withAttempt h a ⌝ }
-{
-    let mut out = h;
-    out.attempt = a;
-    out
-}
-
-fn not_okay(a: Attempt) -> Attempt
-    ensures { λ r. ⌜ r ≡ withOkay a false ⌝ }
-{
-    let mut out = a;
-    out.okay = false;
-    out
-}
-
 // "Mismatch, out of order, busy and error clear okay; mismatch also makes the map not current; error clears restart. A
 // read reply sets the result value."
 fn heard(h: Host, a: Attempt, m: Message) -> Host
     ensures { λ r. ⌜ r ≡ heard h a m ⌝ }
 {
+    let mut b = a;
+    let mut out = h;
     match m {
         Message::Mismatch { .. } => {
-            let mut out = with_attempt(h, not_okay(a));
+            b.okay = false;
             out.mapped = false;
-            out
         }
-        Message::OutOfOrder { .. } => with_attempt(h, not_okay(a)),
-        Message::Busy { .. } => with_attempt(h, not_okay(a)),
+        Message::OutOfOrder { .. } => {
+            b.okay = false;
+        }
+        Message::Busy { .. } => {
+            b.okay = false;
+        }
         Message::Error { .. } => {
-            let mut b = not_okay(a);
+            b.okay = false;
             b.restart = false;
-            with_attempt(h, b)
         }
         Message::ReadReply { header: _, value } => {
-            let mut b = a;
             b.result = value;
-            with_attempt(h, b)
         }
-        Message::PrewriteReply { .. } => with_attempt(h, a),
-        Message::Read { .. } => h,
-        Message::Prewrite { .. } => h,
-        Message::Commit { .. } => h,
-        Message::Abort { .. } => h,
+        Message::PrewriteReply { .. } => {}
+        Message::Read { .. } => return h,
+        Message::Prewrite { .. } => return h,
+        Message::Commit { .. } => return h,
+        Message::Abort { .. } => return h,
     }
+    out.attempt = b;
+    out
 }
 
 // A reply that does not count changes nothing.
@@ -466,6 +461,7 @@ fn done_as(host: u64, o: Operation, result: u64) -> Outcome
     }
 }
 
+// ".. otherwise it has failed".
 fn failed_as(host: u64, o: Operation) -> Outcome
     ensures { λ r. ⌜ r ≡ failedAs host o (o .action) ⌝ }
 {
@@ -496,6 +492,7 @@ pub fn finish_outcome(host: u64, h: Host) -> Outcome
     failed_as(host, o)
 }
 
+// "current timestamp, outstanding chunks, okay, restart and result value all zero or false".
 fn no_attempt() -> Attempt
     ensures { λ r. ⌜ r ≡ zeroAttempt ⌝ }
 {
@@ -513,7 +510,9 @@ fn no_attempt() -> Attempt
 pub fn finish(h: Host) -> Host
     ensures { λ r. ⌜ r ≡ finished h ⌝ }
 {
-    let mut out = with_attempt(h, no_attempt());
+    let none = no_attempt();
+    let mut out = h;
+    out.attempt = none;
     if !h.attempt.okay & h.attempt.restart {
         return out;
     }
@@ -542,11 +541,13 @@ pub fn timeout_code(h: Host) -> u64
 pub fn time_out(h: Host) -> Host
     ensures { λ r. ⌜ r ≡ timedOut h ⌝ }
 {
-    let a = h.attempt;
-    let mut b = not_okay(a);
     let none = no_chunks();
-    b.outstanding = none;
-    with_attempt(h, b)
+    let mut a = h.attempt;
+    a.okay = false;
+    a.outstanding = none;
+    let mut out = h;
+    out.attempt = a;
+    out
 }
 
 // "8 refresh (host): working (2)"; "10 stop (host), once".
@@ -554,7 +555,7 @@ pub fn working_code(h: Host) -> u64
     ensures { λ r. ⌜ r ≡ codeOf (workingRefusals h) ⌝ }
 {
     if !h.working {
-        return 2;
+        return 2; // stopped: no refresh, and no second stop
     }
     0
 }

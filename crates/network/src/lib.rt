@@ -51,6 +51,7 @@ pub fn is_for_chunk(m: Message) -> bool
     }
 }
 
+// A slot holds a message or nothing.
 pub fn is_empty(s: Slot) -> bool
     ensures { λ r. ⌜ r ≡ isEmptySlot s ⌝ }
 {
@@ -60,6 +61,7 @@ pub fn is_empty(s: Slot) -> bool
     }
 }
 
+// A place is free while it holds no message.
 fn is_free(p: Place) -> bool
     ensures { λ r. ⌜ r ≡ isFree p ⌝ }
 {
@@ -81,31 +83,31 @@ pub fn place_code(s: Slot) -> u64
 pub fn free_places(places: [Place; rules::PLACES]) -> u64
     ensures { λ r. ⌜ r ≡ freePlaces places ⌝ }
 {
-    let mut count: u64 = 0;
+    let mut free: u64 = 0;
     let mut i: usize = 0;
     while i < rules::PLACES {
         let p = places[i];
         if is_free(p) {
-            count = count + 1;
+            free = free + 1;
         }
         i = i + 1;
     }
-    count
+    free
 }
 
 // The lowest free place, or 64 where there is none.
 fn lowest_free(places: [Place; rules::PLACES]) -> usize
     ensures { λ r. ⌜ r ≡ place isFree places ⌝ }
 {
-    let mut i: usize = 0;
-    while i < rules::PLACES {
-        let p = places[i];
+    let mut at: usize = 0;
+    while at < rules::PLACES {
+        let p = places[at];
         if is_free(p) {
             break;
         }
-        i = i + 1;
+        at = at + 1;
     }
-    i
+    at
 }
 
 // "The message is removed"; beyond the last place there is none.
@@ -165,6 +167,7 @@ enum Request {
     Close(bool),
 }
 
+// The message that asks it.
 fn message_of(r: Request, header: Header, epoch: Epoch) -> Message
     ensures { λ m. ⌜ m ≡ messageOf r header epoch ⌝ }
 {
@@ -209,12 +212,12 @@ fn send_to_each(
     ensures { λ n. ⌜ n ≡ sentToEach places to (requestTo r host block now epoch) ⌝ }
 {
     let mut out = places;
-    let mut i: usize = 0;
-    while i < rules::CHUNKS {
-        if to.chunks[i] {
+    let mut c: usize = 0;
+    while c < rules::CHUNKS {
+        if to.chunks[c] {
             let header = Header {
                 host: host,
-                chunk: i as u64,
+                chunk: c as u64,
                 block: block,
                 timestamp: now,
             };
@@ -222,7 +225,7 @@ fn send_to_each(
             let next = send(out, m);
             out = next;
         }
-        i = i + 1;
+        c = c + 1;
     }
     out
 }

@@ -8,14 +8,9 @@ use Rattle.host.proofs.finish.Tie as tie
 no-attempt-requires : tie.Need-no-attempt-requires
 no-attempt-requires c κs = search needs
 
-with-attempt-requires : tie.Need-with-attempt-requires
-with-attempt-requires c κs = search needs
-
 returns : tie.Need-returns
 unfolding finished
-returns c =
-    let w = c .before .before .before in
-    rw (c .if1 .taken, w .with-attempt .ensures, w .before .no-attempt .ensures) refl
+returns c = rw (c .if1 .taken, c .before .before .before .no-attempt .ensures) refl
 
 without-front-requires : tie.Need-without-front-requires
 without-front-requires c κs = search needs
@@ -24,10 +19,7 @@ returns-2 : tie.Need-returns-2
 unfolding finished
 returns-2 c =
     let e = c .before .before in
-    let w = e .before .before .before in
-    rw (e .if1 .left, w .with-attempt .ensures, w .before .no-attempt .ensures, c .without-front .ensures) refl
+    rw (e .if1 .left, e .before .before .before .no-attempt .ensures, c .without-front .ensures) refl
 
 pub finish-spec : {M : Type 1} → statement M
-finish-spec =
-    tie.close
-    (tie.spec no-attempt-requires with-attempt-requires returns without-front-requires returns-2)
+finish-spec = tie.close (tie.spec no-attempt-requires returns without-front-requires returns-2)

@@ -1,9 +1,9 @@
 -- `host::only` meets its contract
 use Prim.Native.Nat.{_≤_}
-use mathlib.Core.Path.{_≡_, refl, sym, ap, _∙_}
+use mathlib.Core.Path.{refl}
 use mathlib.Core.Bool.{true, false}
 use native.Mathlib.Omega.{arith}
-use lib.ListN.{length, replicate, length-replicate}
+use lib.ListN.{length, replicate}
 use lib.Seq.{set-out}
 use Rattle.rules.proofs.Loops.{marked-only}
 use borrow.Author.Needs.{needs}

@@ -1,10 +1,9 @@
 -- `host::operations_from` meets its contract: the places passed are rewritten
-use Prim.Native.Nat.{_+_, _-_, _≤_, _<_}
-use mathlib.Core.Path.{_≡_, refl, sym, ap, _∙_}
+use Prim.Native.Nat.{_-_, _≤_}
+use mathlib.Core.Path.{_≡_, refl, sym, _∙_}
 use native.Mathlib.Omega.{arith}
-use lib.ListN.{length, getD, set, take, drop, length-map}
+use lib.ListN.{length, getD, take, drop, length-map}
 use lib.Seq.{getD-drop}
-use Rattle.rules.specs.declared.Operation.{Operation}
 use Rattle.rules.specs.Words.{filled}
 use Rattle.rules.specs.Zero.{zeroOperation}
 use Rattle.rules.proofs.Loops.{mixed, mixed-more, mixed-end, filled-length, filled-at}

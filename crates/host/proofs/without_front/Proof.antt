@@ -1,6 +1,4 @@
 -- `host::without_front` meets its contract
-use Prim.Native.Nat.{_-_}
-use mathlib.Core.Path.{_≡_}
 use native.Mathlib.Omega.{arith}
 use lib.ListN.{take, drop, length-drop}
 use Rattle.host.proofs.Laws.{queue-is}

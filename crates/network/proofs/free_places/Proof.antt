@@ -13,10 +13,10 @@ use Rattle.network.proofs.free_places.Statement.{statement}
 use Rattle.network.proofs.free_places.Tie as tie
 
 abbrev Inv-loop : tie.InvT-loop
-Inv-loop places count₀ i₀ count i = (i ≤ 64) × (count ≤ i) × (count + length (those isFree (drop i places)) ≡ length (those isFree places))
+Inv-loop places free₀ i₀ free i = (i ≤ 64) × (free ≤ i) × (free + length (those isFree (drop i places)) ≡ length (those isFree places))
 
 abbrev μ-loop : tie.MeasureT-loop
-μ-loop places count₀ i₀ count i = 64 - i
+μ-loop places free₀ i₀ free i = 64 - i
 
 len : (c : tie.Start Inv-loop μ-loop) → length (c .args .t1) ≡ 64
 len c = c .good .0 .1 .0 .1
@@ -33,8 +33,8 @@ array-copy-out-p c = search needs
 is-free-requires : tie.Need-is-free-requires Inv-loop μ-loop
 is-free-requires c κs = search needs
 
-add-count : tie.Need-add-count Inv-loop μ-loop
-add-count c = search needs
+add-free : tie.Need-add-free Inv-loop μ-loop
+add-free c = search needs
 
 add-i : tie.Need-add-i Inv-loop μ-loop
 add-i c = search needs
@@ -69,7 +69,7 @@ free-places-spec =
     mul-p
     array-copy-out-p
     is-free-requires
-    add-count
+    add-free
     add-i
     loop-less
     loop-again

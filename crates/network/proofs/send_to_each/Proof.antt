@@ -1,5 +1,5 @@
 -- `network::send_to_each` meets its contract: what is left to send leads from here to the same places
-use Prim.Native.Nat.{_+_, _-_, _≤_}
+use Prim.Native.Nat.{_-_, _≤_}
 use mathlib.Core.Path.{_≡_, refl, sym, ap, _∙_}
 use mathlib.Core.Logic.{⊎-elim}
 use native.Mathlib.Omega.{arith}
@@ -13,12 +13,12 @@ use Rattle.network.proofs.send_to_each.Statement.{statement}
 use Rattle.network.proofs.send_to_each.Tie as tie
 
 abbrev Inv-loop : tie.InvT-loop
-Inv-loop r host block now epoch to out₀ i₀ out i =
+Inv-loop r host block now epoch to out₀ c₀ out c =
     let f = sentTo to (requestTo r host block now epoch) in
-    (i ≤ 8) × (fold f out (drop i (numbers 8)) ≡ fold f out₀ (numbers 8))
+    (c ≤ 8) × (fold f out (drop c (numbers 8)) ≡ fold f out₀ (numbers 8))
 
 abbrev μ-loop : tie.MeasureT-loop
-μ-loop r host block now epoch to out₀ i₀ out i = 8 - i
+μ-loop r host block now epoch to out₀ c₀ out c = 8 - c
 
 loop-holds : tie.Need-loop-holds Inv-loop μ-loop
 loop-holds c = (search needs, refl)
@@ -32,8 +32,8 @@ message-of-requires c κs = search needs
 send-requires : tie.Need-send-requires Inv-loop μ-loop
 send-requires c κs = search needs
 
-add-i : tie.Need-add-i Inv-loop μ-loop
-add-i c = search needs
+add-c : tie.Need-add-c Inv-loop μ-loop
+add-c c = search needs
 
 loop-less : tie.Need-loop-less Inv-loop μ-loop
 loop-less c = search needs
@@ -43,19 +43,19 @@ loop-again c =
     let l = c .before .before .before in
     let a = l .before .args in
     let m = requestTo (a .r) (a .host) (a .block) (a .now) (a .epoch) in
-    let turn : c .if1 .out ≡ sentTo (a .t2) m (l .loop .out) (l .loop .i) =
+    let turn : c .if1 .out ≡ sentTo (a .t2) m (l .loop .out) (l .loop .c) =
     ⊎-elim
     (λ w. rw (w .0 .taken) (w .3 ∙ w .2 .ensures ∙ ap (sent (l .loop .out)) (w .1 .ensures)))
     (λ w. rw (w .0 .left) (w .1))
     (c .if1 .came) in
-    (omega arith, rw turn (sym (sent-more (a .t2) m (l .loop .out) (l .loop .i) (omega arith)) ∙ l .loop .inv .1))
+    (omega arith, rw turn (sym (sent-more (a .t2) m (l .loop .out) (l .loop .c) (omega arith)) ∙ l .loop .inv .1))
 
 returns : tie.Need-returns Inv-loop μ-loop
 returns c =
     let l = c .before in
     let a = l .before .args in
     let m = requestTo (a .r) (a .host) (a .block) (a .now) (a .epoch) in
-    sym (sent-end (a .t2) m (l .loop .out) (l .loop .i) (omega arith)) ∙ l .loop .inv .1 ∙ sent-all (a .t2) m (a .places)
+    sym (sent-end (a .t2) m (l .loop .out) (l .loop .c) (omega arith)) ∙ l .loop .inv .1 ∙ sent-all (a .t2) m (a .places)
 
 pub send-to-each-spec : {M : Type 1} → statement M
 send-to-each-spec =
@@ -67,7 +67,7 @@ send-to-each-spec =
     element-copy-out-if1
     message-of-requires
     send-requires
-    add-i
+    add-c
     loop-less
     loop-again
     returns)
