@@ -6,11 +6,11 @@ use mathlib.Core.List.{List, [], _∷_, _++_}
 use native.Mathlib.Numerals.{add-one}
 use native.Mathlib.Decide.{decLe}
 use native.Mathlib.Omega.{arith}
-use lib.ListN.{length, getD, take, drop, drop-of-length-le, length-take}
+use lib.ListN.{length, getD, set, take, drop, replicate, drop-of-length-le, length-take}
 use lib.Dec.{ltb}
 use borrow.Author.Tests.{lt-ltb}
 use lib.Seq.{drop-cons}
-use Rattle.rules.specs.Words.{those, each, joined, every, some, place, fold, from, numbers}
+use Rattle.rules.specs.Words.{those, each, joined, every, some, place, fold, from, numbers, filled}
 use Rattle.rules.proofs.Lists.{every-number, every-numbers, none-number, some-number}
 
 -- ---- a loop over l by its index i: l from i on is the element at i, and l from i + 1 on
@@ -171,3 +171,36 @@ module _ (p : ℕ → Bool) where
       go : (b : Bool) → some p (numbers n) ≡ b → b ≡ true
       go true e = refl
       go false e = absurd (true≢false (sym h ∙ none-number p n e i l))
+
+-- ---- lines: one element more at the end
+
+pub each-append : {A B : Type 0} (f : A → B) (k l : List A) → each f (k ++ l) ≡ each f k ++ each f l
+unfolding each
+each-append f [] l = refl
+each-append f (x ∷ k) l = ap (λ (t : List _). f x ∷ t) (each-append f k l)
+
+pub every-append : {A : Type 0} (p : A → Bool) (k l : List A) → every p (k ++ l) ≡ (every p k && every p l)
+unfolding every
+every-append p [] l = refl
+every-append p (x ∷ k) l = go (p x) (every-append p k l)
+  where
+    go : (b : Bool) → every p (k ++ l) ≡ (every p k && every p l) → (b && every p (k ++ l)) ≡ ((b && every p k) && every p l)
+    go true h = h
+    go false h = refl
+
+module _ {A : Type 0} (d x : A) where
+  replicate-cut : (n m : ℕ) → n ≤ m → take n (replicate m d) ≡ take n (replicate (suc m) d)
+  replicate-cut zero m h = refl
+  replicate-cut (suc n) zero h = absurd (omega arith)
+  replicate-cut (suc n) (suc m) h = ap (λ (t : List A). d ∷ t) (replicate-cut n m (omega arith))
+
+  set-past : (l : List A) (n m : ℕ) → n ≤ m → set (take n (l ++ replicate m d)) (length l) x ≡ take n ((l ++ x ∷ []) ++ replicate m d)
+  set-past [] zero m h = refl
+  set-past [] (suc n) zero h = absurd (omega arith)
+  set-past [] (suc n) (suc m) h = ap (λ (t : List A). x ∷ t) (replicate-cut n m (omega arith))
+  set-past (y ∷ l) zero m h = refl
+  set-past (y ∷ l) (suc n) m h = ap (λ (t : List A). y ∷ t) (set-past l n m (omega arith))
+
+  -- a store behind the last one; where there is no place any more, nothing changes
+  pub filled-more : (n : ℕ) (l : List A) → set (filled n d l) (length l) x ≡ filled n d (l ++ x ∷ [])
+  filled-more n l = set-past l n n (omega arith)

@@ -1,0 +1,4 @@
+pub mod Lines
+pub mod Asked
+pub mod Texts
+pub mod Steps

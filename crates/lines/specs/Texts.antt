@@ -1,0 +1,58 @@
+-- Document 01, "One session, whole": the line of an answer, and a line that is gathered byte by byte
+use Prim.Native.Nat.{ℕ, zero, suc, _+_, _/_, _%_}
+use mathlib.Core.Bool.{Bool}
+use mathlib.Core.List.{List, [], _∷_, _++_}
+use lib.ListN.{length, set, take}
+use lib.Dec.{eqb, ltb}
+use Rattle.rules.specs.declared.Outcome.{Outcome}
+use Rattle.rules.specs.Codes.{numbersOf}
+use Rattle.rules.specs.Words.{if_then_else_, each, filled}
+use Rattle.lines.specs.declared.Text.{Text}
+use Rattle.lines.specs.Lines.{space, newline, lineLimit}
+
+-- ---- "It writes a line an event: code, outcome, host, block, value. Numbers are decimal, one space apart"
+
+-- the digits of a number that has at most k of them
+unfoldable pub digitsIn : (k n : ℕ) → List ℕ
+digitsIn zero n = []
+digitsIn (suc k) n = if ltb n 10 then (48 + n) ∷ [] else digitsIn k (n / 10) ++ (48 + n % 10) ∷ []
+
+-- a 64-bit number has at most 20
+abbrev pub decimal : ℕ → List ℕ
+decimal n = digitsIn 20 n
+
+-- the words, one space apart
+unfoldable pub spaced : List (List ℕ) → List ℕ
+spaced [] = []
+spaced (w ∷ []) = w
+spaced (w ∷ v ∷ ws) = w ++ space ∷ spaced (v ∷ ws)
+
+abbrev pub lineWith : List ℕ → List ℕ
+lineWith ns = spaced (each decimal ns) ++ newline ∷ []
+
+-- so a bad line gets the line of code 1 and no outcome, `1 0 0 0 0`
+unfoldable pub answerLine : (code : ℕ) → Outcome → List ℕ
+answerLine code o =
+    let n = numbersOf o in
+    lineWith (code ∷ n .kind ∷ n .host ∷ n .block ∷ n .value ∷ [])
+
+-- ---- bytes in an array: as many as a line may have, and one more, by which a line that is too long is known
+
+abbrev pub textLimit : ℕ
+textLimit = lineLimit + 1
+
+unfoldable pub textOf : List ℕ → Text
+textOf l = record { bytes = filled textLimit 0 l; count = length (take textLimit l) }
+
+-- one byte more, where there is room
+unfoldable pub followed : Text → (byte : ℕ) → Text
+followed t b = if ltb (t .count) textLimit then record { bytes = set (t .bytes) (t .count) b; count = t .count + 1 } else t
+
+-- the bytes of a text
+abbrev pub bytesOf : Text → List ℕ
+bytesOf t = take (t .count) (t .bytes)
+
+-- ---- "an event a line": where a line ends
+
+abbrev pub isNewline : ℕ → Bool
+isNewline b = eqb b newline
