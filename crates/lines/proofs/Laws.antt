@@ -6,14 +6,73 @@ use mathlib.Core.Bool.{Bool, true, false, cond, _&&_}
 use mathlib.Core.List.{List, [], _∷_, _++_, append-assoc}
 use native.Mathlib.Omega.{arith}
 use lib.ListN.{length, length-append}
-use lib.Dec.{eqb, leb, ltb}
-use borrow.Author.Tests.{ltb-false, le-ltb, lt-ltb, le-leb, lt-leb}
+use lib.Dec.{eqb, ltb}
+use lib.Seq.{set-out}
+use borrow.Author.Tests.{ltb-false, le-ltb, lt-ltb, le-leb, lt-leb, eq-eqb, ne-eqb}
 use Rattle.rules.specs.Words.{each, every, fold, filled}
-use Rattle.rules.proofs.Lists.{true-or-false, each-length}
+use Rattle.rules.proofs.Lists.{true-or-false, walk, each-length}
 use Rattle.rules.proofs.Loops.{fold-append, each-append, every-append, filled-more}
+use Rattle.lines.specs.declared.Line.{Line}
 use Rattle.lines.specs.declared.Reading.{Reading}
 use Rattle.lines.specs.Lines.{space, isDigit, wordsAfter, words, value, isNumber, numberLimit, lineLimit, isLine, badLine, saying, lineOf}
 use Rattle.lines.specs.Steps.{badReading, newReading, saidAlso, ended, continued, taken}
+
+-- ---- one byte
+
+-- what one byte can add
+ended-count : (r : Reading) → ended r .line .count ≤ r .line .count + 1
+unfolding ended
+ended-count r = walk (λ (s : Reading). s .line .count ≤ r .line .count + 1) (r .begun) _ badReading (λ _. omega arith) (λ _. omega arith)
+
+continued-count : (r : Reading) (d : ℕ) → continued r d .line .count ≤ r .line .count + 1
+unfolding continued
+continued-count r d = walk (λ (s : Reading). s .line .count ≤ r .line .count + 1) (ltb (r .value * 10 + d) (2 ^ 64)) _ badReading (λ _. omega arith) (λ _. omega arith)
+
+-- a number past the last place is counted only
+pub said-past : (l : Line) (n : ℕ) → length (l .numbers) ≤ l .count → record { good = true; count = l .count + 1; numbers = l .numbers } ≡ saidAlso l n
+said-past l n h = ap (λ (ns : List ℕ). record { good = true; count = l .count + 1; numbers = ns }) (sym (set-out (l .numbers) (l .count) n h))
+
+module _ (r : Reading) (d : ℕ) where
+  pub continued-over : 2 ^ 64 ≤ r .value * 10 + d → badReading ≡ continued r d
+  unfolding continued
+  continued-over h = rw (le-ltb (r .value * 10 + d) (2 ^ 64) h) refl
+
+  pub continued-fits : r .value * 10 + d < 2 ^ 64 → record { line = r .line; begun = true; value = r .value * 10 + d } ≡ continued r d
+  unfolding continued
+  continued-fits h = rw (lt-ltb (r .value * 10 + d) (2 ^ 64) h) refl
+
+module _ (r : Reading) (c : ℕ) where
+  pub taken-count : taken r c .line .count ≤ r .line .count + 1
+  unfolding taken
+  taken-count =
+      walk (λ (s : Reading). s .line .count ≤ r .line .count + 1) (r .line .good) _ r
+      (λ _. walk (λ (s : Reading). s .line .count ≤ r .line .count + 1) (eqb c space) (ended r) _ (λ _. ended-count r)
+      (λ _. walk (λ (s : Reading). s .line .count ≤ r .line .count + 1) (isDigit c) (continued r (c - 48)) badReading (λ _. continued-count r (c - 48)) (λ _. omega arith)))
+      (λ _. omega arith)
+
+  pub taken-bad : r .line .good ≡ false → r ≡ taken r c
+  unfolding taken
+  taken-bad h = rw h refl
+
+  module _ (good : r .line .good ≡ true) where
+    pub taken-space : c ≡ space → ended r ≡ taken r c
+    unfolding taken
+    taken-space h = rw (good, eq-eqb c space h) refl
+
+    module _ (other : c ≡ space → ⊥) where
+      pub taken-below : c < 48 → badReading ≡ taken r c
+      unfolding taken
+      taken-below h = rw (good, ne-eqb c space other, lt-leb 48 c h) refl
+
+      pub taken-above : 57 < c → badReading ≡ taken r c
+      unfolding taken
+      taken-above h = rw (good, ne-eqb c space other, le-leb 48 c (omega arith), lt-leb c 57 h) refl
+
+      pub taken-digit : 48 ≤ c → c ≤ 57 → continued r (c - 48) ≡ taken r c
+      unfolding taken
+      taken-digit h k = rw (good, ne-eqb c space other, le-leb 48 c h, le-leb c 57 k) refl
+
+-- ---- all of a line's bytes
 
 value-more : (w : List ℕ) (c : ℕ) → value (w ++ c ∷ []) ≡ value w * 10 + (c - 48)
 unfolding value fold

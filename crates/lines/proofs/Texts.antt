@@ -11,7 +11,7 @@ use lib.Dec.{ltb}
 use lib.Seq.{length-take-le, take-all, set-out}
 use borrow.Author.Tests.{lt-ltb, le-ltb}
 use Rattle.rules.specs.Words.{each, fold, filled}
-use Rattle.rules.proofs.Loops.{filled-more}
+use Rattle.rules.proofs.Loops.{fold-append, filled-more}
 use Rattle.lines.specs.declared.Text.{Text}
 use Rattle.lines.specs.Lines.{space, newline}
 use Rattle.lines.specs.Texts.{digitsIn, decimal, spaced, lineWith, textLimit, textOf, followed}
@@ -68,6 +68,15 @@ module _ (n : ℕ) where
   pub decimal-more : 10 ≤ n → n < 2 ^ 64 → decimal n ≡ decimal (n / 10) ++ (48 + n % 10) ∷ []
   unfolding digitsIn
   decimal-more h k = rw (le-ltb n 10 h) (ap (λ (l : List ℕ). l ++ (48 + n % 10) ∷ []) (digits-enough 18 (n / 10) (omega arith)))
+
+module _ (t : Text) (n : ℕ) where
+  pub push-one : n < 10 → followed t (48 + n) ≡ fold followed t (decimal n)
+  unfolding fold
+  push-one h = rw (decimal-one n h) refl
+
+  pub push-more : 10 ≤ n → n < 2 ^ 64 → (u : Text) → u ≡ fold followed t (decimal (n / 10)) → followed u (48 + n % 10) ≡ fold followed t (decimal n)
+  unfolding fold
+  push-more h k u e = rw (decimal-more n h k, fold-append followed t (decimal (n / 10)) ((48 + n % 10) ∷ []), e) refl
 
 -- ---- the line of five numbers
 

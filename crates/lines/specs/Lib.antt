@@ -1,4 +1,4 @@
 pub mod Lines
-pub mod Asked
+pub mod Meanings
 pub mod Texts
 pub mod Steps

@@ -4,14 +4,14 @@ use rules::Creation;
 use rules::Event;
 use rules::Outcome;
 use rules::Set;
-ghost use Prim.Native.Nat.{_+_, _≤_, _<_};
+ghost use Prim.Native.Nat.{_+_, _<_, min};
 ghost use mathlib.Core.Path.{_≡_};
 ghost use mathlib.Core.List.{[], _∷_, _++_};
 ghost use lib.ListN.{drop};
 ghost use Rattle.rules.specs.Words.{each, every, place, fold};
 ghost use Rattle.rules.specs.Zero.{zeroCreation};
 ghost use Rattle.lines.specs.Lines.{badLine, lineOf};
-ghost use Rattle.lines.specs.Asked.{operandsOf, askedBy, isSum, setWith, namedBy};
+ghost use Rattle.lines.specs.Meanings.{operandsOf, askedBy, isSum, setWith, namedBy};
 ghost use Rattle.lines.specs.Texts.{decimal, lineWith, answerLine, textOf, followed, bytesOf, isNewline};
 ghost use Rattle.lines.specs.Steps.{badReading, newReading, saidAlso, ended, continued, taken};
 
@@ -120,7 +120,7 @@ fn say_also(l: Line, n: u64) -> Line
 // A space or the line's end: the word that has begun is a number more.
 fn end_word(r: Reading) -> Reading
     requires { ⌜ r .line .count < 1000 ⌝ }
-    ensures { λ s. ⌜ (s ≡ ended r) × (s .line .count ≤ r .line .count + 1) ⌝ }
+    ensures { λ s. ⌜ s ≡ ended r ⌝ }
 {
     if !r.begun {
         return bad_reading();
@@ -137,7 +137,7 @@ fn end_word(r: Reading) -> Reading
 // A digit, as long as the number fits 64 bits.
 fn add_digit(r: Reading, d: u64) -> Reading
     requires { ⌜ d < 10 ⌝ }
-    ensures { λ s. ⌜ (s ≡ continued r d) × (s .line .count ≤ r .line .count) ⌝ }
+    ensures { λ s. ⌜ s ≡ continued r d ⌝ }
 {
     let v = r.value;
     if u64::MAX / 10 < v {
@@ -163,7 +163,7 @@ fn wide(byte: u8) -> u64
 // One byte of a line. A bad line stays bad.
 fn take_byte(r: Reading, byte: u8) -> Reading
     requires { ⌜ r .line .count < 1000 ⌝ }
-    ensures { λ s. ⌜ (s ≡ taken r byte) × (s .line .count ≤ r .line .count + 1) ⌝ }
+    ensures { λ s. ⌜ s ≡ taken r byte ⌝ }
 {
     let l = r.line;
     if !l.good {
@@ -370,7 +370,7 @@ pub fn append(t: Text, part: &[u8]) -> Text
 }
 
 fn least(a: usize, b: usize) -> usize
-    ensures { λ r. ⌜ (r ≤ a) × (r ≤ b) ⌝ }
+    ensures { λ r. ⌜ r ≡ min a b ⌝ }
 {
     if a < b { a } else { b }
 }

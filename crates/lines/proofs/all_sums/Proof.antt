@@ -1,45 +1,57 @@
+-- `lines::all_sums` meets its contract. The loop's invariant: what is left decides
+use Prim.Native.Nat.{_-_, _≤_}
+use mathlib.Core.Path.{_≡_, refl, sym, _∙_}
+use native.Mathlib.Omega.{arith}
+use lib.ListN.{length, drop}
+use borrow.Author.Tests.{lt-ltb, le-ltb}
+use borrow.Author.Needs.{needs}
+use Rattle.rules.specs.Words.{every}
+use Rattle.rules.proofs.Loops.{every-other, every-here, every-end}
+use Rattle.lines.specs.Meanings.{isSum}
 use Rattle.lines.proofs.all_sums.Statement.{statement}
 use Rattle.lines.proofs.all_sums.Tie as tie
-use Rattle.lines.proofs.all_sums.Reads as reads
-use Rattle.lines.proofs.all_sums.Lts as lts
 
 abbrev Inv-loop : tie.InvT-loop
-Inv-loop ns i₀ i = ?
+Inv-loop ns i₀ i = (i ≤ 16) × (every isSum ns ≡ every isSum (drop i ns))
 
 abbrev μ-loop : tie.MeasureT-loop
-μ-loop ns i₀ i = ?
+μ-loop ns i₀ i = 16 - i
 
--- src/lib.rt:239:5
+len : (c : tie.Start Inv-loop μ-loop) → length (c .args .t1) ≡ 16
+len c = c .good .0 .1 .0 .1
+
 loop-holds : tie.Need-loop-holds Inv-loop μ-loop
-loop-holds c = ?
+loop-holds c = (search needs, refl)
 
--- src/lib.rt:240:19
 mul-if1 : tie.Need-mul-if1 Inv-loop μ-loop
-mul-if1 c = ?
+mul-if1 c = search needs
 
--- src/lib.rt:240:19
 array-read-if1 : tie.Need-array-read-if1 Inv-loop μ-loop
-array-read-if1 c = ?
+array-read-if1 c = search needs
 
--- src/lib.rt:241:13
 returns : tie.Need-returns Inv-loop μ-loop
-returns c = ?
+returns c =
+    let l = c .before .before in
+    let k = len (l .before) in
+    sym (l .loop .inv .1 ∙ every-here isSum 0 (l .before .args .t1) (l .loop .i) (omega arith) (le-ltb _ _ (c .if1 .taken)))
 
--- src/lib.rt:243:13
 add-i : tie.Need-add-i Inv-loop μ-loop
-add-i c = ?
+add-i c = search needs
 
--- src/lib.rt:239:5
 loop-less : tie.Need-loop-less Inv-loop μ-loop
-loop-less c = ?
+loop-less c = search needs
 
--- src/lib.rt:239:5
 loop-again : tie.Need-loop-again Inv-loop μ-loop
-loop-again c = ?
+loop-again c =
+    let l = c .before .before in
+    let k = len (l .before) in
+    (omega arith, l .loop .inv .1 ∙ every-other isSum 0 (l .before .args .t1) (l .loop .i) (omega arith) (lt-ltb _ _ (c .if1 .left)))
 
--- src/lib.rt:235:1
 returns-2 : tie.Need-returns-2 Inv-loop μ-loop
-returns-2 c = ?
+returns-2 c =
+    let l = c .before in
+    let k = len (l .before) in
+    sym (l .loop .inv .1 ∙ every-end isSum 0 (l .before .args .t1) (l .loop .i) (omega arith))
 
 pub all-sums-spec : {M : Type 1} → statement M
 all-sums-spec =

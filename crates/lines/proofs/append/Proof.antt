@@ -1,42 +1,50 @@
+-- `lines::append` meets its contract. The loop's invariant: what is left goes on from what is gathered
+use Prim.Native.Nat.{_+_, _-_, _≤_}
+use mathlib.Core.Path.{_≡_, refl, sym, ap, _∙_}
+use native.Mathlib.Omega.{arith}
+use lib.ListN.{length, drop}
+use borrow.Author.Needs.{needs}
+use Rattle.rules.specs.Words.{fold}
+use Rattle.rules.proofs.Loops.{fold-more, fold-end}
+use Rattle.lines.specs.declared.Text.{Text}
+use Rattle.lines.specs.Texts.{followed}
 use Rattle.lines.proofs.append.Statement.{statement}
 use Rattle.lines.proofs.append.Tie as tie
-use Rattle.lines.proofs.append.Reads as reads
-use Rattle.lines.proofs.append.Lts as lts
-use Rattle.lines.proofs.push.Reads as push-reads
 
 abbrev Inv-loop : tie.InvT-loop
-Inv-loop part out₀ i₀ out i = ?
+Inv-loop part out₀ i₀ out i = (i ≤ length part) × (fold followed out (drop i part) ≡ fold followed out₀ part)
 
 abbrev μ-loop : tie.MeasureT-loop
-μ-loop part out₀ i₀ out i = ?
+μ-loop part out₀ i₀ out i = length part - i
 
--- src/lib.rt:354:5
 loop-holds : tie.Need-loop-holds Inv-loop μ-loop
-loop-holds c = ?
+loop-holds c = (omega arith, refl)
 
--- src/lib.rt:355:30
 shared-slice-read-push : tie.Need-shared-slice-read-push Inv-loop μ-loop
-shared-slice-read-push c = ?
+shared-slice-read-push c = search needs
 
--- src/lib.rt:355:13
 push-requires : tie.Need-push-requires Inv-loop μ-loop
-push-requires c κs = ?
+push-requires c κs = search needs
 
--- src/lib.rt:357:13
 add-i : tie.Need-add-i Inv-loop μ-loop
-add-i c = ?
+add-i c = search needs
 
--- src/lib.rt:354:5
 loop-less : tie.Need-loop-less Inv-loop μ-loop
-loop-less c = ?
+loop-less c = search needs
 
--- src/lib.rt:354:5
 loop-again : tie.Need-loop-again Inv-loop μ-loop
-loop-again c = ?
+loop-again c =
+    let l = c .before .before .before in
+    let part = l .before .before .args .part .now in (
+      omega arith,
+      ap (λ (t : Text). fold followed t (drop (l .loop .i + 1) part)) (c .push .ensures)
+          ∙ sym (fold-more followed 0 part (l .loop .i) (l .loop .out) (omega arith)) ∙ l .loop .inv .1,
+    )
 
--- src/lib.rt:349:1
 returns : tie.Need-returns Inv-loop μ-loop
-returns c = ?
+returns c =
+    let l = c .before in
+    sym (fold-end followed 0 (l .before .before .args .part .now) (l .loop .i) (l .loop .out) (omega arith)) ∙ l .loop .inv .1
 
 pub append-spec : {M : Type 1} → statement M
 append-spec =

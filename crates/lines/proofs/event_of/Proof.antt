@@ -1,41 +1,34 @@
+-- `lines::event_of` meets its contract
+use native.Mathlib.Omega.{arith}
 use borrow.Author.Needs.{needs}
+use Rattle.lines.specs.Meanings.{numberAt}
+use Rattle.lines.proofs.Meanings.{operands-few, asked-good, asked-bad}
 use Rattle.lines.proofs.event_of.Statement.{statement}
 use Rattle.lines.proofs.event_of.Tie as tie
-use Rattle.lines.proofs.event_of.Reads as reads
-use Rattle.lines.proofs.event_of.Lts as lts
-use Rattle.lines.proofs.operands.Reads as operands-reads
 
--- src/lib.rt:209:16
 element-copy-out-kind : tie.Need-element-copy-out-kind
 element-copy-out-kind c = search needs
 
--- src/lib.rt:210:9
 operands-requires : tie.Need-operands-requires
 operands-requires c κs = search needs
 
--- src/lib.rt:211:29
 add-if1 : tie.Need-add-if1
-add-if1 c = ?
+add-if1 c = omega (arith, c .operands .ensures, operands-few (numberAt (c .before .before .args .t1) 0))
 
--- src/lib.rt:214:16
 element-copy-out-t15 : tie.Need-element-copy-out-t15
 element-copy-out-t15 c = search needs
 
--- src/lib.rt:215:16
 element-copy-out-t18 : tie.Need-element-copy-out-t18
 element-copy-out-t18 c = search needs
 
--- src/lib.rt:216:16
 element-copy-out-t21 : tie.Need-element-copy-out-t21
 element-copy-out-t21 c = search needs
 
--- src/lib.rt:218:9
 returns : tie.Need-returns
-returns c = ?
+returns c = asked-good _ _ (c .before .before .before .before .operands .ensures) (c .before .before .before .if1 .taken)
 
--- src/lib.rt:206:1
 returns-2 : tie.Need-returns-2
-returns-2 c = ?
+returns-2 c = asked-bad _ _ (c .before .operands .ensures) (c .if1 .left)
 
 pub event-of-spec : {M : Type 1} → statement M
 event-of-spec =

@@ -1,11 +1,12 @@
+-- `lines::no_text` meets its contract
+use mathlib.Core.Path.{refl}
+use Rattle.lines.specs.Texts.{textOf}
 use Rattle.lines.proofs.no_text.Statement.{statement}
 use Rattle.lines.proofs.no_text.Tie as tie
-use Rattle.lines.proofs.no_text.Reads as reads
-use Rattle.lines.proofs.no_text.Lts as lts
 
--- src/lib.rt:325:1
 returns : tie.Need-returns
-returns c = ?
+unfolding textOf
+returns c = refl
 
 pub no-text-spec : {M : Type 1} → statement M
 no-text-spec = tie.close (tie.spec returns)

@@ -1,61 +1,68 @@
+-- `lines::parse` meets its contract. The loop's invariant: what is left goes on from what is read
+use Prim.Native.Nat.{_+_, _-_, _≤_}
+use mathlib.Core.Path.{_≡_, refl, sym, ap, _∙_}
+use native.Mathlib.Omega.{arith}
+use lib.ListN.{length, getD, drop}
+use borrow.Author.Needs.{needs}
+use Rattle.rules.specs.Words.{fold}
+use Rattle.rules.proofs.Loops.{fold-more, fold-end}
+use Rattle.lines.specs.declared.Reading.{Reading}
+use Rattle.lines.specs.Steps.{newReading, ended, taken}
+use Rattle.lines.proofs.Laws.{taken-count, line-read, line-long}
 use Rattle.lines.proofs.parse.Statement.{statement}
 use Rattle.lines.proofs.parse.Tie as tie
-use Rattle.lines.proofs.parse.Reads as reads
-use Rattle.lines.proofs.parse.Lts as lts
-use Rattle.lines.proofs.bad_line.Reads as bad-line-reads
-use Rattle.lines.proofs.end_word.Reads as end-word-reads
-use Rattle.lines.proofs.new_reading.Reads as new-reading-reads
-use Rattle.lines.proofs.take_byte.Reads as take-byte-reads
 
 abbrev Inv-loop : tie.InvT-loop
-Inv-loop line r₀ i₀ r i = ?
+Inv-loop line r₀ i₀ r i = (i ≤ length line) × (r .line .count ≤ i) × (fold taken r (drop i line) ≡ fold taken newReading line)
 
 abbrev μ-loop : tie.MeasureT-loop
-μ-loop line r₀ i₀ r i = ?
+μ-loop line r₀ i₀ r i = length line - i
 
--- src/lib.rt:179:9
 bad-line-requires : tie.Need-bad-line-requires Inv-loop μ-loop
-bad-line-requires c κs = ?
+bad-line-requires c κs = search needs
 
--- src/lib.rt:179:9
 returns : tie.Need-returns Inv-loop μ-loop
-returns c = ?
+returns c = c .bad-line .ensures ∙ line-long _ (c .before .if1 .taken)
 
--- src/lib.rt:181:9
 new-reading-requires : tie.Need-new-reading-requires Inv-loop μ-loop
-new-reading-requires c κs = ?
+new-reading-requires c κs = search needs
 
--- src/lib.rt:183:5
 loop-holds : tie.Need-loop-holds Inv-loop μ-loop
-loop-holds c = ?
+loop-holds c = (omega arith, rw (c .new-reading .ensures) (omega arith), ap (λ (r : Reading). fold taken r (c .before .before .before .args .line .now)) (c .new-reading .ensures))
 
--- src/lib.rt:184:33
 shared-slice-read-take-byte : tie.Need-shared-slice-read-take-byte Inv-loop μ-loop
-shared-slice-read-take-byte c = ?
+shared-slice-read-take-byte c = search needs
 
--- src/lib.rt:184:13
 take-byte-requires : tie.Need-take-byte-requires Inv-loop μ-loop
-take-byte-requires c κs = ?
+take-byte-requires c κs = search needs
 
--- src/lib.rt:186:13
 add-i : tie.Need-add-i Inv-loop μ-loop
-add-i c = ?
+add-i c = search needs
 
--- src/lib.rt:183:5
 loop-less : tie.Need-loop-less Inv-loop μ-loop
-loop-less c = ?
+loop-less c = search needs
 
--- src/lib.rt:183:5
 loop-again : tie.Need-loop-again Inv-loop μ-loop
-loop-again c = ?
+loop-again c =
+    let l = c .before .before .before in
+    let line = l .before .before .before .before .args .line .now in
+    let i = l .loop .i in
+    let r = l .loop .r in (
+      omega arith,
+      rw (c .take-byte .ensures) (omega (arith, taken-count r (getD line i 0))),
+      ap (λ (s : Reading). fold taken s (drop (i + 1) line)) (c .take-byte .ensures) ∙ sym (fold-more taken 0 line i r (omega arith)) ∙ l .loop .inv .2,
+    )
 
--- src/lib.rt:188:9
 end-word-requires : tie.Need-end-word-requires Inv-loop μ-loop
-end-word-requires c κs = ?
+end-word-requires c κs = search needs
 
--- src/lib.rt:175:1
 returns-2 : tie.Need-returns-2 Inv-loop μ-loop
-returns-2 c = ?
+returns-2 c =
+    let l = c .before .before .before in
+    let line = l .before .before .before .before .args .line .now in
+    ap (λ (s : Reading). s .line) (c .before .end-word .ensures
+    ∙ ap ended (sym (fold-end taken 0 line (l .loop .i) (l .loop .r) (omega arith)) ∙ l .loop .inv .2))
+    ∙ line-read line (omega arith)
 
 pub parse-spec : {M : Type 1} → statement M
 parse-spec =

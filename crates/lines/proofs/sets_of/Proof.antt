@@ -1,58 +1,72 @@
+-- `lines::sets_of` meets its contract. The loop's invariant: the first sets are those of the first numbers
+use Prim.Native.Nat.{_+_, _-_, _≤_}
+use mathlib.Core.Path.{_≡_, refl, sym, ap, _∙_}
+use mathlib.Core.List.{List}
+use native.Mathlib.Omega.{arith}
+use lib.ListN.{length, getD, set, take, replicate}
+use lib.Seq.{take-all}
+use borrow.Author.Needs.{needs}
+use Rattle.rules.specs.declared.Set.{Set}
+use Rattle.rules.specs.Words.{each, filled}
+use Rattle.rules.proofs.Lists.{each-length}
+use Rattle.rules.proofs.Loops.{each-more, filled-whole}
+use Rattle.lines.specs.Meanings.{setWith}
 use Rattle.lines.proofs.sets_of.Statement.{statement}
 use Rattle.lines.proofs.sets_of.Tie as tie
-use Rattle.lines.proofs.sets_of.Reads as reads
-use Rattle.lines.proofs.sets_of.Lts as lts
-use Rattle.lines.proofs.set_of.Reads as set-of-reads
 
 abbrev Inv-loop : tie.InvT-loop
-Inv-loop ns sets₀ i₀ sets i = ?
+Inv-loop ns sets₀ i₀ sets i = (i ≤ 16) × (sets ≡ filled 16 (setWith 0) (each setWith (take i ns)))
 
 abbrev μ-loop : tie.MeasureT-loop
-μ-loop ns sets₀ i₀ sets i = ?
+μ-loop ns sets₀ i₀ sets i = 16 - i
 
--- src/lib.rt:270:9
+len : (c : tie.Start Inv-loop μ-loop) → length (c .args .t1) ≡ 16
+len c = c .good .0 .1 .0 .1
+
 set-of-requires : tie.Need-set-of-requires Inv-loop μ-loop
-set-of-requires c κs = ?
+set-of-requires c κs = search needs
 
--- src/lib.rt:273:5
 loop-holds : tie.Need-loop-holds Inv-loop μ-loop
-loop-holds c = ?
+unfolding each
+loop-holds c = (search needs, ap (λ (s : Set). replicate 16 s) (c .set-of .ensures))
 
--- src/lib.rt:274:24
 mul-set-of : tie.Need-mul-set-of Inv-loop μ-loop
-mul-set-of c = ?
+mul-set-of c = search needs
 
--- src/lib.rt:274:24
 array-read-set-of : tie.Need-array-read-set-of Inv-loop μ-loop
-array-read-set-of c = ?
+array-read-set-of c = search needs
 
--- src/lib.rt:274:13
 set-of-requires-2 : tie.Need-set-of-requires-2 Inv-loop μ-loop
-set-of-requires-2 c κs = ?
+set-of-requires-2 c κs = search needs
 
--- src/lib.rt:275:9
 mul-sets : tie.Need-mul-sets Inv-loop μ-loop
-mul-sets c = ?
+mul-sets c = search needs
 
--- src/lib.rt:275:9
 array-set-from-sets : tie.Need-array-set-from-sets Inv-loop μ-loop
-array-set-from-sets c = ?
+array-set-from-sets c = search needs
 
--- src/lib.rt:276:13
 add-i : tie.Need-add-i Inv-loop μ-loop
-add-i c = ?
+add-i c = search needs
 
--- src/lib.rt:273:5
 loop-less : tie.Need-loop-less Inv-loop μ-loop
-loop-less c = ?
+loop-less c = search needs
 
--- src/lib.rt:273:5
 loop-again : tie.Need-loop-again Inv-loop μ-loop
-loop-again c = ?
+loop-again c =
+    let l = c .before .before in
+    let ns = l .before .before .args .t1 in
+    let k = len (l .before .before) in (
+      omega arith,
+      rw (l .loop .inv .1, c .set-of2 .ensures) (each-more setWith 0 (setWith 0) 16 ns (l .loop .i) (omega arith)),
+    )
 
--- src/lib.rt:267:1
 returns : tie.Need-returns Inv-loop μ-loop
-returns c = ?
+returns c =
+    let l = c .before in
+    let ns = l .before .before .args .t1 in
+    let k = len (l .before .before) in
+    l .loop .inv .1 ∙ ap (λ (s : List Set). filled 16 (setWith 0) s) (ap (each setWith) (take-all (l .loop .i) ns (omega arith)))
+    ∙ filled-whole (setWith 0) 16 (each setWith ns) (each-length setWith ns ∙ k)
 
 pub sets-of-spec : {M : Type 1} → statement M
 sets-of-spec =

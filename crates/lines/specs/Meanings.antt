@@ -1,7 +1,7 @@
 -- Document 01, "One session, whole": the event that a line asks for, and the creation that the first two lines name
 use Prim.Native.Nat.{ℕ, _+_, _/_, _%_, _^_}
 use mathlib.Core.Bool.{Bool, true, false, _&&_}
-use mathlib.Core.List.{[], _∷_}
+use mathlib.Core.List.{List, [], _∷_}
 use lib.ListN.{getD}
 use lib.Dec.{eqb, ltb}
 use Rattle.rules.specs.declared.Set.{Set}
@@ -19,27 +19,47 @@ numberAt l i = getD (l .numbers) i 0
 
 -- ---- "then an event a line, its number and then only its own operands"
 
--- how many operands an event has. An unknown kind has none here; with any other count its line would be bad instead of an
--- event that is refused, and `1 0 0 0 0` is written for either
+-- how many operands the events have, from 0 on
+abbrev pub operandTable : List ℕ
+operandTable =
+    {- 0, no event -}
+    0 ∷
+    {- 1 read (host, block) -}
+    2 ∷
+    {- 2 write (host, block, value) -}
+    3 ∷
+    {- 3 start (host, clock, copy) -}
+    3 ∷
+    {- 4 deliver (place) -}
+    1 ∷
+    {- 5 drop (place) -}
+    1 ∷
+    {- 6 finish (host) -}
+    1 ∷
+    {- 7 timeout (host) -}
+    1 ∷
+    {- 8 refresh (host) -}
+    1 ∷
+    {- 9 run (chunk, block) -}
+    2 ∷
+    {- 10 stop (host) -}
+    1 ∷
+    {- 11 fail (chunk) -}
+    1 ∷
+    {- 12 recover (chunk) -}
+    1 ∷
+    {- 13 take lease (chunk) -}
+    1 ∷
+    {- 14 give lease (chunk) -}
+    1 ∷
+    {- 15 epoch change -}
+    0 ∷
+    {- 16 overdue (chunk, block, now) -}
+    3 ∷ []
+
+-- an unknown kind has none here. Whatever follows it, its line gets `1 0 0 0 0`: as an event that is refused, or as a bad line
 abbrev pub operandsOf : (kind : ℕ) → ℕ
-operandsOf kind = getD (
-    {- 0, no event -} 0 ∷
-    {- 1 read (host, block) -} 2 ∷
-    {- 2 write (host, block, value) -} 3 ∷
-    {- 3 start (host, clock, copy) -} 3 ∷
-    {- 4 deliver (place) -} 1 ∷
-    {- 5 drop (place) -} 1 ∷
-    {- 6 finish (host) -} 1 ∷
-    {- 7 timeout (host) -} 1 ∷
-    {- 8 refresh (host) -} 1 ∷
-    {- 9 run (chunk, block) -} 2 ∷
-    {- 10 stop (host) -} 1 ∷
-    {- 11 fail (chunk) -} 1 ∷
-    {- 12 recover (chunk) -} 1 ∷
-    {- 13 take lease (chunk) -} 1 ∷
-    {- 14 give lease (chunk) -} 1 ∷
-    {- 15 epoch change -} 0 ∷
-    {- 16 overdue (chunk, block, now) -} 3 ∷ []) kind 0
+operandsOf kind = getD operandTable kind 0
 
 abbrev pub noEvent : Event
 noEvent = record { kind = 0; a = 0; b = 0; c = 0 }
