@@ -1,20 +1,20 @@
 -- A text that is gathered byte by byte; digits one by one
-use Prim.Native.Nat.{ℕ, zero, suc, _+_, _*_, _/_, _%_, _^_, _≤_, _<_}
+use Prim.Native.Nat.{ℕ, zero, suc, _+_, _/_, _%_, _^_, _≤_, _<_, compare·suc-suc}
 use mathlib.Core.Path.{_≡_, refl, sym, ap, _∙_}
 use mathlib.Core.Bool.{Bool, true, false, cond}
 use mathlib.Core.List.{List, [], _∷_, _++_, append-assoc, append-nil}
 use native.Mathlib.Nat.{pow-suc}
 use native.Mathlib.Decide.{decLe}
 use native.Mathlib.Omega.{arith}
-use lib.ListN.{length, replicate, length-append, length-take}
+use lib.ListN.{length, getD, drop, replicate, length-append, length-take, drop-of-length-le}
 use lib.Dec.{ltb}
 use lib.Seq.{length-take-le, take-all, set-out}
 use borrow.Author.Tests.{lt-ltb, le-ltb}
-use Rattle.rules.specs.Words.{each, fold, filled}
-use Rattle.rules.proofs.Loops.{fold-append, filled-more}
+use Rattle.rules.specs.Words.{each, place, fold, filled}
+use Rattle.rules.proofs.Loops.{drop-more, fold-append, filled-more}
 use Rattle.lines.specs.declared.Text.{Text}
 use Rattle.lines.specs.Lines.{space, newline}
-use Rattle.lines.specs.Texts.{digitsIn, decimal, spaced, lineWith, textLimit, textOf, followed}
+use Rattle.lines.specs.Texts.{digitsIn, decimal, spaced, lineWith, textLimit, textOf, followed, isNewline, cutAt}
 
 -- ---- one byte more
 
@@ -46,6 +46,27 @@ pub text-more : (k l : List ℕ) → fold followed (textOf k) l ≡ textOf (k ++
 unfolding fold
 text-more k [] = ap textOf (sym (append-nil k))
 text-more k (b ∷ l) = rw (followed-is k b) (text-more (k ++ b ∷ []) l) ∙ ap textOf (append-assoc k (b ∷ []) l)
+
+-- ---- a block of input, byte by byte
+
+module _ (block : List ℕ) (i : ℕ) (t : Text) where
+  pub cut-end : length block ≤ i → record { text = t; whole = false; next = i } ≡ cutAt block i t
+  unfolding cutAt place fold
+  cut-end h = rw (drop-of-length-le block h) (ap (λ (n : ℕ). record { text = t; whole = false; next = n }) (omega arith))
+
+  module _ (inside : i < length block) where
+    pub cut-here : isNewline (getD block i 0) ≡ true → record { text = t; whole = true; next = i + 1 } ≡ cutAt block i t
+    unfolding cutAt place fold
+    cut-here h =
+        rw (drop-more 0 block i inside, h, lt-ltb 0 (suc (length (drop (i + 1) block))) (omega arith))
+        (ap (λ (n : ℕ). record { text = t; whole = true; next = n }) (omega arith))
+
+    pub cut-other : isNewline (getD block i 0) ≡ false → cutAt block (i + 1) (followed t (getD block i 0)) ≡ cutAt block i t
+    unfolding cutAt place fold
+    cut-other h =
+        let rest = drop (i + 1) block in
+        let e : i + suc (place isNewline rest) ≡ i + 1 + place isNewline rest = omega arith in
+        rw (drop-more 0 block i inside, h, compare·suc-suc, e) refl
 
 -- ---- digits
 

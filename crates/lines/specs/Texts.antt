@@ -2,12 +2,13 @@
 use Prim.Native.Nat.{ℕ, zero, suc, _+_, _/_, _%_}
 use mathlib.Core.Bool.{Bool}
 use mathlib.Core.List.{List, [], _∷_, _++_}
-use lib.ListN.{length, set, take}
+use lib.ListN.{length, set, take, drop}
 use lib.Dec.{eqb, ltb}
 use Rattle.rules.specs.declared.Outcome.{Outcome}
 use Rattle.rules.specs.Codes.{numbersOf}
-use Rattle.rules.specs.Words.{if_then_else_, each, filled}
+use Rattle.rules.specs.Words.{if_then_else_, each, place, fold, filled}
 use Rattle.lines.specs.declared.Text.{Text}
+use Rattle.lines.specs.declared.Cut.{Cut}
 use Rattle.lines.specs.Lines.{space, newline, lineLimit}
 
 -- ---- "It writes a line an event: code, outcome, host, block, value. Numbers are decimal, one space apart"
@@ -52,7 +53,16 @@ followed t b = if ltb (t .count) textLimit then record { bytes = set (t .bytes) 
 abbrev pub bytesOf : Text → List ℕ
 bytesOf t = take (t .count) (t .bytes)
 
--- ---- "an event a line": where a line ends
+-- ---- lines in a block of input: "an event a line"
 
-abbrev pub isNewline : ℕ → Bool
+abbrev pub isNewline : (byte : ℕ) → Bool
 isNewline b = eqb b newline
+
+-- the text t goes on with the bytes of the block from a place on, up to the first newline: then the line is whole, and the next
+-- one begins after it. Without a newline it goes on with all that is left, and the line goes on in the next block
+unfoldable pub cutAt : (block : List ℕ) → (at : ℕ) → Text → Cut
+cutAt block at t =
+    let rest = drop at block in
+    let n = place isNewline rest in
+    let whole = ltb n (length rest) in
+    record { text = fold followed t (take n rest); whole = whole; next = if whole then at + n + 1 else at + n }

@@ -7,12 +7,11 @@ use rules::Set;
 ghost use Prim.Native.Nat.{_+_, _<_, min};
 ghost use mathlib.Core.Path.{_≡_};
 ghost use mathlib.Core.List.{[], _∷_, _++_};
-ghost use lib.ListN.{drop};
-ghost use Rattle.rules.specs.Words.{each, every, place, fold};
+ghost use Rattle.rules.specs.Words.{each, every, fold};
 ghost use Rattle.rules.specs.Zero.{zeroCreation};
 ghost use Rattle.lines.specs.Lines.{badLine, lineOf};
 ghost use Rattle.lines.specs.Meanings.{operandsOf, askedBy, isSum, setWith, namedBy};
-ghost use Rattle.lines.specs.Texts.{decimal, lineWith, answerLine, textOf, followed, bytesOf, isNewline};
+ghost use Rattle.lines.specs.Texts.{decimal, lineWith, answerLine, textOf, followed, bytesOf, cutAt};
 ghost use Rattle.lines.specs.Steps.{badReading, newReading, saidAlso, ended, continued, taken};
 
 // "longer than 120 bytes"
@@ -61,6 +60,13 @@ pub struct Named {
 pub struct Text {
     pub bytes: [u8; ROOM],
     pub count: usize,
+}
+
+// What is cut out of a block of input: the line so far, whether its newline has come, and where the block goes on.
+pub struct Cut {
+    pub text: Text,
+    pub whole: bool,
+    pub next: usize,
 }
 
 // ---- a line of input
@@ -355,24 +361,36 @@ fn push(t: Text, byte: u8) -> Text
     out
 }
 
-// A line goes on: its next bytes, of which those past the 121st tell nothing more.
-pub fn append(t: Text, part: &[u8]) -> Text
-    ensures { λ r. ⌜ r ≡ fold followed t (now (part .entry)) ⌝ }
-{
-    let mut out = t;
-    let mut i: usize = 0;
-    while i < part.len() {
-        let next = push(out, part[i]);
-        out = next;
-        i = i + 1;
-    }
-    out
-}
-
 fn least(a: usize, b: usize) -> usize
     ensures { λ r. ⌜ r ≡ min a b ⌝ }
 {
     if a < b { a } else { b }
+}
+
+// The line goes on in a block of input, from a place on up to the newline; where none comes, the next block has more of it.
+pub fn cut_line(block: &[u8], at: usize, t: Text) -> Cut
+    ensures { λ r. ⌜ r ≡ cutAt (now (block .entry)) at t ⌝ }
+{
+    let mut text = t;
+    let mut i = at;
+    while i < block.len() {
+        let byte = block[i];
+        if byte == NEWLINE {
+            return Cut {
+                text: text,
+                whole: true,
+                next: i + 1,
+            };
+        }
+        let next = push(text, byte);
+        text = next;
+        i = i + 1;
+    }
+    Cut {
+        text: text,
+        whole: false,
+        next: i,
+    }
 }
 
 // What a line that was gathered says.
@@ -425,20 +443,4 @@ pub fn answer_text(code: u64, o: Outcome) -> Text
         Outcome::ReadFailed { host, block } => numbers_text(code, 3, host, block, 0),
         Outcome::WriteFailed { host, block } => numbers_text(code, 4, host, block, 0),
     }
-}
-
-// ---- lines in a block of input
-
-// The place of the first newline from a place on, or the end where there is none.
-pub fn line_end(block: &[u8], from: usize) -> usize
-    ensures { λ r. ⌜ r ≡ from + place isNewline (drop from (now (block .entry))) ⌝ }
-{
-    let mut i = from;
-    while i < block.len() {
-        if block[i] == NEWLINE {
-            break;
-        }
-        i = i + 1;
-    }
-    i
 }
