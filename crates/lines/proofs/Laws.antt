@@ -9,7 +9,7 @@ use lib.ListN.{length, length-append}
 use lib.Dec.{eqb, ltb}
 use lib.Seq.{set-out}
 use borrow.Author.Tests.{ltb-false, le-ltb, lt-ltb, le-leb, lt-leb, eq-eqb, ne-eqb}
-use Rattle.rules.specs.Words.{each, every, fold, filled}
+use Rattle.rules.specs.Words.{each, every, fold}
 use Rattle.rules.proofs.Lists.{true-or-false, walk, each-length}
 use Rattle.rules.proofs.Loops.{fold-append, each-append, every-append, filled-more}
 use Rattle.lines.specs.declared.Line.{Line}
@@ -74,7 +74,7 @@ module _ (r : Reading) (c : ℕ) where
 
 -- ---- all of a line's bytes
 
-value-more : (w : List ℕ) (c : ℕ) → value (w ++ c ∷ []) ≡ value w * 10 + (c - 48)
+pub value-more : (w : List ℕ) (c : ℕ) → value (w ++ c ∷ []) ≡ value w * 10 + (c - 48)
 unfolding value fold
 value-more w c = fold-append (λ n d. n * 10 + (d - 48)) 0 w (c ∷ [])
 

@@ -3,7 +3,6 @@ use mathlib.Core.Path.{_∙_, ap}
 use mathlib.Core.Bool.{false}
 use borrow.Author.Needs.{needs}
 use Rattle.rules.specs.declared.Creation.{Creation}
-use Rattle.lines.specs.declared.Named.{Named}
 use Rattle.lines.proofs.Meanings.{named-good, named-bad}
 use Rattle.lines.proofs.creation_of.Statement.{statement}
 use Rattle.lines.proofs.creation_of.Tie as tie

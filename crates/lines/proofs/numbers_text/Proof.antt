@@ -1,7 +1,5 @@
 -- `lines::numbers_text` meets its contract
-use mathlib.Core.Path.{ap, _∙_}
 use borrow.Author.Needs.{needs}
-use Rattle.rules.specs.Words.{fold}
 use Rattle.lines.proofs.Texts.{five-line}
 use Rattle.lines.proofs.numbers_text.Statement.{statement}
 use Rattle.lines.proofs.numbers_text.Tie as tie
