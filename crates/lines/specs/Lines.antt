@@ -22,20 +22,20 @@ isDigit byte = leb 48 byte && leb byte 57
 
 -- ---- "Numbers are decimal, one space apart"
 
--- the words of a line of which w stands before l since the last space
+-- the words from the last space on: w has come since, l comes now
 unfoldable pub wordsAfter : (w l : List ℕ) → List (List ℕ)
 wordsAfter w [] = w ∷ []
 wordsAfter w (c ∷ l) = if eqb c space then w ∷ wordsAfter [] l else wordsAfter (w ++ c ∷ []) l
 
--- what stands before, between and after the spaces: k spaces make k + 1 words, empty ones too
+-- what stands before, between and behind the spaces of a line: k spaces make k + 1 words, empty ones too
 abbrev pub words : List ℕ → List (List ℕ)
 words l = wordsAfter [] l
 
--- the number that digits say; leading zeros change nothing
+-- the number that digits say; zeros in front change nothing
 unfoldable pub value : List ℕ → ℕ
 value w = fold (λ n d. n * 10 + (d - 48)) 0 w
 
--- bad is a word that is "not a number, a number above 64 bits": no digit at all, any other byte, 2 to the power 64 or more
+-- bad is what is "not a number, a number above 64 bits": no digit at all, any other byte, 2 to the power 64 or more
 unfoldable pub isNumber : List ℕ → Bool
 isNumber w = ltb 0 (length w) && every isDigit w && ltb (value w) (2 ^ 64)
 
@@ -45,11 +45,11 @@ isNumber w = ltb 0 (length w) && every isDigit w && ltb (value w) (2 ^ 64)
 abbrev pub lineLimit : ℕ
 lineLimit = 120
 
--- so an empty line, a leading, a trailing and a double space, a tab, a sign and a carriage return are bad
+-- so an empty line, a space in front, behind or doubled, a tab, a sign and a carriage return are bad
 unfoldable pub isLine : List ℕ → Bool
 isLine l = leb (length l) lineLimit && every isNumber (words l)
 
--- the most numbers that a line of a session can want: one a block
+-- no line of a session has more numbers than the second: one a block
 abbrev pub numberLimit : ℕ
 numberLimit = blockLimit
 
@@ -60,5 +60,6 @@ badLine = record { good = false; count = 0; numbers = replicate numberLimit 0 }
 abbrev pub saying : List (List ℕ) → Line
 saying ws = record { good = true; count = length ws; numbers = filled numberLimit 0 (each value ws) }
 
+-- what a line of input says, given without its newline; a bad one says nothing
 unfoldable pub lineOf : List ℕ → Line
 lineOf l = if isLine l then saying (words l) else badLine

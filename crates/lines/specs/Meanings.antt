@@ -13,51 +13,36 @@ use Rattle.lines.specs.declared.Line.{Line}
 use Rattle.lines.specs.declared.Asked.{Asked}
 use Rattle.lines.specs.declared.Named.{Named}
 
--- the number at a place of the line; 0 where the line has none there
+-- the number at a place of the line, from 0 on; 0 where the line has none there
 abbrev pub numberAt : Line → (place : ℕ) → ℕ
 numberAt l i = getD (l .numbers) i 0
 
 -- ---- "then an event a line, its number and then only its own operands"
 
--- how many operands the events have, from 0 on
+-- how many operands each event has
 abbrev pub operandTable : List ℕ
 operandTable =
-    {- 0, no event -}
-    0 ∷
-    {- 1 read (host, block) -}
-    2 ∷
-    {- 2 write (host, block, value) -}
-    3 ∷
-    {- 3 start (host, clock, copy) -}
-    3 ∷
-    {- 4 deliver (place) -}
-    1 ∷
-    {- 5 drop (place) -}
-    1 ∷
-    {- 6 finish (host) -}
-    1 ∷
-    {- 7 timeout (host) -}
-    1 ∷
-    {- 8 refresh (host) -}
-    1 ∷
-    {- 9 run (chunk, block) -}
-    2 ∷
-    {- 10 stop (host) -}
-    1 ∷
-    {- 11 fail (chunk) -}
-    1 ∷
-    {- 12 recover (chunk) -}
-    1 ∷
-    {- 13 take lease (chunk) -}
-    1 ∷
-    {- 14 give lease (chunk) -}
-    1 ∷
-    {- 15 epoch change -}
-    0 ∷
-    {- 16 overdue (chunk, block, now) -}
-    3 ∷ []
+    0 ∷  -- 0 is no event
+    2 ∷  -- 1 read (host, block)
+    3 ∷  -- 2 write (host, block, value)
+    3 ∷  -- 3 start (host, clock, copy)
+    1 ∷  -- 4 deliver (place)
+    1 ∷  -- 5 drop (place)
+    1 ∷  -- 6 finish (host)
+    1 ∷  -- 7 timeout (host)
+    1 ∷  -- 8 refresh (host)
+    2 ∷  -- 9 run (chunk, block)
+    1 ∷  -- 10 stop (host)
+    1 ∷  -- 11 fail (chunk)
+    1 ∷  -- 12 recover (chunk)
+    1 ∷  -- 13 take lease (chunk)
+    1 ∷  -- 14 give lease (chunk)
+    0 ∷  -- 15 epoch change
+    3 ∷  -- 16 overdue (chunk, block, now)
+    []
 
--- an unknown kind has none here. Whatever follows it, its line gets `1 0 0 0 0`: as an event that is refused, or as a bad line
+-- an unknown kind has none here, which is no choice: whatever follows it, its line gets `1 0 0 0 0`, as an event that is refused
+-- or as a bad line
 abbrev pub operandsOf : (kind : ℕ) → ℕ
 operandsOf kind = getD operandTable kind 0
 
@@ -82,8 +67,8 @@ isSum n = ltb n (2 ^ chunkLimit)
 abbrev pub setWith : (n : ℕ) → Set
 setWith n = record { chunks = each (λ c. eqb (n / 2 ^ c % 2) 1) (numbers chunkLimit) }
 
--- "bad first lines": one that is bad, has a wrong count, or has a number that is no sum. A line's unused places are 0, the sum of
--- the empty set. Whether there can be such a store, creation says
+-- "bad first lines": a bad one, a first one without four numbers, a second one without a number a block or with one that is no
+-- sum. A line's unused places are 0, the sum over no chunk. Whether there is such a store, creation says
 unfoldable pub namedBy : (first second : Line) → Named
 namedBy first second =
     if first .good && eqb (first .count) 4 && second .good && eqb (second .count) (numberAt first 2) && every isSum (second .numbers) then record {

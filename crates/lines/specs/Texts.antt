@@ -13,7 +13,7 @@ use Rattle.lines.specs.Lines.{space, newline, lineLimit}
 
 -- ---- "It writes a line an event: code, outcome, host, block, value. Numbers are decimal, one space apart"
 
--- the digits of a number that has at most k of them
+-- the digits of a number that has at most k of them, the greatest place first
 unfoldable pub digitsIn : (k n : ℕ) → List ℕ
 digitsIn zero n = []
 digitsIn (suc k) n = if ltb n 10 then (48 + n) ∷ [] else digitsIn k (n / 10) ++ (48 + n % 10) ∷ []
@@ -42,6 +42,7 @@ answerLine code o =
 abbrev pub textLimit : ℕ
 textLimit = lineLimit + 1
 
+-- the bytes of l, as far as there is room, the unused places 0
 unfoldable pub textOf : List ℕ → Text
 textOf l = record { bytes = filled textLimit 0 l; count = length (take textLimit l) }
 
@@ -49,7 +50,7 @@ textOf l = record { bytes = filled textLimit 0 l; count = length (take textLimit
 unfoldable pub followed : Text → (byte : ℕ) → Text
 followed t b = if ltb (t .count) textLimit then record { bytes = set (t .bytes) (t .count) b; count = t .count + 1 } else t
 
--- the bytes of a text
+-- the bytes that a text holds
 abbrev pub bytesOf : Text → List ℕ
 bytesOf t = take (t .count) (t .bytes)
 

@@ -15,13 +15,13 @@ ghost use Rattle.lines.specs.Texts.{decimal, lineWith, answerLine, textO
 ghost use Rattle.lines.specs.Steps.{badReading, newReading, saidAlso, ended, continued, taken};
 
 // "longer than 120 bytes"
-pub const LIMIT: usize = 120;
+const LIMIT: usize = 120;
 
 // One byte more than a line may have: a longer line is known by it.
-pub const ROOM: usize = 121;
+pub const ROOM: usize = LIMIT + 1;
 
 // The second line has the most numbers: one a block.
-pub const NUMBERS: usize = 16;
+pub const NUMBERS: usize = rules::BLOCKS;
 
 const SPACE: u8 = 32;
 
