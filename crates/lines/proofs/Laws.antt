@@ -15,7 +15,7 @@ use Rattle.rules.proofs.Loops.{fold-append, each-append, every-append, filled-m
 use Rattle.lines.specs.declared.Line.{Line}
 use Rattle.lines.specs.declared.Reading.{Reading}
 use Rattle.lines.specs.Lines.{space, isDigit, wordsAfter, words, value, isNumber, numberLimit, lineLimit, isLine, badLine, saying, lineOf}
-use Rattle.lines.specs.Steps.{badReading, newReading, saidAlso, ended, continued, taken}
+use Rattle.lines.specs.Steps.{betweenWords, badReading, newReading, saidAlso, ended, continued, taken}
 
 -- ---- one byte
 
@@ -100,7 +100,7 @@ module _ (ws : List (List ℕ)) (w : List ℕ) where
       (go (every isNumber ws) (ltb 0 (length w)) (every isDigit w) (ltb (value w) (2 ^ 64)))
     where
       go : (a b c d : Bool) → ended (cond (a && (c && d)) (record { line = saying ws; begun = b; value = value w }) badReading)
-          ≡ cond ((a && (b && c && d && true)) && (true && ltb 0 (2 ^ 64))) (record { line = saidAlso (saying ws) (value w); begun = false; value = 0 }) badReading
+          ≡ cond ((a && (b && c && d && true)) && (true && ltb 0 (2 ^ 64))) (betweenWords (saidAlso (saying ws) (value w))) badReading
       go false b c d = refl
       go true true true true = refl
       go true true true false = refl
@@ -173,7 +173,7 @@ module _ (l : List ℕ) where
       ap (λ (r : Reading). r .line) (reading-words l [] [])
       ∙ rw (le-leb (length l) lineLimit h) (go (every isNumber (words l)))
     where
-      go : (b : Bool) → cond (b && true) (record { line = saying (words l); begun = false; value = 0 }) badReading .line ≡ cond b (saying (words l)) badLine
+      go : (b : Bool) → cond (b && true) (betweenWords (saying (words l))) badReading .line ≡ cond b (saying (words l)) badLine
       go true = refl
       go false = refl
 

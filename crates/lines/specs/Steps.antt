@@ -9,12 +9,16 @@ use Rattle.lines.specs.declared.Line.{Line}
 use Rattle.lines.specs.declared.Reading.{Reading}
 use Rattle.lines.specs.Lines.{space, isDigit, badLine, saying}
 
+-- no word has begun
+abbrev pub betweenWords : Line → Reading
+betweenWords l = record { line = l; begun = false; value = 0 }
+
 abbrev pub badReading : Reading
-badReading = record { line = badLine; begun = false; value = 0 }
+badReading = betweenWords badLine
 
 -- before the first byte
 abbrev pub newReading : Reading
-newReading = record { line = saying []; begun = false; value = 0 }
+newReading = betweenWords (saying [])
 
 -- a line with one number more
 abbrev pub saidAlso : Line → ℕ → Line
@@ -22,7 +26,7 @@ saidAlso l n = record { good = true; count = l .count + 1; numbers = set (l .num
 
 -- a space or the line's end: the word that has begun is a number more; without one the line is bad
 unfoldable pub ended : Reading → Reading
-ended r = if r .begun then record { line = saidAlso (r .line) (r .value); begun = false; value = 0 } else badReading
+ended r = if r .begun then betweenWords (saidAlso (r .line) (r .value)) else badReading
 
 -- a digit, as long as the number fits 64 bits
 unfoldable pub continued : Reading → (digit : ℕ) → Reading

@@ -12,7 +12,7 @@ ghost use Rattle.rules.specs.Zero.{zeroCreation};
 ghost use Rattle.lines.specs.Lines.{badLine, lineOf};
 ghost use Rattle.lines.specs.Meanings.{operandsOf, askedBy, isSum, setWith, namedBy};
 ghost use Rattle.lines.specs.Texts.{decimal, lineWith, answerLine, textOf, followed, bytesOf, cutAt};
-ghost use Rattle.lines.specs.Steps.{badReading, newReading, saidAlso, ended, continued, taken};
+ghost use Rattle.lines.specs.Steps.{betweenWords, badReading, newReading, saidAlso, ended, continued, taken};
 
 // "longer than 120 bytes"
 const LIMIT: usize = 120;
@@ -81,15 +81,21 @@ fn bad_line() -> Line
     }
 }
 
-fn bad_reading() -> Reading
-    ensures { λ r. ⌜ r ≡ badReading ⌝ }
+// A line while it is read, with no word begun.
+fn between(l: Line) -> Reading
+    ensures { λ r. ⌜ r ≡ betweenWords l ⌝ }
 {
-    let l = bad_line();
     Reading {
         line: l,
         begun: false,
         value: 0,
     }
+}
+
+fn bad_reading() -> Reading
+    ensures { λ r. ⌜ r ≡ badReading ⌝ }
+{
+    between(bad_line())
 }
 
 // Before the first byte.
@@ -101,11 +107,7 @@ fn new_reading() -> Reading
         count: 0,
         numbers: [0; NUMBERS],
     };
-    Reading {
-        line: l,
-        begun: false,
-        value: 0,
-    }
+    between(l)
 }
 
 // A line with one number more.
@@ -132,12 +134,7 @@ fn end_word(r: Reading) -> Reading
         return bad_reading();
     }
     let l = r.line;
-    let also = say_also(l, r.value);
-    Reading {
-        line: also,
-        begun: false,
-        value: 0,
-    }
+    between(say_also(l, r.value))
 }
 
 // A digit, as long as the number fits 64 bits.

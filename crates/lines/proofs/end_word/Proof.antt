@@ -16,9 +16,15 @@ returns c = rw (c .bad-reading .ensures, not-true (c .before .before .before .ar
 say-also-requires : tie.Need-say-also-requires
 say-also-requires c κs = search needs
 
+between-requires : tie.Need-between-requires
+between-requires c κs = search needs
+
 returns-2 : tie.Need-returns-2
 unfolding ended
-returns-2 c = rw (c .say-also .ensures, not-false (c .before .before .before .before .args .r .begun) (c .before .before .if1 .left)) refl
+returns-2 c =
+    let c1 = c .before .before .before in
+    rw (c .between .ensures, c .before .say-also .ensures, not-false (c1 .before .before .args .r .begun) (c1 .if1 .left)) refl
 
 pub end-word-spec : {M : Type 1} → statement M
-end-word-spec = tie.close (tie.spec bad-reading-requires returns say-also-requires returns-2)
+end-word-spec =
+    tie.close (tie.spec bad-reading-requires returns say-also-requires between-requires returns-2)
