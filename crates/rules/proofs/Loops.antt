@@ -1,5 +1,6 @@
 -- Loops: what a loop over an array cites, and how a word of the rules is a loop. Over any element
 use Prim.Native.Nat.{ℕ, zero, suc, _+_, _-_, _≤_, _<_, compare·suc-suc, _*_, _/_, _%_}
+use Prim.Native.Nat.{ℕ, zero, suc, _+_, _-_, _≤_, _<_, min, compare·suc-suc}
 use mathlib.Core.Path.{_≡_, refl, sym, ap, _∙_}
 use mathlib.Core.Bool.{Bool, true, false, cond, _&&_, _||_, not, true≢false}
 use mathlib.Core.List.{List, [], _∷_, _++_, append-assoc, append-nil}
@@ -15,6 +16,12 @@ use Rattle.rules.proofs.Lists.{every-number, every-numbers, none-number
 use native.Mathlib.Nat.{mod-lt, div-lt-iff-lt-mul}
 use lib.Arith.{digits-lt, digits-div, digits-mod}
 use Rattle.rules.specs.Codes.{Row, codeOf, _gives_⨾_, granted}
+use lib.ListN.{length, getD, set, take, drop, replicate, drop-of-length-le, length-take}
+use lib.Dec.{ltb}
+use borrow.Author.Tests.{lt-ltb}
+use lib.Seq.{drop-cons, take-suc, take-at, take-all, length-take-le}
+use Rattle.rules.specs.Words.{those, each, joined, every, some, place, fold, from, numbers, filled}
+use Rattle.rules.proofs.Lists.{every-number, every-numbers, none-number, some-number, each-length}
 
 -- ---- a loop over l by its index i: l from i on is the element at i, and l from i + 1 on
 
@@ -478,3 +485,46 @@ every-append p (x ∷ k) l = go (p x) (every-append p k l)
     go : (b : Bool) → every p (k ++ l) ≡ (every p k && every p l) → (b && every p (k ++ l)) ≡ ((b && every p k) && every p l)
     go true h = h
     go false h = refl
+
+module _ {A : Type 0} (d x : A) where
+  replicate-cut : (n m : ℕ) → n ≤ m → take n (replicate m d) ≡ take n (replicate (suc m) d)
+  replicate-cut zero m h = refl
+  replicate-cut (suc n) zero h = absurd (omega arith)
+  replicate-cut (suc n) (suc m) h = ap (λ (t : List A). d ∷ t) (replicate-cut n m (omega arith))
+
+  set-past : (l : List A) (n m : ℕ) → n ≤ m → set (take n (l ++ replicate m d)) (length l) x ≡ take n ((l ++ x ∷ []) ++ replicate m d)
+  set-past [] zero m h = refl
+  set-past [] (suc n) zero h = absurd (omega arith)
+  set-past [] (suc n) (suc m) h = ap (λ (t : List A). x ∷ t) (replicate-cut n m (omega arith))
+  set-past (y ∷ l) zero m h = refl
+  set-past (y ∷ l) (suc n) m h = ap (λ (t : List A). y ∷ t) (set-past l n m (omega arith))
+
+  -- a store behind the last one; where there is no place any more, nothing changes
+  pub filled-more : (n : ℕ) (l : List A) → set (filled n d l) (length l) x ≡ filled n d (l ++ x ∷ [])
+  filled-more n l = set-past l n n (omega arith)
+
+pub filled-whole : {A : Type 0} (d : A) (n : ℕ) (l : List A) → length l ≡ n → filled n d l ≡ l
+filled-whole d n l h = take-at l (replicate n d) n h
+
+-- a loop that fills an array with f of each, by its index i
+pub each-more : {A B : Type 0} (f : A → B) (a : A) (d : B) (n : ℕ) (l : List A) (i : ℕ) → i < length l
+    → set (filled n d (each f (take i l))) i (f (getD l i a)) ≡ filled n d (each f (take (i + 1) l))
+unfolding each
+each-more f a d n l i h =
+    let k : length (each f (take i l)) ≡ i = each-length f (take i l) ∙ length-take-le i l (omega arith) in
+    let more : take (i + 1) l ≡ take i l ++ getD l i a ∷ [] = rw add-one (take-suc l i a h) in
+    ap (λ (j : ℕ). set (filled n d (each f (take i l))) j (f (getD l i a))) (sym k)
+    ∙ filled-more d (f (getD l i a)) n (each f (take i l))
+    ∙ ap (filled n d) (sym (each-append f (take i l) (getD l i a ∷ [])) ∙ ap (each f) (sym more))
+
+-- the first n of an array of m, where n may be more
+pub take-min : {A : Type 0} (n m : ℕ) (l : List A) → length l ≡ m → take (min n m) l ≡ take n l
+take-min n m l h = go (decLe m n)
+  where
+    go : Dec (m ≤ n) → take (min n m) l ≡ take n l
+    go (yes k) =
+        let e : min n m ≡ m = omega arith in
+        rw e (take-all m l (omega arith) ∙ sym (take-all n l (omega arith)))
+    go (no k) =
+        let e : min n m ≡ n = omega arith in
+        rw e refl

@@ -1,0 +1,55 @@
+-- The tests of an event's line and of the first two lines
+use Prim.Native.Nat.{ℕ, _+_, _≤_}
+use mathlib.Core.Path.{_≡_, refl, sym}
+use mathlib.Core.Bool.{Bool, true, false, _&&_}
+use mathlib.Core.List.{List}
+use native.Mathlib.Decide.{decLe}
+use native.Mathlib.Omega.{arith}
+use lib.ListN.{List·getD-eq-default}
+use lib.Dec.{eqb, leb}
+use borrow.Author.Tests.{leb-true}
+use Rattle.rules.specs.declared.Set.{Set}
+use Rattle.rules.specs.Words.{each, every}
+use Rattle.rules.specs.Zero.{zeroCreation}
+use Rattle.rules.proofs.Lists.{every-at}
+use Rattle.lines.specs.declared.Line.{Line}
+use Rattle.lines.specs.Meanings.{numberAt, operandTable, operandsOf, noEvent, askedBy, isSum, setWith, namedBy}
+
+-- ---- operands
+
+pub operands-none : (kind : ℕ) → 17 ≤ kind → 0 ≡ operandsOf kind
+operands-none kind h = sym (List·getD-eq-default operandTable 0 h)
+
+pub operands-few : (kind : ℕ) → operandsOf kind ≤ 3
+unfolding every
+operands-few kind = go (decLe 17 kind)
+  where
+    go : Dec (17 ≤ kind) → operandsOf kind ≤ 3
+    go (yes h) = rw (← operands-none kind h) (omega arith)
+    go (no h) = leb-true (operandsOf kind) 3 (every-at (λ n. leb n 3) operandTable kind 0 refl (omega arith))
+
+-- ---- an event's line
+
+module _ (l : Line) (n : ℕ) (are : n ≡ operandsOf (numberAt l 0)) where
+  pub asked-good : l .good && eqb (l .count) (1 + n) ≡ true
+      → record { good = true; event = record { kind = numberAt l 0; a = numberAt l 1; b = numberAt l 2; c = numberAt l 3 } } ≡ askedBy l
+  unfolding askedBy
+  asked-good h = rw (rw are at h) refl
+
+  pub asked-bad : l .good && eqb (l .count) (1 + n) ≡ false → record { good = false; event = noEvent } ≡ askedBy l
+  unfolding askedBy
+  asked-bad h = rw (rw are at h) refl
+
+-- ---- the first two lines
+
+module _ (first second : Line) (sums : Bool) (are : sums ≡ every isSum (second .numbers)) where
+  pub named-good : first .good && eqb (first .count) 4 && second .good && eqb (second .count) (numberAt first 2) && sums ≡ true
+      → (sets : List Set) → sets ≡ each setWith (second .numbers)
+      → record { good = true; creation = record { hosts = numberAt first 0; chunks = numberAt first 1; blocks = numberAt first 2; age = numberAt first 3; sets = sets } } ≡ namedBy first second
+  unfolding namedBy
+  named-good h sets e = rw (e, rw are at h) refl
+
+  pub named-bad : first .good && eqb (first .count) 4 && second .good && eqb (second .count) (numberAt first 2) && sums ≡ false
+      → record { good = false; creation = zeroCreation } ≡ namedBy first second
+  unfolding namedBy
+  named-bad h = rw (rw are at h) refl

@@ -1,0 +1,12 @@
+-- `lines::no_text` meets its contract
+use mathlib.Core.Path.{refl}
+use Rattle.lines.specs.Texts.{textOf}
+use Rattle.lines.proofs.no_text.Statement.{statement}
+use Rattle.lines.proofs.no_text.Tie as tie
+
+returns : tie.Need-returns
+unfolding textOf
+returns c = refl
+
+pub no-text-spec : {M : Type 1} → statement M
+no-text-spec = tie.close (tie.spec returns)

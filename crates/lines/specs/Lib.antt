@@ -1,0 +1,4 @@
+pub mod Lines
+pub mod Meanings
+pub mod Texts
+pub mod Steps
