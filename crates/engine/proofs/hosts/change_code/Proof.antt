@@ -1,43 +1,39 @@
+-- `hosts::change_code` meets its contract
+use borrow.Author.Tests.{ne-eqb}
+use Rattle.engine.specs.Parts.{changeRefusals}
 use borrow.Author.Needs.{needs}
 use Rattle.engine.proofs.hosts.change_code.Statement.{statement}
 use Rattle.engine.proofs.hosts.change_code.Tie as tie
-use Rattle.engine.proofs.hosts.change_code.Reads as reads
-use Rattle.engine.proofs.hosts.change_code.Lts as lts
-use Rattle.host.proofs.intake_code.Reads as intake-code-reads
-use Rattle.host.proofs.timeout_code.Reads as timeout-code-reads
-use Rattle.host.proofs.working_code.Reads as working-code-reads
 
--- src/hosts.rt:36:14
 intake-code-requires : tie.Need-intake-code-requires
 intake-code-requires c κs = search needs
 
--- src/hosts.rt:37:14
 intake-code-requires-2 : tie.Need-intake-code-requires-2
 intake-code-requires-2 c κs = search needs
 
--- src/hosts.rt:38:14
 timeout-code-requires : tie.Need-timeout-code-requires
 timeout-code-requires c κs = search needs
 
--- src/hosts.rt:39:14
 working-code-requires : tie.Need-working-code-requires
 working-code-requires c κs = search needs
 
--- src/hosts.rt:32:1
 returns : tie.Need-returns
-returns c = ?
+unfolding changeRefusals
+returns c = rw (c .before .match .keys1) (c .intake-code .ensures)
 
--- src/hosts.rt:32:1
 returns-2 : tie.Need-returns-2
-returns-2 c = ?
+unfolding changeRefusals
+returns-2 c = rw (c .before .match .keys2) (c .intake-code2 .ensures)
 
--- src/hosts.rt:32:1
 returns-3 : tie.Need-returns-3
-returns-3 c = ?
+unfolding changeRefusals
+returns-3 c = rw (c .before .match .keys3) (c .timeout-code .ensures)
 
--- src/hosts.rt:32:1
 returns-4 : tie.Need-returns-4
-returns-4 c = ?
+unfolding changeRefusals
+returns-4 c =
+    let r = c .before .match .rest in
+    rw (ne-eqb _ 1 (r .0 .0 .1), ne-eqb _ 2 (r .0 .1), ne-eqb _ 7 (r .1)) (c .working-code .ensures)
 
 pub change-code-spec : {M : Type 1} → statement M
 change-code-spec =

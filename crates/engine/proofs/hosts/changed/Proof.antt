@@ -1,52 +1,46 @@
+-- `hosts::changed` meets its contract
+use borrow.Author.Tests.{ne-eqb}
+use Rattle.engine.specs.Parts.{changedHost}
 use borrow.Author.Needs.{needs}
 use Rattle.engine.proofs.hosts.changed.Statement.{statement}
 use Rattle.engine.proofs.hosts.changed.Tie as tie
-use Rattle.engine.proofs.hosts.changed.Reads as reads
-use Rattle.engine.proofs.hosts.changed.Lts as lts
-use Rattle.host.proofs.append.Reads as append-reads
-use Rattle.host.proofs.refresh.Reads as refresh-reads
-use Rattle.host.proofs.stop.Reads as stop-reads
-use Rattle.host.proofs.time_out.Reads as time-out-reads
 
--- src/hosts.rt:48:14
 append-requires : tie.Need-append-requires
 append-requires c κs = search needs
 
--- src/hosts.rt:49:14
 append-requires-2 : tie.Need-append-requires-2
 append-requires-2 c κs = search needs
 
--- src/hosts.rt:50:14
 time-out-requires : tie.Need-time-out-requires
 time-out-requires c κs = search needs
 
--- src/hosts.rt:51:14
 refresh-requires : tie.Need-refresh-requires
 refresh-requires c κs = search needs
 
--- src/hosts.rt:52:14
 stop-requires : tie.Need-stop-requires
 stop-requires c κs = search needs
 
--- src/hosts.rt:43:1
 returns : tie.Need-returns
-returns c = ?
+unfolding changedHost
+returns c = rw (c .before .match .keys1) (c .append .ensures)
 
--- src/hosts.rt:43:1
 returns-2 : tie.Need-returns-2
-returns-2 c = ?
+unfolding changedHost
+returns-2 c = rw (c .before .match .keys2) (c .append2 .ensures)
 
--- src/hosts.rt:43:1
 returns-3 : tie.Need-returns-3
-returns-3 c = ?
+unfolding changedHost
+returns-3 c = rw (c .before .match .keys3) (c .time-out .ensures)
 
--- src/hosts.rt:43:1
 returns-4 : tie.Need-returns-4
-returns-4 c = ?
+unfolding changedHost
+returns-4 c = rw (c .before .match .keys4) (c .refresh .ensures)
 
--- src/hosts.rt:43:1
 returns-5 : tie.Need-returns-5
-returns-5 c = ?
+unfolding changedHost
+returns-5 c =
+    let r = c .before .match .rest in
+    rw (ne-eqb _ 1 (r .0 .0 .0 .1), ne-eqb _ 2 (r .0 .0 .1), ne-eqb _ 7 (r .0 .1), ne-eqb _ 8 (r .1)) (c .stop .ensures)
 
 pub changed-spec : {M : Type 1} → statement M
 changed-spec =

@@ -1,100 +1,113 @@
+-- `hosts::start` meets its contract
+use Prim.Native.Nat.{_<_}
+use mathlib.Core.Path.{_≡_, sym, _∙_}
+use mathlib.Core.Bool.{true}
+use borrow.Author.Tests.{not-true, not-false}
+use Rattle.rules.specs.Codes.{codeOf}
+use Rattle.rules.specs.Events.{ruleOf}
+use Rattle.rules.specs.Limits.{hostLimit}
+use Rattle.engine.specs.Parts.{hostRanges}
+use Rattle.engine.proofs.HostLaws.{outside, refuses, grants, host-below, front-below, start-drawn, start-ranges, start-code, start-effect}
 use borrow.Author.Needs.{needs}
 use Rattle.engine.proofs.hosts.start.Statement.{statement}
 use Rattle.engine.proofs.hosts.start.Tie as tie
-use Rattle.engine.proofs.hosts.start.Reads as reads
-use Rattle.engine.proofs.hosts.start.Lts as lts
-use Rattle.engine.proofs.grant.Reads as grant-reads
-use Rattle.engine.proofs.hosts.holders_of.Reads as holders-of-reads
-use Rattle.engine.proofs.hosts.in_range.Reads as in-range-reads
-use Rattle.engine.proofs.refuse.Reads as refuse-reads
-use Rattle.host.proofs.draw.Reads as draw-reads
-use Rattle.host.proofs.front.Reads as front-reads
-use Rattle.host.proofs.opening_to.Reads as opening-to-reads
-use Rattle.host.proofs.start.Reads as start-reads
-use Rattle.host.proofs.start_code.Reads as start-code-reads
-use Rattle.network.proofs.free_places.Reads as free-places-reads
-use Rattle.network.proofs.how_many.Reads as how-many-reads
-use Rattle.network.proofs.open.Reads as open-reads
 
--- src/hosts.rt:95:9
+-- past the ranges
+inside : (c : tie.Else1) → let a = c .before .before .before .args in hostRanges (a .t1 .creation) (a .e) ≡ true
+inside c = sym (c .before .in-range .ensures) ∙ not-false _ (c .if1 .left)
+
+below : (c : tie.Else1) → c .before .before .before .args .e .a < hostLimit
+below c = let s = c .before .before .before in host-below (s .args .t1) (s .args .e) (s .pre .0) (inside c)
+
+-- what the code gathered gives the rule's code
+code-is : (c : tie.After-start-code) → let a = c .before .before .before .before .before .before .before .before .before .before .before .args in c .start-code .result ≡ codeOf (ruleOf (a .t1) (a .e) .refusals)
+code-is c =
+    let s = c .before .before .before .before .before .before .before .before .before .before .before in
+    let to = c .before .before .before in
+    start-code (s .args .t1) (s .args .e) (s .pre .1) _ _ _ (to .before .before .front .ensures) (to .before .holders-of .ensures) (to .opening-to .ensures)
+    _ _ _ (c .before .before .free-places .ensures) (c .before .how-many .ensures) (c .start-code .ensures)
+
 in-range-requires : tie.Need-in-range-requires
 in-range-requires c κs = search needs
 
--- src/hosts.rt:96:9
 refuse-requires : tie.Need-refuse-requires
 refuse-requires c κs = search needs
 
--- src/hosts.rt:96:9
 returns : tie.Need-returns
-returns c = ?
+returns c =
+    let s = c .before .before .before .before in
+    c .refuse .ensures
+    ∙ outside (s .args .t1) (s .args .e) (s .pre .0) (start-ranges (s .args .t1) (s .args .e) (s .pre .1))
+    (sym (c .before .before .in-range .ensures) ∙ not-true _ (c .before .if1 .taken))
 
--- src/hosts.rt:99:15
 mul-old : tie.Need-mul-old
-mul-old c = ?
+mul-old c = let k = below c in search needs
 
--- src/hosts.rt:99:15
 element-copy-out-old : tie.Need-element-copy-out-old
-element-copy-out-old c = ?
+element-copy-out-old c = below c
 
--- src/hosts.rt:101:9
 front-requires : tie.Need-front-requires
 front-requires c κs = search needs
 
--- src/hosts.rt:103:9
 holders-of-requires : tie.Need-holders-of-requires
-holders-of-requires c κs = ?
+holders-of-requires c κs =
+    let g = c .before .before .before in
+    let s = g .before .before .before in
+    rw (c .front .ensures) (front-below (s .args .t1) (s .args .e) (s .pre .0) (inside g))
 
--- src/hosts.rt:104:9
 opening-to-requires : tie.Need-opening-to-requires
 opening-to-requires c κs = search needs
 
--- src/hosts.rt:105:57
 free-places-requires : tie.Need-free-places-requires
 free-places-requires c κs = search needs
 
--- src/hosts.rt:105:87
 how-many-requires : tie.Need-how-many-requires
 how-many-requires c κs = search needs
 
--- src/hosts.rt:105:9
 start-code-requires : tie.Need-start-code-requires
 start-code-requires c κs = search needs
 
--- src/hosts.rt:107:9
 refuse-requires-2 : tie.Need-refuse-requires-2
 refuse-requires-2 c κs = search needs
 
--- src/hosts.rt:107:9
 returns-2 : tie.Need-returns-2
-returns-2 c = ?
+returns-2 c =
+    let k = c .before .before in
+    let g = k .before .before .before .before .before .before .before .before in
+    let s = g .before .before .before in
+    c .refuse2 .ensures
+    ∙ refuses (s .args .t1) (s .args .e) (s .pre .0) (start-ranges (s .args .t1) (s .args .e) (s .pre .1)) (inside g) _ (code-is k) (c .before .if2 .taken)
 
--- src/hosts.rt:109:9
 draw-requires : tie.Need-draw-requires
 draw-requires c κs = search needs
 
--- src/hosts.rt:112:9
 start-requires : tie.Need-start-requires
 start-requires c κs = search needs
 
--- src/hosts.rt:113:9
 open-requires : tie.Need-open-requires
 open-requires c κs = search needs
 
--- src/hosts.rt:115:5
 mul-new : tie.Need-mul-new
-mul-new c = ?
+mul-new c = let k = below (c .before .before .before .before .before .before .before .before .before .before .before .before .before .before) in search needs
 
--- src/hosts.rt:115:5
 element-set-from-new : tie.Need-element-set-from-new
-element-set-from-new c = ?
+element-set-from-new c = below (c .before .before .before .before .before .before .before .before .before .before .before .before .before .before)
 
--- src/hosts.rt:117:5
 grant-requires : tie.Need-grant-requires
 grant-requires c κs = search needs
 
--- src/hosts.rt:90:1
 returns-3 : tie.Need-returns-3
-returns-3 c = ?
+returns-3 c =
+    let d = c .before .before .before .before .before in
+    let k = d .before .before in
+    let to = k .before .before .before in
+    let g = to .before .before .before .before .before in
+    let s = g .before .before .before in
+    let h = start-drawn (s .args .t1 .creation) (s .args .e) _ _ _ _ (s .pre .1) (inside g) (below g) (sym (k .start-code .ensures) ∙ d .before .if2 .left) in
+    c .grant .ensures
+    ∙ start-effect (s .args .t1) (s .args .e) (s .pre .1) _ _ _ (to .before .before .front .ensures) (to .before .holders-of .ensures) (to .opening-to .ensures)
+    _ _ _ (d .draw .ensures ∙ h) (c .before .before .start .ensures) (c .before .«open» .ensures)
+    ∙ grants (s .args .t1) (s .args .e) (s .pre .0) (start-ranges (s .args .t1) (s .args .e) (s .pre .1)) (inside g) (sym (code-is k) ∙ d .before .if2 .left)
 
 pub start-spec : {M : Type 1} → statement M
 start-spec =
