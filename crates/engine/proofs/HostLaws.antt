@@ -139,21 +139,21 @@ module _ (t : Table) (e : Event) where
 
 -- ---- start: o, holders and to are what the code gathers
 
--- the keeper hands out the clock of a granted start
-pub start-drawn : (k : Creation) (e : Event) (h : Host) (holders : Set) (free n : ℕ) → e .kind ≡ 3 → hostRanges k e ≡ true
-    → e .a < hostLimit → codeOf (startRefusals h (e .b) (e .c) holders free n) ≡ 0
-    → drawn (record { host = e .a; last = h .clock }) (e .b)
-    ≡ record { keeper = record { host = e .a; last = e .b }; code = 0; timestamp = stamp (e .b) (e .a) }
-unfolding hostRanges every codeOf drawn
-start-drawn k e h holders free n kind inside below granted =
-    let clock = three (isHost k (e .a)) (oneTo greatestClock (e .b)) (isChunk k (e .c)) (rw kind at inside) .1 in
-    let above = granted-exactly (startRefusals h (e .b) (e .c) holders free n) refl .0 granted 5 (omega arith) in
-    rw (lt-leb hostLimit (e .a) below, le-ltb greatestClock (e .b) (one-to greatestClock (e .b) clock .1), above) refl
-
 module _ (t : Table) (e : Event) (kind : e .kind ≡ 3) where
   pub start-ranges : ruleOf t e .ranges ≡ hostRanges (t .creation) e
   unfolding hostRanges ruleOf startRule
   start-ranges = rw kind refl
+
+  -- the keeper hands out the clock of a granted start
+  pub start-drawn : wellFormed t ≡ true → hostRanges (t .creation) e ≡ true → codeOf (ruleOf t e .refusals) ≡ 0
+      → drawn (record { host = e .a; last = hostOf t (e .a) .clock }) (e .b)
+      ≡ record { keeper = record { host = e .a; last = e .b }; code = 0; timestamp = stamp (e .b) (e .a) }
+  unfolding hostRanges ruleOf startRule every codeOf drawn
+  start-drawn ok inside granted =
+      let operands = three (isHost (t .creation) (e .a)) (oneTo greatestClock (e .b)) (isChunk (t .creation) (e .c)) (rw kind at inside) in
+      let clock = one-to greatestClock (e .b) (operands .1) .1 in
+      let above = granted-exactly (startRule t (e .a) (e .b) (e .c) .refusals) refl .0 (rw kind at granted) 5 (omega arith) in
+      rw (lt-leb hostLimit (e .a) (host-below t e ok inside), le-ltb greatestClock (e .b) clock, above) refl
 
   module _ (o : Operation) (holders to : Set) (o-is : o ≡ front (hostOf t (e .a)))
       (holders-are : holders ≡ setOf (t .creation) (o .block)) (to-is : to ≡ openingTo (o .action) (e .c) holders) where

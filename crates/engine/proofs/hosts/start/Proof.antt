@@ -103,11 +103,11 @@ returns-3 c =
     let to = k .before .before .before in
     let g = to .before .before .before .before .before in
     let s = g .before .before .before in
-    let h = start-drawn (s .args .t1 .creation) (s .args .e) _ _ _ _ (s .pre .1) (inside g) (below g) (sym (k .start-code .ensures) ∙ d .before .if2 .left) in
+    let granted = sym (code-is k) ∙ d .before .if2 .left in
     c .grant .ensures
     ∙ start-effect (s .args .t1) (s .args .e) (s .pre .1) _ _ _ (to .before .before .front .ensures) (to .before .holders-of .ensures) (to .opening-to .ensures)
-    _ _ _ (d .draw .ensures ∙ h) (c .before .before .start .ensures) (c .before .«open» .ensures)
-    ∙ grants (s .args .t1) (s .args .e) (s .pre .0) (start-ranges (s .args .t1) (s .args .e) (s .pre .1)) (inside g) (sym (code-is k) ∙ d .before .if2 .left)
+    _ _ _ (d .draw .ensures ∙ start-drawn (s .args .t1) (s .args .e) (s .pre .1) (s .pre .0) (inside g) granted) (c .before .before .start .ensures) (c .before .«open» .ensures)
+    ∙ grants (s .args .t1) (s .args .e) (s .pre .0) (start-ranges (s .args .t1) (s .args .e) (s .pre .1)) (inside g) granted
 
 pub start-spec : {M : Type 1} → statement M
 start-spec =
