@@ -1,7 +1,14 @@
 // The events of one host: operations come in, one starts and finishes, it times out, learns the epoch, stops.
 use host::Keeper;
-use rules::{Action, Answer, Creation, Epoch, Event, Host, Operation, Set, Table};
-
+use rules::Action;
+use rules::Answer;
+use rules::Creation;
+use rules::Epoch;
+use rules::Event;
+use rules::Host;
+use rules::Operation;
+use rules::Set;
+use rules::Table;
 ghost use mathlib.Core.Path.{_≡_};
 ghost use mathlib.Core.Bool.{true};
 ghost use Prim.Native.Nat.{_<_};
@@ -45,8 +52,20 @@ fn changed(e: Event, h: Host, epoch: Epoch) -> Host
 {
     let kind = e.kind;
     match kind {
-        1 => host::append(h, Operation { block: e.b, action: Action::Read }),
-        2 => host::append(h, Operation { block: e.b, action: Action::Write(e.c) }),
+        1 => host::append(
+            h,
+            Operation {
+                block: e.b,
+                action: Action::Read,
+            },
+        ),
+        2 => host::append(
+            h,
+            Operation {
+                block: e.b,
+                action: Action::Write(e.c),
+            },
+        ),
         7 => host::time_out(h),
         8 => host::refresh(h, epoch),
         _ => host::stop(h),
@@ -58,8 +77,8 @@ pub fn change(t: Table, e: Event) -> Answer
     requires { ⌜ (wellFormed t ≡ true) × (isHostChange (e .kind) ≡ true) ⌝ }
     ensures { λ r. ⌜ r ≡ step t e ⌝ }
 {
-    let k = t.creation;
-    if !in_range(k, e) {
+    let creation = t.creation;
+    if !in_range(creation, e) {
         return super::refuse(t, 1);
     }
     let i = e.a as usize;
@@ -91,22 +110,30 @@ pub fn start(t: Table, e: Event) -> Answer
     requires { ⌜ (wellFormed t ≡ true) × (e .kind ≡ 3) ⌝ }
     ensures { λ r. ⌜ r ≡ step t e ⌝ }
 {
-    let k = t.creation;
-    if !in_range(k, e) {
+    let creation = t.creation;
+    if !in_range(creation, e) {
         return super::refuse(t, 1);
     }
+    let clock = e.b;
+    let copy = e.c;
     let i = e.a as usize;
     let old = t.hosts[i];
     let places = t.places;
     let o = host::front(old);
     let action = o.action;
-    let holders = holders_of(k, o);
-    let to = host::opening_to(action, e.c, holders);
-    let code = host::start_code(old, e.b, e.c, holders, network::free_places(places), network::how_many(to));
+    let holders = holders_of(creation, o);
+    let to = host::opening_to(action, copy, holders);
+    let free = network::free_places(places);
+    let messages = network::how_many(to);
+    let code = host::start_code(old, clock, copy, holders, free, messages);
     if code != 0 {
         return super::refuse(t, code);
     }
-    let drawn = host::draw(Keeper { host: e.a, last: old.clock }, e.b);
+    let keeper = Keeper {
+        host: e.a,
+        last: old.clock,
+    };
+    let drawn = host::draw(keeper, clock);
     let now = drawn.timestamp;
     let epoch = old.epoch;
     let new = host::start(old, now, drawn.keeper.last, to);
@@ -122,8 +149,8 @@ pub fn finish(t: Table, e: Event) -> Answer
     requires { ⌜ (wellFormed t ≡ true) × (e .kind ≡ 6) ⌝ }
     ensures { λ r. ⌜ r ≡ step t e ⌝ }
 {
-    let k = t.creation;
-    if !in_range(k, e) {
+    let creation = t.creation;
+    if !in_range(creation, e) {
         return super::refuse(t, 1);
     }
     let i = e.a as usize;
@@ -131,9 +158,11 @@ pub fn finish(t: Table, e: Event) -> Answer
     let places = t.places;
     let o = host::front(old);
     let action = o.action;
-    let holders = holders_of(k, o);
+    let holders = holders_of(creation, o);
     let to = host::closing_to(action, holders);
-    let code = host::finish_code(old, network::free_places(places), network::how_many(to));
+    let free = network::free_places(places);
+    let messages = network::how_many(to);
+    let code = host::finish_code(old, free, messages);
     if code != 0 {
         return super::refuse(t, code);
     }
@@ -145,5 +174,9 @@ pub fn finish(t: Table, e: Event) -> Answer
     out.hosts[i] = new;
     out.places = sent;
     let outcome = host::finish_outcome(e.a, old);
-    Answer { table: out, code: 0, outcome: outcome }
+    Answer {
+        table: out,
+        code: 0,
+        outcome: outcome,
+    }
 }
