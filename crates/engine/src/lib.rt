@@ -1,4 +1,7 @@
 // The access engine: creation and the single-event step. Only this crate holds the table; what it calls is handed parts.
+mod chunks;
+mod mail;
+
 use rules::{Answer, Outcome, Table};
 
 ghost use mathlib.Core.Path.{_≡_};
