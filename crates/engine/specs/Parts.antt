@@ -33,13 +33,14 @@ use Rattle.engine.specs.declared.mail.Delivered.{Delivered}
 abbrev pub isChunkChange : (kind : ℕ) → Bool
 isChunkChange k = eqb k 12 || eqb k 13 || eqb k 14 || eqb k 16
 
--- an overdue block has its number and the time beside the chunk's number; the other events of a chunk have that alone
+-- a chunk's event has the chunk's number; a run and an overdue have a block's too, an overdue the time
 abbrev pub chunkRanges : Creation → Event → Bool
 chunkRanges k e =
     if eqb (e .kind) 16 then isChunk k (e .a) && isBlock k (e .b) && upTo greatestClock (e .c) else
+    if eqb (e .kind) 9 then isChunk k (e .a) && isBlock k (e .b) && unused (e .c) else
     isChunk k (e .a) && unused (e .b) && unused (e .c)
 
--- the code of such an event, and the chunk after it where that is 0; w waits for the event's block
+-- the code of a chunk's change, and the chunk after it where that is 0; w waits for the event's block
 abbrev pub changedChunk : Event → Chunk → Waiting → (age : ℕ) → Changed
 changedChunk e c w age =
     if eqb (e .kind) 12 then record { code = codeOf (recoverRefusals (c .state)); chunk = recovered c } else
@@ -69,8 +70,12 @@ abbrev pub atWorking : Host → Message → Host
 atWorking h m = if h .working then atHost h m else h
 
 -- a place's message at the host and the chunk that it names: a request is the chunk's, a reply the host's
+abbrev pub toChunk : (blocks : ℕ) → Host → Chunk → Record → Message → Delivered
+toChunk blocks h c r m = record { host = h; block = atNormal blocks c r m .block; reply = atNormal blocks c r m .reply }
+
+abbrev pub toHost : Host → Record → Message → Delivered
+toHost h r m = record { host = atWorking h m; block = r; reply = Slot.Empty }
+
 abbrev pub delivered : (blocks : ℕ) → Host → Chunk → Record → Slot → Delivered
 delivered blocks h c r Slot.Empty = record { host = h; block = r; reply = Slot.Empty }
-delivered blocks h c r (Slot.Full m) =
-    if isForChunk m then record { host = h; block = atNormal blocks c r m .block; reply = atNormal blocks c r m .reply } else
-    record { host = atWorking h m; block = r; reply = Slot.Empty }
+delivered blocks h c r (Slot.Full m) = if isForChunk m then toChunk blocks h c r m else toHost h r m

@@ -20,12 +20,16 @@ struct Changed {
     chunk: Chunk,
 }
 
-// An overdue block has a number and a time beside its chunk's, the other events of a chunk have none.
+// A chunk, for two of the kinds a block, and for overdue the time.
 fn in_range(k: Creation, e: Event) -> bool
     ensures { λ r. ⌜ r ≡ chunkRanges k e ⌝ }
 {
-    if e.kind == 16 {
+    let kind = e.kind;
+    if kind == 16 {
         return (e.a < k.chunks) & (e.b < k.blocks) & (e.c <= GREATEST_CLOCK);
+    }
+    if kind == 9 {
+        return (e.a < k.chunks) & (e.b < k.blocks) & (e.c == 0);
     }
     (e.a < k.chunks) & (e.b == 0) & (e.c == 0)
 }
@@ -74,7 +78,7 @@ pub fn run(t: Table, e: Event) -> Answer
     ensures { λ r. ⌜ r ≡ step t e ⌝ }
 {
     let creation = t.creation;
-    if !((e.a < creation.chunks) & (e.b < creation.blocks) & (e.c == 0)) {
+    if !in_range(creation, e) {
         return super::refuse(t, 1);
     }
     let i = e.a as usize;

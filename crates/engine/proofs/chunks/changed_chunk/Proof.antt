@@ -1,16 +1,8 @@
+use mathlib.Core.Path.{refl}
+use Rattle.engine.proofs.ChunkLaws.{overdue-changed}
 use borrow.Author.Needs.{needs}
 use Rattle.engine.proofs.chunks.changed_chunk.Statement.{statement}
 use Rattle.engine.proofs.chunks.changed_chunk.Tie as tie
-use Rattle.engine.proofs.chunks.changed_chunk.Reads as reads
-use Rattle.engine.proofs.chunks.changed_chunk.Lts as lts
-use Rattle.chunk.proofs.give_lease.Reads as give-lease-reads
-use Rattle.chunk.proofs.give_lease_code.Reads as give-lease-code-reads
-use Rattle.chunk.proofs.overdue.Reads as overdue-reads
-use Rattle.chunk.proofs.overdue_code.Reads as overdue-code-reads
-use Rattle.chunk.proofs.recover.Reads as recover-reads
-use Rattle.chunk.proofs.recover_code.Reads as recover-code-reads
-use Rattle.chunk.proofs.take_lease.Reads as take-lease-reads
-use Rattle.chunk.proofs.take_lease_code.Reads as take-lease-code-reads
 
 -- src/chunks.rt:40:31
 recover-code-requires : tie.Need-recover-code-requires
@@ -46,19 +38,22 @@ overdue-requires c κs = search needs
 
 -- src/chunks.rt:34:1
 returns : tie.Need-returns
-returns c = ?
+returns c = rw (c .before .before .match .keys1, c .before .recover-code .ensures, c .recover .ensures) refl
 
 -- src/chunks.rt:34:1
 returns-2 : tie.Need-returns-2
-returns-2 c = ?
+returns-2 c = rw (c .before .before .match .keys2, c .before .take-lease-code .ensures, c .take-lease .ensures) refl
 
 -- src/chunks.rt:34:1
 returns-3 : tie.Need-returns-3
-returns-3 c = ?
+returns-3 c = rw (c .before .before .match .keys3, c .before .give-lease-code .ensures, c .give-lease .ensures) refl
 
 -- src/chunks.rt:34:1
 returns-4 : tie.Need-returns-4
-returns-4 c = ?
+returns-4 c =
+    let a = c .before .before .before .args in
+    let other = c .before .before .match .rest in
+    overdue-changed (a .e) (a .c) (a .w) (a .age) _ _ (other .0 .0 .1) (other .0 .1) (other .1) (c .before .overdue-code .ensures) (c .overdue .ensures)
 
 pub changed-chunk-spec : {M : Type 1} → statement M
 changed-chunk-spec =

@@ -1,9 +1,7 @@
+use mathlib.Core.Path.{refl}
 use borrow.Author.Needs.{needs}
 use Rattle.engine.proofs.mail.address.Statement.{statement}
 use Rattle.engine.proofs.mail.address.Tie as tie
-use Rattle.engine.proofs.mail.address.Reads as reads
-use Rattle.engine.proofs.mail.address.Lts as lts
-use Rattle.network.proofs.header_of.Reads as header-of-reads
 
 -- src/mail.rt:28:73
 enum-told : tie.Need-enum-told
@@ -19,7 +17,7 @@ header-of-requires c κs = search needs
 
 -- src/mail.rt:24:1
 returns : tie.Need-returns
-returns c = ?
+returns c = rw (c .enum-told .given .1) refl
 
 -- src/mail.rt:24:1
 returns-2 : tie.Need-returns-2

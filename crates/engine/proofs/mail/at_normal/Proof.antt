@@ -1,9 +1,7 @@
+use mathlib.Core.Path.{refl}
 use borrow.Author.Needs.{needs}
 use Rattle.engine.proofs.mail.at_normal.Statement.{statement}
 use Rattle.engine.proofs.mail.at_normal.Tie as tie
-use Rattle.engine.proofs.mail.at_normal.Reads as reads
-use Rattle.engine.proofs.mail.at_normal.Lts as lts
-use Rattle.chunk.proofs.arrive.Reads as arrive-reads
 
 -- src/mail.rt:40:26
 enum-told : tie.Need-enum-told
@@ -23,15 +21,15 @@ enum-told-3 c = search needs
 
 -- src/mail.rt:34:1
 returns : tie.Need-returns
-returns c = ?
+returns c = rw (c .before .enum-told .given .1) (c .arrive .ensures)
 
 -- src/mail.rt:34:1
 returns-2 : tie.Need-returns-2
-returns-2 c = ?
+returns-2 c = rw (c .enum-told2 .given .1) refl
 
 -- src/mail.rt:34:1
 returns-3 : tie.Need-returns-3
-returns-3 c = ?
+returns-3 c = rw (c .enum-told3 .given .1) refl
 
 pub at-normal-spec : {M : Type 1} → statement M
 at-normal-spec =

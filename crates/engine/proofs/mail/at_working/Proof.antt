@@ -1,9 +1,6 @@
 use borrow.Author.Needs.{needs}
 use Rattle.engine.proofs.mail.at_working.Statement.{statement}
 use Rattle.engine.proofs.mail.at_working.Tie as tie
-use Rattle.engine.proofs.mail.at_working.Reads as reads
-use Rattle.engine.proofs.mail.at_working.Lts as lts
-use Rattle.host.proofs.at_host.Reads as at-host-reads
 
 -- src/mail.rt:51:9
 at-host-requires : tie.Need-at-host-requires
@@ -11,7 +8,7 @@ at-host-requires c κs = search needs
 
 -- src/mail.rt:51:9
 returns : tie.Need-returns
-returns c = ?
+returns c = rw (c .before .if1 .taken) (c .at-host .ensures)
 
 -- src/mail.rt:47:1
 returns-2 : tie.Need-returns-2

@@ -1,11 +1,7 @@
+use mathlib.Core.Path.{refl, sym, _∙_}
 use borrow.Author.Needs.{needs}
 use Rattle.engine.proofs.mail.delivery.Statement.{statement}
 use Rattle.engine.proofs.mail.delivery.Tie as tie
-use Rattle.engine.proofs.mail.delivery.Reads as reads
-use Rattle.engine.proofs.mail.delivery.Lts as lts
-use Rattle.engine.proofs.mail.at_normal.Reads as at-normal-reads
-use Rattle.engine.proofs.mail.at_working.Reads as at-working-reads
-use Rattle.network.proofs.is_for_chunk.Reads as is-for-chunk-reads
 
 -- src/mail.rt:61:62
 enum-told : tie.Need-enum-told
@@ -29,15 +25,19 @@ at-working-requires c κs = search needs
 
 -- src/mail.rt:57:1
 returns : tie.Need-returns
-returns c = ?
+returns c = rw (c .enum-told .given .1) refl
 
 -- src/mail.rt:57:1
 returns-2 : tie.Need-returns-2
-returns-2 c = ?
+returns-2 c =
+    let f = c .before .before .before in
+    rw (f .before .before .s .given .1, sym (f .is-for-chunk .ensures) ∙ c .before .before .if1 .taken, c .before .at-normal .ensures) refl
 
 -- src/mail.rt:57:1
 returns-3 : tie.Need-returns-3
-returns-3 c = ?
+returns-3 c =
+    let f = c .before .before in
+    rw (f .before .before .s .given .1, sym (f .is-for-chunk .ensures) ∙ c .before .if1 .left, c .at-working .ensures) refl
 
 pub delivery-spec : {M : Type 1} → statement M
 delivery-spec =
