@@ -1,1 +1,3 @@
 pub mod HostLaws
+pub mod ChunkLaws
+pub mod MailLaws

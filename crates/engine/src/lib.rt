@@ -1,5 +1,7 @@
 // The access engine: creation and the single-event step. Only this crate holds the table; what it calls is handed parts.
+mod chunks;
 mod hosts;
+mod mail;
 
 use rules::Answer;
 use rules::Outcome;
