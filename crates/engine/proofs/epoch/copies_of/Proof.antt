@@ -2,12 +2,13 @@ use Prim.Native.Nat.{ℕ, _-_, _≤_}
 use mathlib.Core.Path.{_≡_, refl, sym, ap, _∙_}
 use native.Mathlib.Omega.{arith}
 use mathlib.Core.List.{List}
-use lib.ListN.{getD, length-replicate}
+use mathlib.Core.Bool.{false}
+use lib.ListN.{getD, replicate, length-replicate}
 use Rattle.rules.specs.declared.Set.{Set}
 use Rattle.rules.specs.declared.Record.{Record}
 use Rattle.rules.specs.declared.Chunk.{Chunk}
 use Rattle.rules.specs.declared.Copy.{Copy}
-use Rattle.rules.specs.Tables.{at}
+use Rattle.rules.specs.Tables.{at, setOf}
 use Rattle.rules.specs.Zero.{_among_, noRecord, noCopy, noChunk}
 use Rattle.engine.proofs.Arrays.{made, made-begin, made-next, made-end}
 use borrow.Author.Needs.{needs}
@@ -24,6 +25,16 @@ Inv-loop b chunks records set out₀ c₀ out c = (c ≤ 8) × (out ≡ made (co
 abbrev μ-loop : tie.MeasureT-loop
 μ-loop b chunks records set out₀ c₀ out c = 8 - c
 
+-- what the array has in its places at first, and what is made there
+abbrev begun : tie.Start Inv-loop μ-loop → Copy
+begun c = record { member = false; lost = false; block = getD (c .args .t3) (c .args .b) noRecord }
+
+abbrev old : tie.Start Inv-loop μ-loop → ℕ → Copy
+old c i = getD (replicate 8 (begun c)) i noCopy
+
+abbrev new : tie.Start Inv-loop μ-loop → ℕ → Copy
+new c = copyIn (setOf (c .args .t1) (c .args .b)) (c .args .t2) (c .args .t3) (c .args .b)
+
 mul-set : tie.Need-mul-set Inv-loop μ-loop
 mul-set c = search needs
 
@@ -37,7 +48,9 @@ array-copy-out-any : tie.Need-array-copy-out-any Inv-loop μ-loop
 array-copy-out-any c = search needs
 
 loop-holds : tie.Need-loop-holds Inv-loop μ-loop
-loop-holds c = (search needs, made-begin _ (λ i. getD _ i noCopy) 8 noCopy _ (length-replicate 8 _) (λ _ _. refl))
+loop-holds c =
+    let s = c .before .before in
+    (search needs, made-begin (new s) (old s) 8 noCopy (replicate 8 (begun s)) (length-replicate 8 (begun s)) (λ _ _. refl))
 
 element-copy-out-member : tie.Need-element-copy-out-member Inv-loop μ-loop
 element-copy-out-member c = search needs
@@ -48,17 +61,17 @@ mul-chunk c = search needs
 array-copy-out-chunk : tie.Need-array-copy-out-chunk Inv-loop μ-loop
 array-copy-out-chunk c = search needs
 
-mul-record : tie.Need-mul-record Inv-loop μ-loop
-mul-record c = search needs
+mul-held : tie.Need-mul-held Inv-loop μ-loop
+mul-held c = search needs
 
-add-record : tie.Need-add-record Inv-loop μ-loop
-add-record c = search needs
+add-held : tie.Need-add-held Inv-loop μ-loop
+add-held c = search needs
 
-mul-record-2 : tie.Need-mul-record-2 Inv-loop μ-loop
-mul-record-2 c = search needs
+mul-held-2 : tie.Need-mul-held-2 Inv-loop μ-loop
+mul-held-2 c = search needs
 
-array-copy-out-record : tie.Need-array-copy-out-record Inv-loop μ-loop
-array-copy-out-record c = search needs
+array-copy-out-held : tie.Need-array-copy-out-held Inv-loop μ-loop
+array-copy-out-held c = search needs
 
 mul-out : tie.Need-mul-out Inv-loop μ-loop
 mul-out c = search needs
@@ -75,13 +88,15 @@ loop-less c = search needs
 loop-again : tie.Need-loop-again Inv-loop μ-loop
 loop-again c =
     let l = c .before .before .before .before in
-    (omega arith, rw (l .loop .inv .1) (made-next _ _ 8 (l .loop .c) (omega arith)))
+    let s = l .before .before .before in
+    (omega arith, rw (l .loop .inv .1) (made-next (new s) (old s) 8 (l .loop .c) (omega arith)))
 
 returns : tie.Need-returns Inv-loop μ-loop
 returns c =
     let l = c .before in
     let e : l .loop .c ≡ 8 = omega arith in
-    (rw e at (l .loop .inv .1)) ∙ made-end _ _ 8
+    let s = l .before .before .before in
+    l .loop .inv .1 ∙ ap (made (new s) (old s) 8) e ∙ made-end (new s) (old s) 8
 
 pub copies-of-spec : {M : Type 1} → statement M
 copies-of-spec =
@@ -97,10 +112,10 @@ copies-of-spec =
     element-copy-out-member
     mul-chunk
     array-copy-out-chunk
-    mul-record
-    add-record
-    mul-record-2
-    array-copy-out-record
+    mul-held
+    add-held
+    mul-held-2
+    array-copy-out-held
     mul-out
     array-set-from-out
     add-c

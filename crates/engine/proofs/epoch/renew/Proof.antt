@@ -1,8 +1,12 @@
 use Prim.Native.Nat.{ℕ, _-_, _≤_}
 use mathlib.Core.Path.{_≡_, refl, sym, ap, _∙_}
 use native.Mathlib.Omega.{arith}
+use mathlib.Core.Bool.{false}
 use lib.ListN.{length, getD}
-use Rattle.rules.specs.Zero.{noChunk}
+use Rattle.rules.specs.declared.State.{State}
+use Rattle.rules.specs.declared.Chunk.{Chunk}
+use Rattle.rules.specs.Timestamps.{next}
+use Rattle.rules.specs.Zero.{noBlocks, noChunk}
 use Rattle.engine.proofs.Arrays.{made, made-begin, made-next}
 use borrow.Author.Needs.{needs}
 use Rattle.engine.proofs.epoch.renew.Statement.{statement}
@@ -14,6 +18,12 @@ Inv-loop new n out₀ c₀ out c = (c ≤ n) × (out ≡ made (λ _. new) (λ i.
 abbrev μ-loop : tie.MeasureT-loop
 μ-loop new n out₀ c₀ out c = n - c
 
+abbrev new : tie.Start Inv-loop μ-loop → Chunk
+new c = record { state = State.Normal; lost = false; epoch = next (c .args .epoch); reconcile = noBlocks }
+
+abbrev old : tie.Start Inv-loop μ-loop → ℕ → Chunk
+old c i = getD (c .args .chunks) i noChunk
+
 len : (c : tie.Start Inv-loop μ-loop) → length (c .args .chunks) ≡ 8
 len c = c .good .1 .1 .0 .1 .0 .1
 
@@ -21,7 +31,7 @@ add-t10 : tie.Need-add-t10 Inv-loop μ-loop
 add-t10 c = search needs
 
 loop-holds : tie.Need-loop-holds Inv-loop μ-loop
-loop-holds c = (search needs, made-begin _ (λ i. getD _ i noChunk) 8 noChunk _ (len (c .before)) (λ _ _. refl))
+loop-holds c = let s = c .before in (search needs, made-begin (λ _. new s) (old s) 8 noChunk (s .args .chunks) (len s) (λ _ _. refl))
 
 mul-out : tie.Need-mul-out Inv-loop μ-loop
 mul-out c = search needs
@@ -38,13 +48,15 @@ loop-less c = search needs
 loop-again : tie.Need-loop-again Inv-loop μ-loop
 loop-again c =
     let l = c .before in
-    (omega arith, rw (l .loop .inv .1) (made-next (λ _. _) _ 8 (l .loop .c) (omega arith)))
+    let s = l .before .before in
+    (omega arith, rw (l .loop .inv .1) (made-next (λ _. new s) (old s) 8 (l .loop .c) (omega arith)))
 
 returns : tie.Need-returns Inv-loop μ-loop
 returns c =
     let l = c .before in
-    let e : l .loop .c ≡ l .before .before .args .k .chunks = omega arith in
-    rw e at (l .loop .inv .1)
+    let s = l .before .before in
+    let e : l .loop .c ≡ s .args .k .chunks = omega arith in
+    l .loop .inv .1 ∙ ap (made (λ _. new s) (old s) 8) e
 
 pub renew-spec : {M : Type 1} → statement M
 renew-spec =

@@ -21,7 +21,7 @@ len : (c : tie.Start Inv-loop μ-loop) → length (c .args .records) ≡ 128
 len c = c .good .0 .1 .0 .1
 
 loop-holds : tie.Need-loop-holds Inv-loop μ-loop
-loop-holds c = (search needs, stored-begin _ _ _ (len c))
+loop-holds c = let a = c .args in (search needs, stored-begin (a .records) (a .b) (a .t3) (len c))
 
 mul-copy : tie.Need-mul-copy Inv-loop μ-loop
 mul-copy c = search needs
@@ -51,13 +51,14 @@ loop-again : tie.Need-loop-again Inv-loop μ-loop
 loop-again c =
     let l = c .before .before .before in
     let a = l .before .args in
-    (omega arith, rw (l .loop .inv .1) (stored-next _ _ _ (l .loop .c) (omega arith) (l .before .pre)))
+    (omega arith, rw (l .loop .inv .1) (stored-next (a .records) (a .b) (a .t3) (l .loop .c) (omega arith) (l .before .pre)))
 
 returns : tie.Need-returns Inv-loop μ-loop
 returns c =
     let l = c .before in
     let e : l .loop .c ≡ 8 = omega arith in
-    (rw e at (l .loop .inv .1)) ∙ stored-end _ _ _
+    let a = l .before .args in
+    l .loop .inv .1 ∙ ap (λ (n : ℕ). recordsBy (storedTo (a .records) (a .b) (a .t3) n)) e ∙ stored-end (a .records) (a .b) (a .t3)
 
 pub store-block-spec : {M : Type 1} → statement M
 store-block-spec =
