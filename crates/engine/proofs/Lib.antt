@@ -1,3 +1,7 @@
+pub mod Arrays
+pub mod CreationLaws
 pub mod HostLaws
 pub mod ChunkLaws
 pub mod MailLaws
+pub mod EpochLaws
+pub mod StepLaws

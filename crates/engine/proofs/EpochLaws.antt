@@ -1,0 +1,138 @@
+-- The records of all chunks and blocks, stored block by block; the parts of an epoch change, as the code gathers them, are the rule's
+use Prim.Native.Nat.{ℕ, _+_, _*_, _/_, _%_, _≤_, _<_}
+use mathlib.Core.Path.{_≡_, refl, sym, ap, _∙_}
+use mathlib.Core.Bool.{Bool, true, false, cond, _&&_}
+use mathlib.Core.List.{List}
+use native.Mathlib.Decide.{decLe, ℕ-discrete}
+use native.Mathlib.Nat.{div-add-mod', mod-lt}
+use native.Mathlib.Omega.{arith}
+use borrow.Author.Tests.{lt-ltb, le-ltb, eq-eqb, ne-eqb}
+use lib.Dec.{ltb, eqb}
+use lib.ListN.{length, getD, set, length-set}
+use lib.Seq.{ext-getD, getD-set-same, getD-set-other}
+use Rattle.rules.specs.declared.Record.{Record}
+use Rattle.rules.specs.declared.Chunk.{Chunk}
+use Rattle.rules.specs.declared.Copy.{Copy}
+use Rattle.rules.specs.declared.Table.{Table}
+use Rattle.rules.specs.declared.Event.{Event}
+use Rattle.rules.specs.Codes.{codeOf}
+use Rattle.rules.specs.Events.{Rule, quietly, done, refused, unused, copiesOf, renewed, epochRefusals, epochRule, ruleOf, answered, step}
+use Rattle.rules.specs.Formed.{wellFormed}
+use Rattle.rules.specs.Limits.{chunkLimit, blockLimit}
+use Rattle.rules.specs.Settlement.{settled}
+use Rattle.rules.specs.Tables.{at, recordsBy, withEpoch, withChunks, withRecords}
+use Rattle.rules.specs.Timestamps.{next}
+use Rattle.rules.specs.Words.{each, joined, from, numbers}
+use Rattle.rules.specs.Zero.{noRecord, noCopy}
+use Rattle.rules.proofs.Lists.{grid-at}
+use Rattle.rules.proofs.Events.{out-of-range, refused-own, granted-own}
+use Rattle.engine.specs.Epoch.{storedAt, settledAt}
+use Rattle.engine.proofs.Arrays.{below-next}
+
+-- ---- the records by chunk and block
+
+module _ (f : ℕ → ℕ → Record) where
+  pub records-length : length (recordsBy f) ≡ 128
+  unfolding each joined from
+  records-length = refl
+
+  pub records-at : (c b : ℕ) → c < chunkLimit → b < blockLimit → getD (recordsBy f) (at c b) noRecord ≡ f c b
+  records-at c b h k = grid-at f chunkLimit blockLimit c b noRecord h k
+
+  -- they are told by what each chunk has of each block
+  pub records-of : (l : List Record) → length l ≡ 128 → ((c b : ℕ) → c < chunkLimit → b < blockLimit → getD l (at c b) noRecord ≡ f c b) → l ≡ recordsBy f
+  records-of l e h = ext-getD noRecord l (recordsBy f) (e ∙ sym records-length) (λ i k. go i (rw e at k))
+    where
+      go : (i : ℕ) → i < 128 → getD l i noRecord ≡ getD (recordsBy f) i noRecord
+      go i k =
+          let c = i / blockLimit in
+          let b = i % blockLimit in
+          let e : at c b ≡ i = div-add-mod' i blockLimit in
+          let m : b < blockLimit = mod-lt i (omega arith) in
+          let n : c < chunkLimit = omega arith in
+          rw (← e) (h c b n m ∙ sym (records-at c b n m))
+
+pub records-same : (f g : ℕ → ℕ → Record) → ((c b : ℕ) → c < chunkLimit → b < blockLimit → f c b ≡ g c b) → recordsBy f ≡ recordsBy g
+records-same f g h = records-of g (recordsBy f) (records-length f) (λ c b k m. records-at f c b k m ∙ h c b k m)
+
+-- ---- one block is stored, chunk by chunk: below chunk i it is
+
+module _ (records : List Record) (block : ℕ) (copies : List Copy) where
+  abbrev pub storedTo : ℕ → (c b : ℕ) → Record
+  storedTo i c b = cond (ltb c i) (storedAt records block copies c b) (getD records (at c b) noRecord)
+
+  pub stored-begin : length records ≡ 128 → records ≡ recordsBy (storedTo 0)
+  stored-begin len = records-of (storedTo 0) records len (λ c b _ _. rw (le-ltb c 0 (omega arith)) refl)
+
+  pub stored-next : (i : ℕ) → i < chunkLimit → block < blockLimit → set (recordsBy (storedTo i)) (at i block) (getD copies i noCopy .block) ≡ recordsBy (storedTo (i + 1))
+  stored-next i h inside =
+      records-of (storedTo (i + 1)) (set old (at i block) new) (length-set old (at i block) new ∙ records-length (storedTo i))
+      (λ c b k m. go c b k m (ℕ-discrete c i) (ℕ-discrete b block))
+    where
+      old : List Record
+      old = recordsBy (storedTo i)
+
+      new : Record
+      new = getD copies i noCopy .block
+
+      other : (c b : ℕ) → c < chunkLimit → b < blockLimit → (at c b ≡ at i block → ⊥) → getD (set old (at i block) new) (at c b) noRecord ≡ storedTo i c b
+      other c b k m e = getD-set-other old (at i block) (at c b) new noRecord e ∙ records-at (storedTo i) c b k m
+
+      go : (c b : ℕ) → c < chunkLimit → b < blockLimit → Dec (c ≡ i) → Dec (b ≡ block) → getD (set old (at i block) new) (at c b) noRecord ≡ storedTo (i + 1) c b
+      go c b k m (yes e) (yes d) =
+          rw (e, d, lt-ltb i (i + 1) (omega arith), eq-eqb block block refl)
+          (getD-set-same old (at i block) new noRecord (omega (arith, records-length (storedTo i))))
+      go c b k m (yes e) (no d) =
+          other c b k m (λ x. d (omega arith)) ∙ rw (e, le-ltb i i (omega arith), lt-ltb i (i + 1) (omega arith), ne-eqb b block d) refl
+      go c b k m (no e) _ = other c b k m (λ x. e (omega arith)) ∙ rw (below-next i c e) refl
+
+  pub stored-end : recordsBy (storedTo chunkLimit) ≡ recordsBy (storedAt records block copies)
+  stored-end = records-same (storedTo chunkLimit) (storedAt records block copies) (λ c b k _. rw (lt-ltb c chunkLimit k) refl)
+
+-- ---- the blocks are settled one after the other: below block i they are
+
+module _ (t : Table) where
+  abbrev pub settledTo : ℕ → (c b : ℕ) → Record
+  settledTo i c b = cond (ltb b i) (settledAt t c b) (getD (t .records) (at c b) noRecord)
+
+  pub settled-begin : length (t .records) ≡ 128 → t .records ≡ recordsBy (settledTo 0)
+  settled-begin len = records-of (settledTo 0) (t .records) len (λ c b _ _. rw (le-ltb b 0 (omega arith)) refl)
+
+  pub settled-next : (i : ℕ) (old : List Record) (copies : List Copy) → old ≡ recordsBy (settledTo i) → copies ≡ settled (copiesOf t i)
+      → recordsBy (storedAt old i copies) ≡ recordsBy (settledTo (i + 1))
+  settled-next i old copies ho hc =
+      rw (ho, hc) (records-same (storedAt (recordsBy (settledTo i)) i (settled (copiesOf t i))) (settledTo (i + 1)) (λ c b k m. go c b k m (ℕ-discrete b i)))
+    where
+      go : (c b : ℕ) → c < chunkLimit → b < blockLimit → Dec (b ≡ i) → storedAt (recordsBy (settledTo i)) i (settled (copiesOf t i)) c b ≡ settledTo (i + 1) c b
+      go c b k m (yes e) = rw (e, eq-eqb i i refl, lt-ltb i (i + 1) (omega arith)) refl
+      go c b k m (no e) = rw (ne-eqb b i e) (records-at (settledTo i) c b k m ∙ rw (below-next i b e) refl)
+
+  pub settled-end : recordsBy (settledTo blockLimit) ≡ recordsBy (settledAt t)
+  settled-end = records-same (settledTo blockLimit) (settledAt t) (λ c b _ m. rw (lt-ltb b blockLimit m) refl)
+
+-- ---- the event
+
+module _ (t : Table) (e : Event) (ok : wellFormed t ≡ true) (kind : e .kind ≡ 15) where
+  abbrev rule : Rule
+  rule = epochRule t (e .a) (e .b) (e .c)
+
+  epoch-step : answered t rule ≡ step t e
+  unfolding step ruleOf
+  epoch-step = rw kind refl
+
+  abbrev operands : Bool
+  operands = unused (e .a) && unused (e .b) && unused (e .c)
+
+  pub change-outside : operands ≡ false → refused t 1 ≡ step t e
+  unfolding epochRule
+  change-outside h = out-of-range t rule ok h ∙ epoch-step
+
+  module _ (inside : operands ≡ true) (code : ℕ) (is : code ≡ codeOf (epochRefusals t)) where
+    pub change-refused : (code ≡ 0 → ⊥) → refused t code ≡ step t e
+    unfolding epochRule
+    change-refused n = refused-own t rule ok inside code is n ∙ epoch-step
+
+    pub change-granted : code ≡ 0 → (records : List Record) (chunks : List Chunk) → records ≡ recordsBy (settledAt t) → chunks ≡ each (renewed t) (numbers chunkLimit)
+        → done (quietly (withEpoch (withChunks (withRecords t records) chunks) (next (t .epoch)))) ≡ step t e
+    unfolding epochRule
+    change-granted z records chunks hr hc = rw (hr, hc) (granted-own t rule ok inside (sym is ∙ z) ∙ epoch-step)

@@ -1,0 +1,37 @@
+-- What the epoch change is given of the table, and how far its loops are
+use Prim.Native.Nat.{ℕ}
+use mathlib.Core.Bool.{Bool, _&&_}
+use mathlib.Core.List.{List, []}
+use lib.Dec.{eqb}
+use lib.ListN.{getD}
+use Rattle.rules.specs.declared.Creation.{Creation}
+use Rattle.rules.specs.declared.Record.{Record}
+use Rattle.rules.specs.declared.Chunk.{Chunk}
+use Rattle.rules.specs.declared.Table.{Table}
+use Rattle.rules.specs.declared.Copy.{Copy}
+use Rattle.rules.specs.Events.{copiesOf}
+use Rattle.rules.specs.Kinds.{isFailed}
+use Rattle.rules.specs.Settlement.{settled, allLost}
+use Rattle.rules.specs.Tables.{isBlock, at, recordsBy}
+use Rattle.rules.specs.Timestamps.{noEpoch}
+use Rattle.rules.specs.Words.{if_then_else_}
+use Rattle.rules.specs.Zero.{noRecord, noCopy, noChunk}
+
+-- a table of these parts: the rules about the epoch change look at no more of it
+abbrev pub tableOf : Creation → List Chunk → List Record → Table
+tableOf k chunks records = record { creation = k; epoch = noEpoch; hosts = []; chunks = chunks; records = records; places = [] }
+
+-- "no chunk failed", and "for some block every chunk of its set is lost": of one chunk, of one block
+abbrev pub failedAt : List Chunk → (chunk : ℕ) → Bool
+failedAt chunks c = isFailed (getD chunks c noChunk .state)
+
+abbrev pub lostAt : Table → (block : ℕ) → Bool
+lostAt t b = isBlock (t .creation) b && allLost (copiesOf t b)
+
+-- the record of chunk c and block b when block `block` is stored back from its copies
+abbrev pub storedAt : List Record → (block : ℕ) → List Copy → (c b : ℕ) → Record
+storedAt records block copies c b = if eqb b block then getD copies c noCopy .block else getD records (at c b) noRecord
+
+-- .. and when every block is settled
+abbrev pub settledAt : Table → (c b : ℕ) → Record
+settledAt t c b = getD (settled (copiesOf t b)) c noCopy .block
