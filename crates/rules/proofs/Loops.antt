@@ -1,6 +1,5 @@
 -- Loops: what a loop over an array cites, and how a word of the rules is a loop. Over any element
 use Prim.Native.Nat.{ℕ, zero, suc, _+_, _-_, _≤_, _<_, compare·suc-suc, _*_, _/_, _%_}
-use Prim.Native.Nat.{ℕ, zero, suc, _+_, _-_, _≤_, _<_, min, compare·suc-suc}
 use mathlib.Core.Path.{_≡_, refl, sym, ap, _∙_}
 use mathlib.Core.Bool.{Bool, true, false, cond, _&&_, _||_, not, true≢false}
 use mathlib.Core.List.{List, [], _∷_, _++_, append-assoc, append-nil}
@@ -16,12 +15,6 @@ use Rattle.rules.proofs.Lists.{every-number, every-numbers, none-number
 use native.Mathlib.Nat.{mod-lt, div-lt-iff-lt-mul}
 use lib.Arith.{digits-lt, digits-div, digits-mod}
 use Rattle.rules.specs.Codes.{Row, codeOf, _gives_⨾_, granted}
-use lib.ListN.{length, getD, set, take, drop, replicate, drop-of-length-le, length-take}
-use lib.Dec.{ltb}
-use borrow.Author.Tests.{lt-ltb}
-use lib.Seq.{drop-cons, take-suc, take-at, take-all, length-take-le}
-use Rattle.rules.specs.Words.{those, each, joined, every, some, place, fold, from, numbers, filled}
-use Rattle.rules.proofs.Lists.{every-number, every-numbers, none-number, some-number, each-length}
 
 -- ---- a loop over l by its index i: l from i on is the element at i, and l from i + 1 on
 
@@ -182,7 +175,7 @@ module _ (p : ℕ → Bool) where
       go true e = refl
       go false e = absurd (true≢false (sym h ∙ none-number p n e i l))
 
--- ---- sound: m rows of n, one behind the other, are looked at by one loop
+-- ---- m rows of n, one behind the other, are looked at by one loop
 
 same-truth : (a b : Bool) → (a ≡ true → b ≡ true) → (b ≡ true → a ≡ true) → a ≡ b
 same-truth true b f g = sym (f refl)
@@ -207,7 +200,7 @@ module _ (p : ℕ → ℕ → Bool) (m n : ℕ) (some-columns : 0 < n) where
   pub every-flat : flat ≡ rows
   every-flat = same-truth flat rows flat-rows rows-flat
 
--- ---- settle: the first that is p, and those that are; a list rewritten element by element
+-- ---- the first that is p, and those that are; a list rewritten element by element
 
 -- the first that is p, by a loop that stops at it
 module _ {A : Type 0} (p : A → Bool) (d : A) (l : List A) (i : ℕ) (far : place p l ≡ i + place p (drop i l)) where
@@ -281,7 +274,7 @@ module _ {A : Type 0} (f : A → A) (d : A) where
   each-end (x ∷ xs) zero h = absurd (omega arith)
   each-end (x ∷ xs) (suc i) h = ap (λ (t : List A). f x ∷ t) (each-end xs i (omega arith))
 
--- ---- waiting: an array that is rewritten in place from the front: the first i of `new`, then what `old` has from i on
+-- ---- an array that is rewritten in place from the front: the first i of `new`, then what `old` has from i on
 
 abbrev pub mixed : {A : Type 0} → ℕ → List A → List A → List A
 mixed i new old = take i new ++ drop i old
@@ -328,7 +321,7 @@ take-rest (suc n) (x ∷ xs) = ap (λ (t : List _). x ∷ t) (take-rest n xs)
 pub taken-at : {A : Type 0} (d : A) (n : ℕ) (l : List A) (i : ℕ) → i < length (take n l) → getD (take n l) i d ≡ getD l i d
 taken-at d n l i h = getD-take n l i d (omega (arith, length-take n l))
 
--- ---- waiting: e put in at p, and what stood there and after it one place on
+-- ---- e put in at p, and what stood there and after it one place on
 
 abbrev pub opened : {A : Type 0} → ℕ → A → List A → List A
 opened p e l = take p l ++ e ∷ drop p l
@@ -359,7 +352,7 @@ opened-cut e (suc p) zero l = refl
 opened-cut e (suc p) (suc n) [] = refl
 opened-cut e (suc p) (suc n) (x ∷ xs) = ap (λ (t : List _). x ∷ t) (opened-cut e p n xs)
 
--- ---- waiting: an array with l in its first places and the others zero
+-- ---- an array with l in its first places and the others zero
 
 module _ {A : Type 0} (d : A) (n : ℕ) (l : List A) where
   pub filled-length : length (filled n d l) ≡ n
@@ -395,7 +388,7 @@ filled-any d n l room i = go (decLe (length l) i)
     go (yes k) = filled-past d n l room i k ∙ sym (List·getD-eq-default l d k)
     go (no k) = filled-here d n l room i (omega arith)
 
--- ---- chunk: refusals in code, a row of early returns
+-- ---- refusals in code, a row of early returns
 
 module _ (situation : Bool) (k : ℕ) (rest : List Row) where
   pub refused-here : situation ≡ true → k ≡ codeOf (situation gives k ⨾ rest)
@@ -410,7 +403,7 @@ pub refused-nowhere : 0 ≡ codeOf granted
 unfolding codeOf
 refused-nowhere = refl
 
--- ---- network: a loop that counts those that are p, and a loop over the numbers below n
+-- ---- a loop that counts those that are p, and a loop over the numbers below n
 
 pub numbers-more : (n i : ℕ) → i < n → drop i (numbers n) ≡ i ∷ drop (i + 1) (numbers n)
 numbers-more n i h =
@@ -433,7 +426,7 @@ pub count-end : {A : Type 0} (p : A → Bool) (l : List A) → l ≡ [] → leng
 unfolding those
 count-end p l h = rw h refl
 
--- ---- host: the whole rewritten; one more in an array that is filled from the front
+-- ---- the whole rewritten; one more in an array that is filled from the front
 
 module _ {A : Type 0} (new old : List A) (i : ℕ) where
   pub mixed-end : length new ≤ i → length old ≤ i → mixed i new old ≡ new
@@ -470,7 +463,7 @@ marked-only n c =
     go i h (yes e) = rw (← e, eq-eqb i i refl) (getD-set-same (replicate n false) i true false (omega (arith, length-replicate n false)))
     go i h (no e) = rw (ne-eqb c i (λ k. e (sym k))) (getD-set-other (replicate n false) c i true false e ∙ getD-replicate n i false false h)
 
--- ---- lines: one element more at the end
+-- ---- one element more at the end
 
 pub each-append : {A B : Type 0} (f : A → B) (k l : List A) → each f (k ++ l) ≡ each f k ++ each f l
 unfolding each
@@ -485,46 +478,3 @@ every-append p (x ∷ k) l = go (p x) (every-append p k l)
     go : (b : Bool) → every p (k ++ l) ≡ (every p k && every p l) → (b && every p (k ++ l)) ≡ ((b && every p k) && every p l)
     go true h = h
     go false h = refl
-
-module _ {A : Type 0} (d x : A) where
-  replicate-cut : (n m : ℕ) → n ≤ m → take n (replicate m d) ≡ take n (replicate (suc m) d)
-  replicate-cut zero m h = refl
-  replicate-cut (suc n) zero h = absurd (omega arith)
-  replicate-cut (suc n) (suc m) h = ap (λ (t : List A). d ∷ t) (replicate-cut n m (omega arith))
-
-  set-past : (l : List A) (n m : ℕ) → n ≤ m → set (take n (l ++ replicate m d)) (length l) x ≡ take n ((l ++ x ∷ []) ++ replicate m d)
-  set-past [] zero m h = refl
-  set-past [] (suc n) zero h = absurd (omega arith)
-  set-past [] (suc n) (suc m) h = ap (λ (t : List A). x ∷ t) (replicate-cut n m (omega arith))
-  set-past (y ∷ l) zero m h = refl
-  set-past (y ∷ l) (suc n) m h = ap (λ (t : List A). y ∷ t) (set-past l n m (omega arith))
-
-  -- a store behind the last one; where there is no place any more, nothing changes
-  pub filled-more : (n : ℕ) (l : List A) → set (filled n d l) (length l) x ≡ filled n d (l ++ x ∷ [])
-  filled-more n l = set-past l n n (omega arith)
-
-pub filled-whole : {A : Type 0} (d : A) (n : ℕ) (l : List A) → length l ≡ n → filled n d l ≡ l
-filled-whole d n l h = take-at l (replicate n d) n h
-
--- a loop that fills an array with f of each, by its index i
-pub each-more : {A B : Type 0} (f : A → B) (a : A) (d : B) (n : ℕ) (l : List A) (i : ℕ) → i < length l
-    → set (filled n d (each f (take i l))) i (f (getD l i a)) ≡ filled n d (each f (take (i + 1) l))
-unfolding each
-each-more f a d n l i h =
-    let k : length (each f (take i l)) ≡ i = each-length f (take i l) ∙ length-take-le i l (omega arith) in
-    let more : take (i + 1) l ≡ take i l ++ getD l i a ∷ [] = rw add-one (take-suc l i a h) in
-    ap (λ (j : ℕ). set (filled n d (each f (take i l))) j (f (getD l i a))) (sym k)
-    ∙ filled-more d (f (getD l i a)) n (each f (take i l))
-    ∙ ap (filled n d) (sym (each-append f (take i l) (getD l i a ∷ [])) ∙ ap (each f) (sym more))
-
--- the first n of an array of m, where n may be more
-pub take-min : {A : Type 0} (n m : ℕ) (l : List A) → length l ≡ m → take (min n m) l ≡ take n l
-take-min n m l h = go (decLe m n)
-  where
-    go : Dec (m ≤ n) → take (min n m) l ≡ take n l
-    go (yes k) =
-        let e : min n m ≡ m = omega arith in
-        rw e (take-all m l (omega arith) ∙ sym (take-all n l (omega arith)))
-    go (no k) =
-        let e : min n m ≡ n = omega arith in
-        rw e refl
