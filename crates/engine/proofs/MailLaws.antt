@@ -1,11 +1,10 @@
 -- The network's events: the parts that the code gathers are the rules'
 use Prim.Native.Nat.{ℕ, _<_}
-use mathlib.Core.Path.{_≡_, refl, sym, ap, _∙_}
+use mathlib.Core.Path.{_≡_, refl, sym, _∙_}
 use mathlib.Core.Bool.{Bool, true, false, cond}
 use mathlib.Core.List.{List}
 use native.Mathlib.Omega.{arith}
 use borrow.Author.Tests.{ltb-true}
-use lib.ListN.{set, getD}
 use lib.Seq.{set-getD}
 use Rattle.rules.specs.declared.Record.{Record}
 use Rattle.rules.specs.declared.Host.{Host}

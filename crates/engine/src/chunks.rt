@@ -1,9 +1,17 @@
 // The events of one chunk: 9 run, 11 fail, 12 recover, 13 take lease, 14 give lease, 16 overdue.
-use rules::{Answer, Chunk, Creation, Entry, Epoch, Event, Kind, Record, Table, Timestamp, Waiting};
-
+use rules::Answer;
+use rules::Chunk;
+use rules::Creation;
+use rules::Entry;
+use rules::Epoch;
+use rules::Event;
+use rules::Kind;
+use rules::Record;
+use rules::Table;
+use rules::Timestamp;
+use rules::Waiting;
 ghost use mathlib.Core.Path.{_≡_};
 ghost use mathlib.Core.Bool.{true};
-ghost use mathlib.Core.List.{List};
 ghost use Prim.Native.Nat.{_<_};
 ghost use Rattle.rules.specs.Events.{step};
 ghost use Rattle.rules.specs.Formed.{wellFormed};
@@ -41,10 +49,22 @@ fn changed_chunk(e: Event, c: Chunk, w: Waiting, age: u64) -> Changed
     let kind = e.kind;
     let state = c.state;
     match kind {
-        12 => Changed { code: chunk::recover_code(state), chunk: chunk::recover(c) },
-        13 => Changed { code: chunk::take_lease_code(state), chunk: chunk::take_lease(c) },
-        14 => Changed { code: chunk::give_lease_code(state, c.lost), chunk: chunk::give_lease(c) },
-        _ => Changed { code: chunk::overdue_code(state, w, e.c, age), chunk: chunk::overdue(c, e.b) },
+        12 => Changed {
+            code: chunk::recover_code(state),
+            chunk: chunk::recover(c),
+        },
+        13 => Changed {
+            code: chunk::take_lease_code(state),
+            chunk: chunk::take_lease(c),
+        },
+        14 => Changed {
+            code: chunk::give_lease_code(state, c.lost),
+            chunk: chunk::give_lease(c),
+        },
+        _ => Changed {
+            code: chunk::overdue_code(state, w, e.c, age),
+            chunk: chunk::overdue(c, e.b),
+        },
     }
 }
 
@@ -107,8 +127,16 @@ pub fn run(t: Table, e: Event) -> Answer
 fn nothing() -> Waiting
     ensures { λ r. ⌜ r ≡ zeroWaiting ⌝ }
 {
-    let e = Entry { timestamp: Timestamp(0), sender: 0, epoch: Epoch(0), kind: Kind::Read };
-    Waiting { count: 0, entries: [e; rules::WAITING] }
+    let e = Entry {
+        timestamp: Timestamp(0),
+        sender: 0,
+        epoch: Epoch(0),
+        kind: Kind::Read,
+    };
+    Waiting {
+        count: 0,
+        entries: [e; rules::WAITING],
+    }
 }
 
 // "all its waiting entries .. go": those of the chunk's blocks.

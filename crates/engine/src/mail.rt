@@ -1,6 +1,16 @@
 // The network's events: 4 deliver, 5 drop.
-use rules::{Answer, Arrived, Chunk, Event, Header, Host, Message, Record, Slot, State, Table, Timestamp};
-
+use rules::Answer;
+use rules::Arrived;
+use rules::Chunk;
+use rules::Event;
+use rules::Header;
+use rules::Host;
+use rules::Message;
+use rules::Record;
+use rules::Slot;
+use rules::State;
+use rules::Table;
+use rules::Timestamp;
 ghost use mathlib.Core.Path.{_≡_};
 ghost use mathlib.Core.Bool.{true};
 ghost use Rattle.rules.specs.Events.{step};
@@ -25,7 +35,12 @@ fn address(s: Slot) -> Header
     ensures { λ r. ⌜ r ≡ addressOf s ⌝ }
 {
     match s {
-        Slot::Empty => Header { host: 0, chunk: 0, block: 0, timestamp: Timestamp(0) },
+        Slot::Empty => Header {
+            host: 0,
+            chunk: 0,
+            block: 0,
+            timestamp: Timestamp(0),
+        },
         Slot::Full(m) => network::header_of(m),
     }
 }
@@ -38,8 +53,14 @@ fn at_normal(blocks: u64, c: Chunk, r: Record, m: Message) -> Arrived
     let epoch = c.epoch;
     match state {
         State::Normal => chunk::arrive(blocks, epoch, r, m),
-        State::Nolease => Arrived { block: r, reply: Slot::Empty },
-        State::Failed => Arrived { block: r, reply: Slot::Empty },
+        State::Nolease => Arrived {
+            block: r,
+            reply: Slot::Empty,
+        },
+        State::Failed => Arrived {
+            block: r,
+            reply: Slot::Empty,
+        },
     }
 }
 
@@ -58,16 +79,28 @@ fn delivery(blocks: u64, h: Host, c: Chunk, r: Record, s: Slot) -> Delivered
     ensures { λ d. ⌜ d ≡ delivered blocks h c r s ⌝ }
 {
     match s {
-        Slot::Empty => Delivered { host: h, block: r, reply: Slot::Empty },
+        Slot::Empty => Delivered {
+            host: h,
+            block: r,
+            reply: Slot::Empty,
+        },
         Slot::Full(m) => {
             if network::is_for_chunk(m) {
                 let a = at_normal(blocks, c, r, m);
                 let new = a.block;
                 let reply = a.reply;
-                Delivered { host: h, block: new, reply: reply }
+                Delivered {
+                    host: h,
+                    block: new,
+                    reply: reply,
+                }
             } else {
                 let new = at_working(h, m);
-                Delivered { host: new, block: r, reply: Slot::Empty }
+                Delivered {
+                    host: new,
+                    block: r,
+                    reply: Slot::Empty,
+                }
             }
         }
     }
@@ -123,7 +156,8 @@ pub fn drop(t: Table, e: Event) -> Answer
     if code != 0 {
         return super::refuse(t, code);
     }
-    let left = network::remove(t.places, e.a);
+    let places = t.places;
+    let left = network::remove(places, e.a);
     let mut out = t;
     out.places = left;
     super::grant(out)

@@ -1,12 +1,13 @@
+-- `engine::chunks::change` meets its contract
 use Prim.Native.Nat.{_<_}
 use mathlib.Core.Path.{_≡_, sym, _∙_}
 use mathlib.Core.Bool.{true}
 use native.Mathlib.Omega.{arith}
 use borrow.Author.Tests.{not-true, not-false}
+use borrow.Author.Needs.{needs}
 use Rattle.rules.specs.Limits.{chunkLimit, blockLimit}
 use Rattle.engine.specs.Parts.{chunkRanges}
 use Rattle.engine.proofs.ChunkLaws.{chunk-places, change-outside, change-refused, change-granted}
-use borrow.Author.Needs.{needs}
 use Rattle.engine.proofs.chunks.change.Statement.{statement}
 use Rattle.engine.proofs.chunks.change.Tie as tie
 
@@ -16,53 +17,41 @@ inside c = sym (c .before .in-range .ensures) ∙ not-false _ (c .if1 .left)
 places : (c : tie.Else1) → let e = c .before .before .before .args .e in (e .a < chunkLimit) × (e .b < blockLimit)
 places c = let s = c .before .before .before in chunk-places (s .args .t1) (s .args .e) (s .pre .0) (inside c)
 
--- src/chunks.rt:53:9
 in-range-requires : tie.Need-in-range-requires
 in-range-requires c κs = search needs
 
--- src/chunks.rt:54:9
 refuse-requires : tie.Need-refuse-requires
 refuse-requires c κs = search needs
 
--- src/chunks.rt:54:9
 returns : tie.Need-returns
 returns c =
     let s = c .before .before .before .before in
     c .refuse .ensures ∙ change-outside (s .args .t1) (s .args .e) (s .pre .0) (s .pre .1) (sym (c .before .before .in-range .ensures) ∙ not-true _ (c .before .if1 .taken))
 
--- src/chunks.rt:57:13
 mul-j : tie.Need-mul-j
 mul-j c = let k = places c .0 in search needs
 
--- src/chunks.rt:57:13
 add-j : tie.Need-add-j
 add-j c = let k = places c .0 in let m = places c .1 in search needs
 
--- src/chunks.rt:58:15
 mul-old : tie.Need-mul-old
 mul-old c = let k = places c .0 in search needs
 
--- src/chunks.rt:58:15
 element-copy-out-old : tie.Need-element-copy-out-old
 element-copy-out-old c = places c .0
 
--- src/chunks.rt:59:13
 mul-r : tie.Need-mul-r
 mul-r c = let k = places (c .before) .0 in let m = places (c .before) .1 in search needs
 
--- src/chunks.rt:59:13
 element-copy-out-r : tie.Need-element-copy-out-r
 element-copy-out-r c = let k = places (c .before) .0 in let m = places (c .before) .1 in omega arith
 
--- src/chunks.rt:61:9
 changed-chunk-requires : tie.Need-changed-chunk-requires
 changed-chunk-requires c κs = search needs
 
--- src/chunks.rt:63:9
 refuse-requires-2 : tie.Need-refuse-requires-2
 refuse-requires-2 c κs = search needs
 
--- src/chunks.rt:63:9
 returns-2 : tie.Need-returns-2
 returns-2 c =
     let d = c .before .before .before in
@@ -70,19 +59,15 @@ returns-2 c =
     let s = g .before .before .before in
     c .refuse2 .ensures ∙ change-refused (s .args .t1) (s .args .e) (s .pre .0) (s .pre .1) (inside g) _ (d .changed-chunk .ensures) (c .before .if2 .taken)
 
--- src/chunks.rt:67:5
 mul-new : tie.Need-mul-new
 mul-new c = let k = places (c .before .before .before .before .before .before .before) .0 in search needs
 
--- src/chunks.rt:67:5
 element-set-from-new : tie.Need-element-set-from-new
 element-set-from-new c = places (c .before .before .before .before .before .before .before) .0
 
--- src/chunks.rt:68:5
 grant-requires : tie.Need-grant-requires
 grant-requires c κs = search needs
 
--- src/chunks.rt:48:1
 returns-3 : tie.Need-returns-3
 returns-3 c =
     let d = c .before .before .before .before in

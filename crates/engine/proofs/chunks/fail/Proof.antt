@@ -1,3 +1,4 @@
+-- `engine::chunks::fail` meets its contract
 use Prim.Native.Nat.{_<_}
 use mathlib.Core.Path.{_≡_, sym, _∙_}
 use mathlib.Core.Bool.{true}

@@ -1,3 +1,4 @@
+-- `engine::chunks::in_range` meets its contract
 use mathlib.Core.Path.{refl}
 use borrow.Author.Tests.{ne-eqb}
 use Rattle.engine.proofs.chunks.in_range.Statement.{statement}

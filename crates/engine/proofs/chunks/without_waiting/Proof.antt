@@ -1,3 +1,4 @@
+-- `engine::chunks::without_waiting` meets its contract
 use Prim.Native.Nat.{_-_, _*_, _≤_}
 use mathlib.Core.Path.{_≡_, refl, ap, _∙_}
 use native.Mathlib.Omega.{arith}
@@ -17,55 +18,43 @@ abbrev μ-loop : tie.MeasureT-loop
 len : (c : tie.Start Inv-loop μ-loop) → length (c .args .records) ≡ chunkLimit * blockLimit
 len c = c .good .0 .1 .0 .1
 
--- src/chunks.rt:115:9
 nothing-requires : tie.Need-nothing-requires Inv-loop μ-loop
 nothing-requires c κs = search needs
 
--- src/chunks.rt:118:5
 loop-holds : tie.Need-loop-holds Inv-loop μ-loop
 unfolding emptiedTo
 loop-holds c = (omega arith, refl)
 
--- src/chunks.rt:119:17
 mul-j : tie.Need-mul-j Inv-loop μ-loop
 mul-j c = search needs
 
--- src/chunks.rt:119:17
 add-j : tie.Need-add-j Inv-loop μ-loop
 add-j c = search needs
 
--- src/chunks.rt:120:21
 mul-r : tie.Need-mul-r Inv-loop μ-loop
 mul-r c = search needs
 
--- src/chunks.rt:120:21
 array-copy-out-r : tie.Need-array-copy-out-r Inv-loop μ-loop
 array-copy-out-r c = search needs
 
--- src/chunks.rt:122:9
 mul-out : tie.Need-mul-out Inv-loop μ-loop
 mul-out c = search needs
 
--- src/chunks.rt:122:9
 array-set-from-out : tie.Need-array-set-from-out Inv-loop μ-loop
 array-set-from-out c = search needs
 
--- src/chunks.rt:123:13
 add-b : tie.Need-add-b Inv-loop μ-loop
 add-b c = search needs
 
--- src/chunks.rt:118:5
 loop-less : tie.Need-loop-less Inv-loop μ-loop
 loop-less c = search needs
 
--- src/chunks.rt:118:5
 loop-again : tie.Need-loop-again Inv-loop μ-loop
 loop-again c =
     let l = c .before .before in
     let s = l .before .before in
     (omega arith, emptied-next (s .args .chunk) (s .args .records) (l .loop .b) (l .loop .out) _ (l .loop .inv .1) (l .before .nothing .ensures))
 
--- src/chunks.rt:111:1
 returns : tie.Need-returns Inv-loop μ-loop
 returns c =
     let l = c .before in

@@ -1,25 +1,21 @@
+-- `engine::mail::address` meets its contract
 use mathlib.Core.Path.{refl}
 use borrow.Author.Needs.{needs}
 use Rattle.engine.proofs.mail.address.Statement.{statement}
 use Rattle.engine.proofs.mail.address.Tie as tie
 
--- src/mail.rt:28:73
 enum-told : tie.Need-enum-told
 enum-told c = search needs
 
--- src/mail.rt:29:20
 enum-known-s : tie.Need-enum-known-s
 enum-known-s c = search needs
 
--- src/mail.rt:29:26
 header-of-requires : tie.Need-header-of-requires
 header-of-requires c κs = search needs
 
--- src/mail.rt:24:1
 returns : tie.Need-returns
 returns c = rw (c .enum-told .given .1) refl
 
--- src/mail.rt:24:1
 returns-2 : tie.Need-returns-2
 returns-2 c = search needs
 

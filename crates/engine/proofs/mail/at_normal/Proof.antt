@@ -1,33 +1,27 @@
+-- `engine::mail::at_normal` meets its contract
 use mathlib.Core.Path.{refl}
 use borrow.Author.Needs.{needs}
 use Rattle.engine.proofs.mail.at_normal.Statement.{statement}
 use Rattle.engine.proofs.mail.at_normal.Tie as tie
 
--- src/mail.rt:40:26
 enum-told : tie.Need-enum-told
 enum-told c = search needs
 
--- src/mail.rt:40:26
 arrive-requires : tie.Need-arrive-requires
 arrive-requires c κs = search needs
 
--- src/mail.rt:41:54
 enum-told-2 : tie.Need-enum-told-2
 enum-told-2 c = search needs
 
--- src/mail.rt:42:53
 enum-told-3 : tie.Need-enum-told-3
 enum-told-3 c = search needs
 
--- src/mail.rt:34:1
 returns : tie.Need-returns
 returns c = rw (c .before .enum-told .given .1) (c .arrive .ensures)
 
--- src/mail.rt:34:1
 returns-2 : tie.Need-returns-2
 returns-2 c = rw (c .enum-told2 .given .1) refl
 
--- src/mail.rt:34:1
 returns-3 : tie.Need-returns-3
 returns-3 c = rw (c .enum-told3 .given .1) refl
 

@@ -1,14 +1,15 @@
+-- `engine::mail::deliver` meets its contract
 use Prim.Native.Nat.{_<_}
 use mathlib.Core.Path.{_≡_, sym, ap, _∙_}
 use mathlib.Core.Bool.{true}
-use borrow.Author.Tests.{not-true, not-false}
 use native.Mathlib.Omega.{arith}
+use borrow.Author.Tests.{not-true, not-false}
+use borrow.Author.Needs.{needs}
 use Rattle.rules.specs.declared.Table.{Table}
 use Rattle.rules.specs.Events.{done, quietly, placeRule, answered, step}
 use Rattle.rules.specs.Limits.{hostLimit, chunkLimit, blockLimit, placeLimit}
 use Rattle.engine.specs.Parts.{placeRanges}
 use Rattle.engine.proofs.MailLaws.{mail-place, address-places, mail-outside, mail-refused, mail-granted, withMessageTaken, deliver-step, deliver-effect}
-use borrow.Author.Needs.{needs}
 use Rattle.engine.proofs.mail.deliver.Statement.{statement}
 use Rattle.engine.proofs.mail.deliver.Tie as tie
 
@@ -27,37 +28,29 @@ to-in c =
     let s = g .before .before in
     rw (c .address .ensures) (address-places (s .args .t1) (s .args .e .a) (s .pre .0) (at-place g))
 
--- src/mail.rt:81:9
 in-range-requires : tie.Need-in-range-requires
 in-range-requires c κs = search needs
 
--- src/mail.rt:82:9
 refuse-requires : tie.Need-refuse-requires
 refuse-requires c κs = search needs
 
--- src/mail.rt:82:9
 returns : tie.Need-returns
 returns c =
     let s = c .before .before .before in
     c .refuse .ensures ∙ mail-outside (s .args .t1) (s .args .e) _ (s .pre .0) (step-is s) (sym (c .before .before .in-range .ensures) ∙ not-true _ (c .before .if1 .taken))
 
--- src/mail.rt:85:17
 mul-place : tie.Need-mul-place
 mul-place c = let k = at-place c in search needs
 
--- src/mail.rt:85:17
 element-copy-out-place : tie.Need-element-copy-out-place
 element-copy-out-place c = at-place c
 
--- src/mail.rt:87:9
 place-code-requires : tie.Need-place-code-requires
 place-code-requires c κs = search needs
 
--- src/mail.rt:89:9
 refuse-requires-2 : tie.Need-refuse-requires-2
 refuse-requires-2 c κs = search needs
 
--- src/mail.rt:89:9
 returns-2 : tie.Need-returns-2
 returns-2 c =
     let k = c .before .before in
@@ -65,75 +58,57 @@ returns-2 c =
     let s = g .before .before in
     c .refuse2 .ensures ∙ mail-refused (s .args .t1) (s .args .e) _ (s .pre .0) (step-is s) (inside g) _ (k .place-code .ensures) (c .before .if2 .taken)
 
--- src/mail.rt:91:9
 address-requires : tie.Need-address-requires
 address-requires c κs = search needs
 
--- src/mail.rt:94:13
 mul-j : tie.Need-mul-j
 mul-j c = let k = to-in c .1 in search needs
 
--- src/mail.rt:94:13
 add-j : tie.Need-add-j
 add-j c = let k = to-in c .1 in let m = to-in c .2 in search needs
 
--- src/mail.rt:95:13
 mul-h : tie.Need-mul-h
 mul-h c = let k = to-in c .0 in search needs
 
--- src/mail.rt:95:13
 element-copy-out-h : tie.Need-element-copy-out-h
 element-copy-out-h c = to-in c .0
 
--- src/mail.rt:96:13
 mul-c : tie.Need-mul-c
 mul-c c = let k = to-in (c .before) .1 in search needs
 
--- src/mail.rt:96:13
 element-copy-out-c : tie.Need-element-copy-out-c
 element-copy-out-c c = to-in (c .before) .1
 
--- src/mail.rt:97:13
 mul-r : tie.Need-mul-r
 mul-r c = let k = to-in (c .before .before) .1 in let m = to-in (c .before .before) .2 in search needs
 
--- src/mail.rt:97:13
 element-copy-out-r : tie.Need-element-copy-out-r
 element-copy-out-r c = let k = to-in (c .before .before) .1 in let m = to-in (c .before .before) .2 in omega arith
 
--- src/mail.rt:98:9
 delivery-requires : tie.Need-delivery-requires
 delivery-requires c κs = search needs
 
--- src/mail.rt:102:9
 remove-requires : tie.Need-remove-requires
 remove-requires c κs = search needs
 
--- src/mail.rt:103:9
 reply-requires : tie.Need-reply-requires
 reply-requires c κs = search needs
 
--- src/mail.rt:105:5
 mul-host : tie.Need-mul-host
 mul-host c = let k = to-in (c .before .before .before .before .before .before .before .before .before) .0 in search needs
 
--- src/mail.rt:105:5
 element-set-from-host : tie.Need-element-set-from-host
 element-set-from-host c = to-in (c .before .before .before .before .before .before .before .before .before) .0
 
--- src/mail.rt:106:5
 mul-block : tie.Need-mul-block
 mul-block c = let k = to-in (c .before .before .before .before .before .before .before .before .before) .1 in let m = to-in (c .before .before .before .before .before .before .before .before .before) .2 in search needs
 
--- src/mail.rt:106:5
 element-set-from-block : tie.Need-element-set-from-block
 element-set-from-block c = let k = to-in (c .before .before .before .before .before .before .before .before .before) .1 in let m = to-in (c .before .before .before .before .before .before .before .before .before) .2 in omega arith
 
--- src/mail.rt:108:5
 grant-requires : tie.Need-grant-requires
 grant-requires c κs = search needs
 
--- src/mail.rt:77:1
 returns-3 : tie.Need-returns-3
 returns-3 c =
     let p = c .before in

@@ -1,39 +1,32 @@
+-- `engine::mail::delivery` meets its contract
 use mathlib.Core.Path.{refl, sym, _∙_}
 use borrow.Author.Needs.{needs}
 use Rattle.engine.proofs.mail.delivery.Statement.{statement}
 use Rattle.engine.proofs.mail.delivery.Tie as tie
 
--- src/mail.rt:61:62
 enum-told : tie.Need-enum-told
 enum-told c = search needs
 
--- src/mail.rt:62:20
 enum-known-s : tie.Need-enum-known-s
 enum-known-s c = search needs
 
--- src/mail.rt:63:16
 is-for-chunk-requires : tie.Need-is-for-chunk-requires
 is-for-chunk-requires c κs = search needs
 
--- src/mail.rt:64:21
 at-normal-requires : tie.Need-at-normal-requires
 at-normal-requires c κs = search needs
 
--- src/mail.rt:69:21
 at-working-requires : tie.Need-at-working-requires
 at-working-requires c κs = search needs
 
--- src/mail.rt:57:1
 returns : tie.Need-returns
 returns c = rw (c .enum-told .given .1) refl
 
--- src/mail.rt:57:1
 returns-2 : tie.Need-returns-2
 returns-2 c =
     let f = c .before .before .before in
     rw (f .before .before .s .given .1, sym (f .is-for-chunk .ensures) ∙ c .before .before .if1 .taken, c .before .at-normal .ensures) refl
 
--- src/mail.rt:57:1
 returns-3 : tie.Need-returns-3
 returns-3 c =
     let f = c .before .before in
