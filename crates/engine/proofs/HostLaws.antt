@@ -1,10 +1,10 @@
 -- The events of one host: the parts, as the code gathers them, are the rules'
-use Prim.Native.Nat.{ℕ, zero, suc, _≤_, _<_}
-use mathlib.Core.Path.{_≡_, refl, sym, ap, _∙_}
-use mathlib.Core.Bool.{Bool, true, false, _&&_, _||_}
+use Prim.Native.Nat.{ℕ, zero, suc, _<_}
+use mathlib.Core.Path.{_≡_, refl, _∙_}
+use mathlib.Core.Bool.{Bool, true, false, _&&_, _||_, and-true}
 use mathlib.Core.List.{List}
 use native.Mathlib.Omega.{arith}
-use borrow.Author.Tests.{eqb-true, leb-true, leb-false, lt-leb, le-ltb}
+use borrow.Author.Tests.{eqb-true, lt-leb, le-ltb}
 use lib.Dec.{eqb}
 use Rattle.rules.specs.declared.Set.{Set}
 use Rattle.rules.specs.declared.Creation.{Creation}
@@ -14,9 +14,8 @@ use Rattle.rules.specs.declared.Place.{Place}
 use Rattle.rules.specs.declared.Table.{Table}
 use Rattle.rules.specs.declared.Event.{Event}
 use Rattle.rules.specs.declared.Outcome.{Outcome}
-use Rattle.rules.specs.declared.Answer.{Answer}
 use Rattle.rules.specs.Codes.{codeOf}
-use Rattle.rules.specs.Events.{Rule, quietly, done, refused, unused, readRule, writeRule, startRule, finishRule, timeoutRule, refreshRule, stopRule, ruleOf, answered, step}
+use Rattle.rules.specs.Events.{Rule, quietly, done, refused, unused, readRule, writeRule, startRule, finishRule, timeoutRule, refreshRule, stopRule, ruleOf, step}
 use Rattle.rules.specs.Formed.{wellFormed}
 use Rattle.rules.specs.Hosts.{front, startRefusals, openingTo, opening, started, finishRefusals, closingTo, closing, finishOutcome, finished}
 use Rattle.rules.specs.Kinds.{headed}
@@ -82,10 +81,6 @@ module _ (t : Table) (e : Event) (ok : wellFormed t ≡ true) (inside : hostRang
 either : {P : Type 0} (a b : Bool) → (a ≡ true → P) → (b ≡ true → P) → a || b ≡ true → P
 either true b f g h = f refl
 either false b f g h = g h
-
-and-true : (a : Bool) → a && true ≡ a
-and-true true = refl
-and-true false = refl
 
 module _ (t : Table) (e : Event) where
   abbrev changeRule : Rule

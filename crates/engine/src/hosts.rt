@@ -19,9 +19,10 @@ ghost use Rattle.rules.specs.Limits.{blockLimit};
 ghost use Rattle.rules.specs.Tables.{setOf};
 ghost use Rattle.engine.specs.Parts.{isHostChange, hostRanges, changeRefusals, changedHost};
 
+// "Clocks .. go up to 4,294,967,295".
 const GREATEST_CLOCK: u64 = 4294967295;
 
-// The operands of each kind; most have the host alone.
+// "number outside its range .. unused operand not 0" (1): most kinds have the host alone.
 fn in_range(k: Creation, e: Event) -> bool
     ensures { λ r. ⌜ r ≡ hostRanges k e ⌝ }
 {
@@ -36,6 +37,7 @@ fn in_range(k: Creation, e: Event) -> bool
 
 // ---- the events that change one host and nothing else
 
+// "Stopped: 2. Full: 4"; "needs working, something outstanding (2)"; "working (2)".
 fn change_code(kind: u64, h: Host) -> u64
     ensures { λ r. ⌜ r ≡ codeOf (changeRefusals kind h) ⌝ }
 {
@@ -47,6 +49,7 @@ fn change_code(kind: u64, h: Host) -> u64
     }
 }
 
+// "Else appended"; "Okay false, nothing outstanding"; "Epoch known becomes the store's, map current"; "its other fields stay".
 fn changed(e: Event, h: Host, epoch: Epoch) -> Host
     ensures { λ r. ⌜ r ≡ changedHost e h epoch ⌝ }
 {

@@ -19,7 +19,8 @@ inside c = sym (c .before .in-range .ensures) ∙ not-false _ (c .if1 .left)
 below : (c : tie.Else1) → c .before .before .before .args .e .a < hostLimit
 below c = let s = c .before .before .before in host-below (s .args .t1) (s .args .e) (s .pre .0) (inside c)
 
-code-is : (c : tie.After-change-code) → let a = c .before .before .before .before .before .args in c .change-code .result ≡ codeOf (ruleOf (a .t1) (a .e) .refusals)
+code-is : (c : tie.After-change-code) → let a = c .before .before .before .before .before .args in
+    c .change-code .result ≡ codeOf (ruleOf (a .t1) (a .e) .refusals)
 code-is c = let s = c .before .before .before .before .before in change-code (s .args .t1) (s .args .e) (s .pre .1) _ (c .change-code .ensures)
 
 in-range-requires : tie.Need-in-range-requires

@@ -20,7 +20,8 @@ below : (c : tie.Else1) → c .before .before .before .args .e .a < hostLimit
 below c = let s = c .before .before .before in host-below (s .args .t1) (s .args .e) (s .pre .0) (inside c)
 
 -- what the code gathered gives the rule's code
-code-is : (c : tie.After-start-code) → let a = c .before .before .before .before .before .before .before .before .before .before .before .args in c .start-code .result ≡ codeOf (ruleOf (a .t1) (a .e) .refusals)
+code-is : (c : tie.After-start-code) → let a = c .before .before .before .before .before .before .before .before .before .before .before .args in
+    c .start-code .result ≡ codeOf (ruleOf (a .t1) (a .e) .refusals)
 code-is c =
     let s = c .before .before .before .before .before .before .before .before .before .before .before in
     let to = c .before .before .before in
