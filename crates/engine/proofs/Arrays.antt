@@ -1,16 +1,17 @@
 -- Arrays made place by place. Over any element
-use Prim.Native.Nat.{ℕ, _+_, _≤_, _<_}
+use Prim.Native.Nat.{ℕ, zero, suc, _+_, _*_, _/_, _%_, _≤_, _<_}
 use mathlib.Core.Path.{_≡_, refl, sym, ap, _∙_}
-use mathlib.Core.Bool.{Bool, true, false, cond}
+use mathlib.Core.Bool.{Bool, cond}
 use mathlib.Core.List.{List}
+use native.Mathlib.Nat.{suc-mul, div-add-mod', div-lt-iff-lt-mul, mod-lt}
 use native.Mathlib.Decide.{decLe, ℕ-discrete}
 use native.Mathlib.Omega.{arith}
 use borrow.Author.Tests.{lt-ltb, le-ltb}
 use lib.Dec.{ltb}
-use lib.ListN.{length, getD, set, replicate, length-set, length-replicate, getD-replicate}
+use lib.ListN.{length, getD, set, replicate, length-set, length-append, length-replicate, getD-replicate}
 use lib.Seq.{ext-getD, getD-set-same, getD-set-other}
-use Rattle.rules.specs.Words.{each, numbers}
-use Rattle.rules.proofs.Lists.{numbers-length, each-length, each-number}
+use Rattle.rules.specs.Words.{each, joined, from, numbers}
+use Rattle.rules.proofs.Lists.{numbers-length, each-length, each-number, grid-at}
 
 -- an array is told by what it has in its places
 pub each-of : {A : Type 0} (d : A) (f : ℕ → A) (n : ℕ) (l : List A) → length l ≡ n → ((i : ℕ) → i < n → getD l i d ≡ f i) → l ≡ each f (numbers n)
@@ -53,3 +54,37 @@ module _ {A : Type 0} (f g : ℕ → A) (n : ℕ) where
 -- .. from the same in every place
 pub made-blank : {A : Type 0} (f : ℕ → A) (x : A) (n : ℕ) → replicate n x ≡ made f (λ _. x) n 0
 made-blank f x n = made-begin f (λ _. x) n x (replicate n x) (length-replicate n x) (λ i h. getD-replicate n i x x h)
+
+-- m rows of n, one behind the other
+rows-length : {A : Type 0} (f : ℕ → List A) (n : ℕ) → ((i : ℕ) → length (f i) ≡ n) → (i m : ℕ) → length (joined (each f (from i m))) ≡ m * n
+unfolding joined each from
+rows-length f n h i zero = omega arith
+rows-length f n h i (suc m) =
+    length-append (f i) (joined (each f (from (suc i) m))) ∙ (omega (arith, h i, rows-length f n h (suc i) m, suc-mul m n))
+
+module _ {A : Type 0} (m n : ℕ) where
+  abbrev grid : (ℕ → ℕ → A) → List A
+  grid f = joined (each (λ c. each (f c) (numbers n)) (numbers m))
+
+  pub grid-length : (f : ℕ → ℕ → A) → length (grid f) ≡ m * n
+  grid-length f = rows-length (λ c. each (f c) (numbers n)) n (λ i. each-length (f i) (numbers n) ∙ numbers-length n) 0 m
+
+  -- an array of rows is told by what it has in each row and column
+  pub grid-of : (d : A) (f : ℕ → ℕ → A) (l : List A) → length l ≡ m * n → ((c b : ℕ) → c < m → b < n → getD l (c * n + b) d ≡ f c b) → l ≡ grid f
+  grid-of d f l e h = ext-getD d l (grid f) (e ∙ sym (grid-length f)) (λ i k. at i (rw e at k) (columns n (rw e at k)))
+    where
+      columns : (n : ℕ) {i : ℕ} → i < m * n → 0 < n
+      columns zero k = absurd (omega arith)
+      columns (suc n) k = omega arith
+
+      at : (i : ℕ) → i < m * n → 0 < n → getD l i d ≡ getD (grid f) i d
+      at i k some-columns =
+          let c = i / n in
+          let b = i % n in
+          let r : c < m = div-lt-iff-lt-mul some-columns .1 k in
+          let q : b < n = mod-lt i some-columns in
+          let z : c * n + b ≡ i = div-add-mod' i n in
+          rw (← z) (h c b r q ∙ sym (grid-at f m n c b d r q))
+
+  pub grid-same : A → (f g : ℕ → ℕ → A) → ((c b : ℕ) → c < m → b < n → f c b ≡ g c b) → grid f ≡ grid g
+  grid-same d f g h = grid-of d g (grid f) (grid-length f) (λ c b k q. grid-at f m n c b d k q ∙ h c b k q)

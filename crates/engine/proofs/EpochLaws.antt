@@ -1,15 +1,14 @@
 -- The records of all chunks and blocks, stored block by block; the parts of an epoch change, as the code gathers them, are the rule's
-use Prim.Native.Nat.{ℕ, _+_, _*_, _/_, _%_, _≤_, _<_}
-use mathlib.Core.Path.{_≡_, refl, sym, ap, _∙_}
+use Prim.Native.Nat.{ℕ, _+_, _<_}
+use mathlib.Core.Path.{_≡_, refl, sym, _∙_}
 use mathlib.Core.Bool.{Bool, true, false, cond, _&&_}
 use mathlib.Core.List.{List}
-use native.Mathlib.Decide.{decLe, ℕ-discrete}
-use native.Mathlib.Nat.{div-add-mod', mod-lt}
+use native.Mathlib.Decide.{ℕ-discrete}
 use native.Mathlib.Omega.{arith}
 use borrow.Author.Tests.{lt-ltb, le-ltb, eq-eqb, ne-eqb}
-use lib.Dec.{ltb, eqb}
+use lib.Dec.{ltb}
 use lib.ListN.{length, getD, set, length-set}
-use lib.Seq.{ext-getD, getD-set-same, getD-set-other}
+use lib.Seq.{getD-set-same, getD-set-other}
 use Rattle.rules.specs.declared.Record.{Record}
 use Rattle.rules.specs.declared.Chunk.{Chunk}
 use Rattle.rules.specs.declared.Copy.{Copy}
@@ -22,38 +21,27 @@ use Rattle.rules.specs.Limits.{chunkLimit, blockLimit}
 use Rattle.rules.specs.Settlement.{settled}
 use Rattle.rules.specs.Tables.{at, recordsBy, withEpoch, withChunks, withRecords}
 use Rattle.rules.specs.Timestamps.{next}
-use Rattle.rules.specs.Words.{each, joined, from, numbers}
+use Rattle.rules.specs.Words.{each, numbers}
 use Rattle.rules.specs.Zero.{noRecord, noCopy}
 use Rattle.rules.proofs.Lists.{grid-at}
 use Rattle.rules.proofs.Events.{out-of-range, refused-own, granted-own}
 use Rattle.engine.specs.Epoch.{storedAt, settledAt}
-use Rattle.engine.proofs.Arrays.{below-next}
+use Rattle.engine.proofs.Arrays.{below-next, grid-length, grid-of, grid-same}
 
 -- ---- the records by chunk and block
 
 module _ (f : ℕ → ℕ → Record) where
-  pub records-length : length (recordsBy f) ≡ 128
-  unfolding each joined from
-  records-length = refl
+  records-length : length (recordsBy f) ≡ 128
+  records-length = grid-length chunkLimit blockLimit f
 
-  pub records-at : (c b : ℕ) → c < chunkLimit → b < blockLimit → getD (recordsBy f) (at c b) noRecord ≡ f c b
+  records-at : (c b : ℕ) → c < chunkLimit → b < blockLimit → getD (recordsBy f) (at c b) noRecord ≡ f c b
   records-at c b h k = grid-at f chunkLimit blockLimit c b noRecord h k
 
-  -- they are told by what each chunk has of each block
-  pub records-of : (l : List Record) → length l ≡ 128 → ((c b : ℕ) → c < chunkLimit → b < blockLimit → getD l (at c b) noRecord ≡ f c b) → l ≡ recordsBy f
-  records-of l e h = ext-getD noRecord l (recordsBy f) (e ∙ sym records-length) (λ i k. go i (rw e at k))
-    where
-      go : (i : ℕ) → i < 128 → getD l i noRecord ≡ getD (recordsBy f) i noRecord
-      go i k =
-          let c = i / blockLimit in
-          let b = i % blockLimit in
-          let e : at c b ≡ i = div-add-mod' i blockLimit in
-          let m : b < blockLimit = mod-lt i (omega arith) in
-          let n : c < chunkLimit = omega arith in
-          rw (← e) (h c b n m ∙ sym (records-at c b n m))
+  records-of : (l : List Record) → length l ≡ 128 → ((c b : ℕ) → c < chunkLimit → b < blockLimit → getD l (at c b) noRecord ≡ f c b) → l ≡ recordsBy f
+  records-of l e h = grid-of chunkLimit blockLimit noRecord f l e h
 
-pub records-same : (f g : ℕ → ℕ → Record) → ((c b : ℕ) → c < chunkLimit → b < blockLimit → f c b ≡ g c b) → recordsBy f ≡ recordsBy g
-records-same f g h = records-of g (recordsBy f) (records-length f) (λ c b k m. records-at f c b k m ∙ h c b k m)
+records-same : (f g : ℕ → ℕ → Record) → ((c b : ℕ) → c < chunkLimit → b < blockLimit → f c b ≡ g c b) → recordsBy f ≡ recordsBy g
+records-same f g h = grid-same chunkLimit blockLimit noRecord f g h
 
 -- ---- one block is stored, chunk by chunk: below chunk i it is
 

@@ -12,7 +12,7 @@ use Rattle.rules.specs.declared.Copy.{Copy}
 use Rattle.rules.specs.Events.{copiesOf}
 use Rattle.rules.specs.Kinds.{isFailed}
 use Rattle.rules.specs.Settlement.{settled, allLost}
-use Rattle.rules.specs.Tables.{isBlock, at, recordsBy}
+use Rattle.rules.specs.Tables.{isBlock, at}
 use Rattle.rules.specs.Timestamps.{noEpoch}
 use Rattle.rules.specs.Words.{if_then_else_}
 use Rattle.rules.specs.Zero.{noRecord, noCopy, noChunk}

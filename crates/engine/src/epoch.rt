@@ -24,7 +24,8 @@ ghost use Rattle.rules.specs.Tables.{recordsBy, withEpoch};
 ghost use Rattle.rules.specs.Words.{each, some, numbers};
 ghost use Rattle.engine.specs.Epoch.{tableOf, failedAt, lostAt, storedAt, settledAt};
 
-const GREATEST_EPOCH: u64 = 4294967295;
+// "Clocks and epochs go up to 4,294,967,295".
+const GREATEST_CLOCK: u64 = 4294967295;
 
 fn is_failed(state: State) -> bool
     ensures { λ r. ⌜ r ≡ isFailed state ⌝ }
@@ -36,6 +37,7 @@ fn is_failed(state: State) -> bool
     }
 }
 
+// "no chunk failed"; an unused place is normal.
 fn any_failed(chunks: [Chunk; CHUNKS]) -> bool
     ensures { λ r. ⌜ r ≡ some (failedAt chunks) (numbers chunkLimit) ⌝ }
 {
@@ -51,7 +53,7 @@ fn any_failed(chunks: [Chunk; CHUNKS]) -> bool
     false
 }
 
-// A block's copies, one a chunk.
+// A block's copies, one a chunk; what stands in their places at first is written over.
 fn copies_of(
     k: Creation,
     chunks: [Chunk; CHUNKS],
@@ -111,7 +113,7 @@ fn change_code(
     if any_failed(chunks) {
         return 2;
     }
-    if epoch.0 == GREATEST_EPOCH {
+    if epoch.0 == GREATEST_CLOCK {
         return 7;
     }
     if any_all_lost(k, chunks, records) {
@@ -179,7 +181,7 @@ fn renew(k: Creation, epoch: Epoch, chunks: [Chunk; CHUNKS]) -> [Chunk; CHUNKS]
     out
 }
 
-// "15 epoch change".
+// "15 epoch change": every block is settled, every chunk renewed, and the epoch grows by one.
 pub fn change(t: Table, e: Event) -> Answer
     requires { ⌜ (wellFormed t ≡ true) × (e .kind ≡ 15) ⌝ }
     ensures { λ r. ⌜ r ≡ step t e ⌝ }

@@ -1,4 +1,4 @@
-use mathlib.Core.Path.{_≡_, refl, sym, ap, _∙_}
+use mathlib.Core.Path.{refl, _∙_}
 use borrow.Author.Needs.{needs}
 use Rattle.engine.proofs.creation.zero.Statement.{statement}
 use Rattle.engine.proofs.creation.zero.Tie as tie

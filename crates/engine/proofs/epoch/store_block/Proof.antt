@@ -1,11 +1,8 @@
 use Prim.Native.Nat.{ℕ, _-_, _≤_}
-use mathlib.Core.Path.{_≡_, refl, sym, ap, _∙_}
+use mathlib.Core.Path.{_≡_, ap, _∙_}
 use native.Mathlib.Omega.{arith}
-use mathlib.Core.List.{List}
-use lib.ListN.{length, getD, set}
-use Rattle.rules.specs.declared.Record.{Record}
-use Rattle.rules.specs.Tables.{at, recordsBy}
-use Rattle.rules.specs.Zero.{noCopy}
+use lib.ListN.{length}
+use Rattle.rules.specs.Tables.{recordsBy}
 use Rattle.engine.proofs.EpochLaws.{storedTo, stored-begin, stored-next, stored-end}
 use borrow.Author.Needs.{needs}
 use Rattle.engine.proofs.epoch.store_block.Statement.{statement}
