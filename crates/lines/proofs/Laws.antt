@@ -19,14 +19,17 @@ use Rattle.lines.specs.Steps.{betweenWords, badReading, newReading, said
 
 -- ---- one byte
 
--- what one byte can add
-ended-count : (r : Reading) → ended r .line .count ≤ r .line .count + 1
-unfolding ended
-ended-count r = walk (λ (s : Reading). s .line .count ≤ r .line .count + 1) (r .begun) _ badReading (λ _. omega arith) (λ _. omega arith)
+-- at most one number more than r has
+abbrev OneMore : (r s : Reading) → Type 0
+OneMore r s = s .line .count ≤ r .line .count + 1
 
-continued-count : (r : Reading) (d : ℕ) → continued r d .line .count ≤ r .line .count + 1
+ended-count : (r : Reading) → OneMore r (ended r)
+unfolding ended
+ended-count r = walk (OneMore r) (r .begun) _ badReading (λ _. omega arith) (λ _. omega arith)
+
+continued-count : (r : Reading) (d : ℕ) → OneMore r (continued r d)
 unfolding continued
-continued-count r d = walk (λ (s : Reading). s .line .count ≤ r .line .count + 1) (ltb (r .value * 10 + d) (2 ^ 64)) _ badReading (λ _. omega arith) (λ _. omega arith)
+continued-count r d = walk (OneMore r) (ltb (r .value * 10 + d) (2 ^ 64)) _ badReading (λ _. omega arith) (λ _. omega arith)
 
 -- a number past the last place is counted only
 pub said-past : (l : Line) (n : ℕ) → length (l .numbers) ≤ l .count → record { good = true; count = l .count + 1; numbers = l .numbers } ≡ saidAlso l n
@@ -42,12 +45,12 @@ module _ (r : Reading) (d : ℕ) where
   continued-fits h = rw (lt-ltb (r .value * 10 + d) (2 ^ 64) h) refl
 
 module _ (r : Reading) (c : ℕ) where
-  pub taken-count : taken r c .line .count ≤ r .line .count + 1
+  pub taken-count : OneMore r (taken r c)
   unfolding taken
   taken-count =
-      walk (λ (s : Reading). s .line .count ≤ r .line .count + 1) (r .line .good) _ r
-      (λ _. walk (λ (s : Reading). s .line .count ≤ r .line .count + 1) (eqb c space) (ended r) _ (λ _. ended-count r)
-      (λ _. walk (λ (s : Reading). s .line .count ≤ r .line .count + 1) (isDigit c) (continued r (c - 48)) badReading (λ _. continued-count r (c - 48)) (λ _. omega arith)))
+      walk (OneMore r) (r .line .good) _ r
+      (λ _. walk (OneMore r) (eqb c space) (ended r) _ (λ _. ended-count r)
+      (λ _. walk (OneMore r) (isDigit c) (continued r (c - 48)) badReading (λ _. continued-count r (c - 48)) (λ _. omega arith)))
       (λ _. omega arith)
 
   pub taken-bad : r .line .good ≡ false → r ≡ taken r c
@@ -85,11 +88,16 @@ saying-more ws w =
     let n : length (ws ++ w ∷ []) ≡ length ws + 1 = length-append ws (w ∷ []) in
     rw (n, each-append value ws (w ∷ []), ← each-length value ws) (ap (λ (l : List ℕ). record { good = true; count = length (each value ws) + 1; numbers = l }) (filled-more 0 (value w) numberLimit (each value ws)))
 
--- the words before the last space, and the word that has begun
+-- the words before the last space have been read, and of the next one w
+abbrev inWord : List (List ℕ) → List ℕ → Reading
+inWord ws w = record { line = saying ws; begun = ltb 0 (length w); value = value w }
+
+-- w may become a number
+abbrev fits : List ℕ → Bool
+fits w = every isDigit w && ltb (value w) (2 ^ 64)
+
 abbrev readingOf : List (List ℕ) → List ℕ → Reading
-readingOf ws w =
-    cond (every isNumber ws && (every isDigit w && ltb (value w) (2 ^ 64)))
-    (record { line = saying ws; begun = ltb 0 (length w); value = value w }) badReading
+readingOf ws w = cond (every isNumber ws && fits w) (inWord ws w) badReading
 
 module _ (ws : List (List ℕ)) (w : List ℕ) where
   -- the word ends
@@ -113,10 +121,9 @@ module _ (ws : List (List ℕ)) (w : List ℕ) where
     -- by a space
     space-is : eqb c space ≡ true → taken (readingOf ws w) c ≡ readingOf (ws ++ w ∷ []) []
     unfolding taken ended
-    space-is h = go (every isNumber ws && (every isDigit w && ltb (value w) (2 ^ 64))) ∙ ended-is
+    space-is h = go (every isNumber ws && fits w) ∙ ended-is
       where
-        go : (b : Bool) → taken (cond b (record { line = saying ws; begun = ltb 0 (length w); value = value w }) badReading) c
-            ≡ ended (cond b (record { line = saying ws; begun = ltb 0 (length w); value = value w }) badReading)
+        go : (b : Bool) → taken (cond b (inWord ws w) badReading) c ≡ ended (cond b (inWord ws w) badReading)
         go true = rw h refl
         go false = refl
 
@@ -130,7 +137,7 @@ module _ (ws : List (List ℕ)) (w : List ℕ) where
           (go (every isNumber ws) (every isDigit w) (ltb (value w) (2 ^ 64)) (λ h. le-ltb (value w * 10 + (c - 48)) (2 ^ 64) (omega (arith, ltb-false (value w) (2 ^ 64) h))))
         where
           go : (a b d : Bool) → (d ≡ false → ltb (value w * 10 + (c - 48)) (2 ^ 64) ≡ false)
-              → taken (cond (a && (b && d)) (record { line = saying ws; begun = ltb 0 (length w); value = value w }) badReading) c
+              → taken (cond (a && (b && d)) (inWord ws w) badReading) c
               ≡ cond (a && ((b && (isDigit c && true)) && ltb (value w * 10 + (c - 48)) (2 ^ 64))) (record { line = saying ws; begun = true; value = value w * 10 + (c - 48) }) badReading
           go false b d h = refl
           go true false d h = refl
@@ -142,10 +149,10 @@ module _ (ws : List (List ℕ)) (w : List ℕ) where
       unfolding taken every
       bad-is k =
           rw (every-append isDigit w (c ∷ []))
-          (go (every isNumber ws) (every isDigit w) (every isDigit w && ltb (value w) (2 ^ 64)))
+          (go (every isNumber ws) (every isDigit w) (fits w))
         where
-          go : (a b d : Bool) → taken (cond (a && d) (record { line = saying ws; begun = ltb 0 (length w); value = value w }) badReading) c
-              ≡ cond (a && ((b && (isDigit c && true)) && ltb (value (w ++ c ∷ [])) (2 ^ 64))) (record { line = saying ws; begun = ltb 0 (length (w ++ c ∷ [])); value = value (w ++ c ∷ []) }) badReading
+          go : (a b d : Bool) → taken (cond (a && d) (inWord ws w) badReading) c
+              ≡ cond (a && ((b && (isDigit c && true)) && ltb (value (w ++ c ∷ [])) (2 ^ 64))) (inWord ws (w ++ c ∷ [])) badReading
           go false b d = refl
           go true true true = rw (other, k) refl
           go true true false = rw k refl

@@ -59,6 +59,12 @@ text-bytes l =
 pub line-gathered : (l : List ℕ) → lineOf (bytesOf (fold followed (textOf []) l)) ≡ lineOf l
 line-gathered l = ap (λ (t : Text). lineOf (bytesOf t)) (text-more [] l) ∙ ap lineOf (text-bytes l) ∙ line-cut l
 
+-- and one that was cut out of a block says what stands before its newline
+pub line-cut-out : (block : List ℕ) (at : ℕ)
+    → lineOf (bytesOf (cutAt block at (textOf []) .text)) ≡ lineOf (take (place isNewline (drop at block)) (drop at block))
+unfolding cutAt
+line-cut-out block at = line-gathered (take (place isNewline (drop at block)) (drop at block))
+
 -- ---- where a block of input ends tells nothing
 
 place-past : (k l : List ℕ) → ltb (place isNewline k) (length k) ≡ false → place isNewline (k ++ l) ≡ length k + place isNewline l
