@@ -1,3 +1,2 @@
-pub mod Arrays
 pub mod CreationLaws
 pub mod EpochLaws
