@@ -25,8 +25,8 @@ use Rattle.rules.specs.Words.{each, numbers}
 use Rattle.rules.specs.Zero.{noRecord, noCopy}
 use Rattle.rules.proofs.Lists.{grid-at}
 use Rattle.rules.proofs.Events.{out-of-range, refused-own, granted-own}
+use Rattle.rules.proofs.Loops.{below-next, grid-length, grid-of, grid-same}
 use Rattle.engine.specs.Epoch.{storedAt, settledAt}
-use Rattle.engine.proofs.Arrays.{below-next, grid-length, grid-of, grid-same}
 
 -- ---- the records by chunk and block
 

@@ -1,4 +1,3 @@
-pub mod Arrays
 pub mod CreationLaws
 pub mod HostLaws
 pub mod ChunkLaws

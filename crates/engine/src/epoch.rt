@@ -190,19 +190,19 @@ pub fn change(t: Table, e: Event) -> Answer
         return super::refuse(t, 1);
     }
     let k = t.creation;
+    let epoch = t.epoch;
     let chunks = t.chunks;
     let records = t.records;
-    let code = change_code(k, t.epoch, chunks, records);
+    let code = change_code(k, epoch, chunks, records);
     if code != 0 {
         return super::refuse(t, code);
     }
-    let epoch = t.epoch;
-    let mut out = t;
     let settled = settle_blocks(k, chunks, records);
-    out.records = settled;
     let renewed = renew(k, epoch, chunks);
-    out.chunks = renewed;
     let next = Epoch(epoch.0 + 1);
+    let mut out = t;
     out.epoch = next;
+    out.chunks = renewed;
+    out.records = settled;
     super::grant(out)
 }

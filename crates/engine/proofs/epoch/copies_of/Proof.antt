@@ -10,7 +10,7 @@ use Rattle.rules.specs.declared.Chunk.{Chunk}
 use Rattle.rules.specs.declared.Copy.{Copy}
 use Rattle.rules.specs.Tables.{at, setOf}
 use Rattle.rules.specs.Zero.{_among_, noRecord, noCopy, noChunk}
-use Rattle.engine.proofs.Arrays.{made, made-begin, made-next, made-end}
+use Rattle.rules.proofs.Loops.{made, made-begin, made-next, made-end}
 use borrow.Author.Needs.{needs}
 use Rattle.engine.proofs.epoch.copies_of.Statement.{statement}
 use Rattle.engine.proofs.epoch.copies_of.Tie as tie

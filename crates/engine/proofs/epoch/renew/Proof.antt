@@ -7,7 +7,7 @@ use Rattle.rules.specs.declared.State.{State}
 use Rattle.rules.specs.declared.Chunk.{Chunk}
 use Rattle.rules.specs.Timestamps.{next}
 use Rattle.rules.specs.Zero.{noBlocks, noChunk}
-use Rattle.engine.proofs.Arrays.{made, made-begin, made-next}
+use Rattle.rules.proofs.Loops.{made, made-begin, made-next}
 use borrow.Author.Needs.{needs}
 use Rattle.engine.proofs.epoch.renew.Statement.{statement}
 use Rattle.engine.proofs.epoch.renew.Tie as tie
