@@ -1,5 +1,5 @@
 -- Loops: what a loop over an array cites, and how a word of the rules is a loop. Over any element
-use Prim.Native.Nat.{ℕ, zero, suc, _+_, _-_, _≤_, _<_, compare·suc-suc, _*_, _/_, _%_}
+use Prim.Native.Nat.{ℕ, zero, suc, _+_, _-_, _≤_, _<_, compare·suc-suc, _*_, _/_, _%_, min}
 use mathlib.Core.Path.{_≡_, refl, sym, ap, _∙_}
 use mathlib.Core.Bool.{Bool, true, false, cond, _&&_, _||_, not, true≢false}
 use mathlib.Core.List.{List, [], _∷_, _++_, append-assoc, append-nil}
@@ -8,11 +8,11 @@ use native.Mathlib.Decide.{decLe, ℕ-discrete}
 use native.Mathlib.Omega.{arith}
 use lib.ListN.{length, getD, take, drop, drop-of-length-le, length-take, set, List·getD-eq-default, replicate, take-append-drop, length-drop, length-append, length-replicate, getD-replicate, List·getD-append, length-set}
 use lib.Dec.{ltb, eqb}
-use borrow.Author.Tests.{lt-ltb, le-ltb, eq-eqb, ne-eqb}
-use lib.Seq.{drop-cons, take-suc, take-take, take-at, append-snoc, length-take-le, set-at, getD-at, getD-take, getD-drop, getD-append-add, take-append-le, drop-append-le, set-append-left, take-set-lt, ext-getD, take-all, getD-append-seam, getD-set-same, getD-set-other}
+use borrow.Author.Tests.{lt-ltb, eq-eqb, ne-eqb}
+use lib.Seq.{drop-cons, take-suc, take-take, take-at, append-snoc, length-take-le, set-at, getD-at, getD-take, getD-drop, getD-append-add, take-append-le, drop-append-le, set-append-left, take-set-lt, ext-getD, take-all, getD-set-same, getD-set-other}
 use Rattle.rules.specs.Words.{those, each, joined, every, some, place, fold, from, numbers, first, filled}
-use Rattle.rules.proofs.Lists.{every-number, every-numbers, none-number, some-number, both, filled-here, filled-past, numbers-length, numbers-at, each-length, each-number, grid-at}
-use native.Mathlib.Nat.{suc-mul, div-add-mod', mod-lt, div-lt-iff-lt-mul}
+use Rattle.rules.proofs.Lists.{every-number, every-numbers, none-number, some-number, both, filled-here, filled-past, numbers-length, numbers-at, each-length, each-number}
+use native.Mathlib.Nat.{mod-lt, div-lt-iff-lt-mul}
 use lib.Arith.{digits-lt, digits-div, digits-mod}
 use Rattle.rules.specs.Codes.{Row, codeOf, _gives_⨾_, granted}
 
@@ -426,31 +426,11 @@ pub count-end : {A : Type 0} (p : A → Bool) (l : List A) → l ≡ [] → leng
 unfolding those
 count-end p l h = rw h refl
 
--- ---- the whole rewritten; one more in an array that is filled from the front
+-- ---- the whole rewritten
 
 module _ {A : Type 0} (new old : List A) (i : ℕ) where
   pub mixed-end : length new ≤ i → length old ≤ i → mixed i new old ≡ new
   mixed-end h k = rw (take-all i new h, drop-of-length-le old k) (append-nil new)
-
-module _ {A : Type 0} (d : A) (n : ℕ) where
-  snoc-other : (l : List A) (x : A) (i : ℕ) → (i ≡ length l → ⊥) → getD (l ++ x ∷ []) i d ≡ getD l i d
-  snoc-other [] x zero h = absurd (h refl)
-  snoc-other [] x (suc i) h = refl
-  snoc-other (y ∷ ys) x zero h = refl
-  snoc-other (y ∷ ys) x (suc i) h = snoc-other ys x i (λ e. h (ap suc e))
-
-  -- one more at the end; where the array is full it stays out
-  pub filled-more : (l : List A) (x : A) → set (filled n d l) (length l) x ≡ filled n d (l ++ x ∷ [])
-  filled-more l x =
-      let e = filled-length d n l in
-      ext-getD d (set (filled n d l) (length l) x) (filled n d (l ++ x ∷ [])) (simp (length-set, filled-length)) (λ i h.
-      let k : i < n = omega (arith, length-set (filled n d l) (length l) x) in
-      go i k (ℕ-discrete i (length l)) ∙ sym (filled-at d n (l ++ x ∷ []) i k))
-    where
-      go : (i : ℕ) → i < n → Dec (i ≡ length l) → getD (set (filled n d l) (length l) x) i d ≡ getD (l ++ x ∷ []) i d
-      go i h (yes e) =
-          rw e (getD-set-same (filled n d l) (length l) x d (omega (arith, filled-length d n l)) ∙ sym (getD-append-seam l x [] d))
-      go i h (no e) = getD-set-other (filled n d l) (length l) i x d e ∙ filled-at d n l i h ∙ sym (snoc-other l x i e)
 
 -- one place marked among n; a place beyond them marks none
 pub marked-only : (n c : ℕ) → set (replicate n false) c true ≡ each (eqb c) (numbers n)
@@ -479,80 +459,45 @@ every-append p (x ∷ k) l = go (p x) (every-append p k l)
     go true h = h
     go false h = refl
 
--- ---- engine: arrays made place by place, and rows one behind the other
+module _ {A : Type 0} (d x : A) where
+  replicate-cut : (n m : ℕ) → n ≤ m → take n (replicate m d) ≡ take n (replicate (suc m) d)
+  replicate-cut zero m h = refl
+  replicate-cut (suc n) zero h = absurd (omega arith)
+  replicate-cut (suc n) (suc m) h = ap (λ (t : List A). d ∷ t) (replicate-cut n m (omega arith))
 
--- an array is told by what it has in its places
-pub each-of : {A : Type 0} (d : A) (f : ℕ → A) (n : ℕ) (l : List A) → length l ≡ n → ((i : ℕ) → i < n → getD l i d ≡ f i) → l ≡ each f (numbers n)
-each-of d f n l e h =
-    ext-getD d l (each f (numbers n)) (e ∙ sym (each-length f (numbers n) ∙ numbers-length n))
-    (λ i k. let m : i < n = rw e at k in h i m ∙ sym (each-number f n i d m))
+  set-past : (l : List A) (n m : ℕ) → n ≤ m → set (take n (l ++ replicate m d)) (length l) x ≡ take n ((l ++ x ∷ []) ++ replicate m d)
+  set-past [] zero m h = refl
+  set-past [] (suc n) zero h = absurd (omega arith)
+  set-past [] (suc n) (suc m) h = ap (λ (t : List A). x ∷ t) (replicate-cut n m (omega arith))
+  set-past (y ∷ l) zero m h = refl
+  set-past (y ∷ l) (suc n) m h = ap (λ (t : List A). y ∷ t) (set-past l n m (omega arith))
 
--- below i, and below i + 1: the same, but for i itself
-pub below-next : (i j : ℕ) → (j ≡ i → ⊥) → ltb j i ≡ ltb j (i + 1)
-below-next i j h = go (decLe i j)
+  -- a store behind the last one; where there is no place any more, nothing changes
+  pub filled-more : (n : ℕ) (l : List A) → set (filled n d l) (length l) x ≡ filled n d (l ++ x ∷ [])
+  filled-more n l = set-past l n n (omega arith)
+
+pub filled-whole : {A : Type 0} (d : A) (n : ℕ) (l : List A) → length l ≡ n → filled n d l ≡ l
+filled-whole d n l h = take-at l (replicate n d) n h
+
+-- a loop that fills an array with f of each, by its index i
+pub each-more : {A B : Type 0} (f : A → B) (a : A) (d : B) (n : ℕ) (l : List A) (i : ℕ) → i < length l
+    → set (filled n d (each f (take i l))) i (f (getD l i a)) ≡ filled n d (each f (take (i + 1) l))
+unfolding each
+each-more f a d n l i h =
+    let k : length (each f (take i l)) ≡ i = each-length f (take i l) ∙ length-take-le i l (omega arith) in
+    let more : take (i + 1) l ≡ take i l ++ getD l i a ∷ [] = rw add-one (take-suc l i a h) in
+    ap (λ (j : ℕ). set (filled n d (each f (take i l))) j (f (getD l i a))) (sym k)
+    ∙ filled-more d (f (getD l i a)) n (each f (take i l))
+    ∙ ap (filled n d) (sym (each-append f (take i l) (getD l i a ∷ [])) ∙ ap (each f) (sym more))
+
+-- the first n of an array of m, where n may be more
+pub take-min : {A : Type 0} (n m : ℕ) (l : List A) → length l ≡ m → take (min n m) l ≡ take n l
+take-min n m l h = go (decLe m n)
   where
-    go : Dec (i ≤ j) → ltb j i ≡ ltb j (i + 1)
-    go (yes k) = le-ltb j i k ∙ sym (le-ltb j (i + 1) (omega arith))
-    go (no k) = lt-ltb j i (omega arith) ∙ sym (lt-ltb j (i + 1) (omega arith))
-
--- a loop that makes n places anew by f, from what g has there: its invariant is that the first i are made
-module _ {A : Type 0} (f g : ℕ → A) (n : ℕ) where
-  abbrev pub made : ℕ → List A
-  made i = each (λ j. cond (ltb j i) (f j) (g j)) (numbers n)
-
-  made-length : (i : ℕ) → length (made i) ≡ n
-  made-length i = each-length (λ j. cond (ltb j i) (f j) (g j)) (numbers n) ∙ numbers-length n
-
-  pub made-begin : (d : A) (l : List A) → length l ≡ n → ((i : ℕ) → i < n → getD l i d ≡ g i) → l ≡ made 0
-  made-begin d l e h = each-of d (λ j. cond (ltb j 0) (f j) (g j)) n l e (λ i k. h i k ∙ rw (le-ltb i 0 (omega arith)) refl)
-
-  pub made-next : (i : ℕ) → i < n → set (made i) i (f i) ≡ made (i + 1)
-  made-next i h =
-      each-of (f i) (λ j. cond (ltb j (i + 1)) (f j) (g j)) n (set (made i) i (f i)) (length-set (made i) i (f i) ∙ made-length i) (λ j k. go j k (ℕ-discrete j i))
-    where
-      go : (j : ℕ) → j < n → Dec (j ≡ i) → getD (set (made i) i (f i)) j (f i) ≡ cond (ltb j (i + 1)) (f j) (g j)
-      go j k (yes e) = rw (e, lt-ltb i (i + 1) (omega arith)) (getD-set-same (made i) i (f i) (f i) (rw (made-length i) h))
-      go j k (no e) =
-          getD-set-other (made i) i j (f i) (f i) e ∙ each-number (λ j. cond (ltb j i) (f j) (g j)) n j (f i) k
-          ∙ ap (λ (b : Bool). cond b (f j) (g j)) (below-next i j e)
-
-  pub made-end : made n ≡ each f (numbers n)
-  made-end = each-of (f 0) f n (made n) (made-length n) (λ i k. each-number (λ j. cond (ltb j n) (f j) (g j)) n i (f 0) k ∙ rw (lt-ltb i n k) refl)
-
--- .. from the same in every place
-pub made-blank : {A : Type 0} (f : ℕ → A) (x : A) (n : ℕ) → replicate n x ≡ made f (λ _. x) n 0
-made-blank f x n = made-begin f (λ _. x) n x (replicate n x) (length-replicate n x) (λ i h. getD-replicate n i x x h)
-
--- m rows of n, one behind the other
-rows-length : {A : Type 0} (f : ℕ → List A) (n : ℕ) → ((i : ℕ) → length (f i) ≡ n) → (i m : ℕ) → length (joined (each f (from i m))) ≡ m * n
-unfolding joined each from
-rows-length f n h i zero = omega arith
-rows-length f n h i (suc m) =
-    length-append (f i) (joined (each f (from (suc i) m))) ∙ (omega (arith, h i, rows-length f n h (suc i) m, suc-mul m n))
-
-module _ {A : Type 0} (m n : ℕ) where
-  abbrev grid : (ℕ → ℕ → A) → List A
-  grid f = joined (each (λ c. each (f c) (numbers n)) (numbers m))
-
-  pub grid-length : (f : ℕ → ℕ → A) → length (grid f) ≡ m * n
-  grid-length f = rows-length (λ c. each (f c) (numbers n)) n (λ i. each-length (f i) (numbers n) ∙ numbers-length n) 0 m
-
-  -- an array of rows is told by what it has in each row and column
-  pub grid-of : (d : A) (f : ℕ → ℕ → A) (l : List A) → length l ≡ m * n → ((c b : ℕ) → c < m → b < n → getD l (c * n + b) d ≡ f c b) → l ≡ grid f
-  grid-of d f l e h = ext-getD d l (grid f) (e ∙ sym (grid-length f)) (λ i k. at i (rw e at k) (columns n (rw e at k)))
-    where
-      columns : (n : ℕ) {i : ℕ} → i < m * n → 0 < n
-      columns zero k = absurd (omega arith)
-      columns (suc n) k = omega arith
-
-      at : (i : ℕ) → i < m * n → 0 < n → getD l i d ≡ getD (grid f) i d
-      at i k some-columns =
-          let c = i / n in
-          let b = i % n in
-          let r : c < m = div-lt-iff-lt-mul some-columns .1 k in
-          let q : b < n = mod-lt i some-columns in
-          let z : c * n + b ≡ i = div-add-mod' i n in
-          rw (← z) (h c b r q ∙ sym (grid-at f m n c b d r q))
-
-  pub grid-same : A → (f g : ℕ → ℕ → A) → ((c b : ℕ) → c < m → b < n → f c b ≡ g c b) → grid f ≡ grid g
-  grid-same d f g h = grid-of d g (grid f) (grid-length f) (λ c b k q. grid-at f m n c b d k q ∙ h c b k q)
+    go : Dec (m ≤ n) → take (min n m) l ≡ take n l
+    go (yes k) =
+        let e : min n m ≡ m = omega arith in
+        rw e (take-all m l (omega arith) ∙ sym (take-all n l (omega arith)))
+    go (no k) =
+        let e : min n m ≡ n = omega arith in
+        rw e refl

@@ -43,7 +43,7 @@ returns c =
     (λ w. w .1 ∙ rw (f .operations-from .ensures, h .held .ensures .0) refl)
     (λ w. w .1 ∙ f .operations-from .ensures ∙ full (w .0 .left))
     (c .if1 .came) in
-    queue-is (l ++ o ∷ []) _ _ (omega (arith, length-append l (o ∷ []), h .held .ensures .0)) (stored ∙ filled-more zeroOperation 8 l o)
+    queue-is (l ++ o ∷ []) _ _ (omega (arith, length-append l (o ∷ []), h .held .ensures .0)) (stored ∙ filled-more zeroOperation o 8 l)
 
 pub with-last-spec : {M : Type 1} → statement M
 with-last-spec =
