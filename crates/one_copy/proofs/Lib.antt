@@ -6,3 +6,4 @@ pub mod Flows
 pub mod Decide
 pub mod Settle
 pub mod Refine
+pub mod Sessions
