@@ -5,8 +5,8 @@ use mathlib.Core.Bool.{Bool, true, false}
 use Prim.Native.Nat.{ℕ, zero, suc, _+_, _≤_, _<_}
 use native.Mathlib.Omega.{arith}
 
-pub data Kind : Type 0 where
-  idle readK writeK : Kind
+pub data Began : Type 0 where
+  idle readK writeK : Began
 
 pub data Mark : Type 0 where
   und cmt abt : Mark
@@ -29,7 +29,7 @@ pub record Cell : Type 1 where
 -- In the base the era is the store's epoch and nothing is void; a salvage would begin an era and make void what it leaves out
 pub record Book : Type 1 where
   pub era : ℕ
-  pub kind : ℕ → Kind
+  pub kind : ℕ → Began
   pub value : ℕ → ℕ
   pub ae : ℕ → ℕ
   pub L : ℕ → Type 0
@@ -72,7 +72,7 @@ pub record Waits (B : Book) (k : Cell) (t v : ℕ) : Type 0 where
   pub overR : k .rd < t
 
 -- a good entry of a waiting list
-pub record Entry (B : Book) (F : Flow) (k : Cell) (t v : ℕ) (m : Mark) : Type 0 where
+pub record EntryOk (B : Book) (F : Flow) (k : Cell) (t v : ℕ) (m : Mark) : Type 0 where
   pub fits : Waits B k t v
   pub done : m ≡ cmt → B .L t
   pub dead : m ≡ abt → (F .act t → ⊥) × (B .L t → ⊥)

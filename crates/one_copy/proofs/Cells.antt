@@ -5,7 +5,7 @@ use mathlib.Core.Bool.{Bool, true, false, true≢false}
 use Prim.Native.Nat.{ℕ, zero, suc, _+_, _≤_, _<_}
 use native.Mathlib.Omega.{arith}
 use Rattle.one_copy.proofs.Tests.{at, at-all, at-same, at-other, eq-or-ne, le-or-lt, not-both, true-or-false}
-use Rattle.one_copy.proofs.Abs.{Kind, Mark, und, cmt, abt, idle, readK, writeK, Cell, Book, Flow, Live, IsLive, Promise, Wrote, Last, Waits, Entry, cmt≢abt, idle≢writeK, readK≢writeK, CellOk, GlobOk, Seen, Inv}
+use Rattle.one_copy.proofs.Abs.{Began, Mark, und, cmt, abt, idle, readK, writeK, Cell, Book, Flow, Live, IsLive, Promise, Wrote, Last, Waits, EntryOk, cmt≢abt, idle≢writeK, readK≢writeK, CellOk, GlobOk, Seen, Inv}
 
 module _ (S : ℕ → Type 0) where
   -- one cell moves, its last read does not fall: only that cell is to be looked at
@@ -63,7 +63,7 @@ module _ (S : ℕ → Type 0) where
 
     -- the queue changes and nothing else: each entry is good, and no live write that matters goes
     pub requeue : (w′ : ℕ → ℕ → Mark → Type 0) (r′ : ℕ → Type 0)
-        → ((u x : ℕ) (m : Mark) → w′ u x m → Entry B F k u x m)
+        → ((u x : ℕ) (m : Mark) → w′ u x m → EntryOk B F k u x m)
         → ((u : ℕ) → Live k u → ((x : ℕ) × (m : Mark) × w′ u x m × IsLive m) ⊎ ((F .act u → ⊥) × (B .L u → ⊥)))
         → ((u : ℕ) → r′ u → B .kind u ≡ readK)
         → CellOk B F c (record { wr = k .wr; rd = k .rd; val = k .val; lost = k .lost; w = w′; r = r′ })
@@ -81,7 +81,7 @@ module _ (S : ℕ → Type 0) where
     }
 
     -- an entry of the old queue is good
-    pub was : (u x : ℕ) (m : Mark) → k .lost ≡ false → k .w u x m → Entry B F k u x m
+    pub was : (u x : ℕ) (m : Mark) → k .lost ≡ false → k .w u x m → EntryOk B F k u x m
     was u x m l h = record { fits = i .waits u x m h; done = λ e. i .done u x (rw e at h); dead = λ e. i .dead u x (rw e at h); kept = l }
 
     pub mark-cmt : (t v : ℕ) (w′ : ℕ → ℕ → Mark → Type 0) (r′ : ℕ → Type 0) → ((u : ℕ) → r′ u → k .r u) → k .lost ≡ false → F .comm t → k .w t v und

@@ -5,7 +5,7 @@ use mathlib.Core.Bool.{Bool, true, false, true≢false}
 use Prim.Native.Nat.{ℕ, zero, suc, _+_, _≤_, _<_}
 use native.Mathlib.Omega.{arith}
 use Rattle.one_copy.proofs.Tests.{at, at-all, at-same, at-other, eq-or-ne, le-or-lt, not-both, true-or-false}
-use Rattle.one_copy.proofs.Abs.{Kind, Mark, und, cmt, abt, idle, readK, writeK, Cell, Book, Flow, Live, IsLive, Promise, Wrote, Last, Waits, Entry, Pre, cmt≢abt, und≢cmt, und≢abt, readK≢writeK, idle≢readK, idle≢writeK, CellOk, GlobOk, Seen, Inv}
+use Rattle.one_copy.proofs.Abs.{Began, Mark, und, cmt, abt, idle, readK, writeK, Cell, Book, Flow, Live, IsLive, Promise, Wrote, Last, Waits, EntryOk, Pre, cmt≢abt, und≢cmt, und≢abt, readK≢writeK, idle≢readK, idle≢writeK, CellOk, GlobOk, Seen, Inv}
 use Rattle.one_copy.proofs.Flows.{reflow}
 
 abbrev pub listed : Book → ℕ → Book
@@ -17,7 +17,7 @@ committed F t = record { cur = λ u. F .cur u × (u ≡ t → ⊥); act = λ u. 
 abbrev pub aborted : Flow → ℕ → Flow
 aborted F t = record { cur = λ u. F .cur u × (u ≡ t → ⊥); act = F .act; ack = F .ack; pre = F .pre; rdm = F .rdm; comm = F .comm; abtm = λ u. F .abtm u ⊎ (u ≡ t); seen = F .seen }
 
-abbrev pub begun : Book → ℕ → Kind → ℕ → ℕ → Book
+abbrev pub begun : Book → ℕ → Began → ℕ → ℕ → Book
 begun B t K v e = record { era = B .era; kind = at t K (B .kind); value = at t v (B .value); ae = at t e (B .ae); L = B .L; void = B .void }
 
 abbrev pub writing : Flow → ℕ → ℕ → ℕ → Flow
@@ -121,7 +121,7 @@ module _ (S : ℕ → Type 0) (B : Book) (F : Flow) (cell : ℕ → Cell) (i : I
   }
 
   -- a timestamp is drawn that was never drawn
-  module _ (t : ℕ) (K : Kind) (v e : ℕ) (F′ : Flow) (f : B .kind t ≡ idle) (nv : B .void t → ⊥) (pos : t ≡ 0 → ⊥)
+  module _ (t : ℕ) (K : Began) (v e : ℕ) (F′ : Flow) (f : B .kind t ≡ idle) (nv : B .void t → ⊥) (pos : t ≡ 0 → ⊥)
       (acts : (u : ℕ) → (u ≡ t → ⊥) → F′ .act u → F .act u) (acks : (u c : ℕ) → F′ .ack u c → F .ack u c) where
     isW≢ : (u : ℕ) → B .kind u ≡ writeK → u ≡ t → ⊥
     isW≢ u h q = idle≢writeK (sym f ∙ ap (B .kind) (sym q) ∙ h)

@@ -5,7 +5,7 @@ use mathlib.Core.Bool.{Bool, true, false, true≢false}
 use Prim.Native.Nat.{ℕ, zero, suc, _+_, _≤_, _<_}
 use native.Mathlib.Omega.{arith}
 use Rattle.one_copy.proofs.Tests.{at, at-all, at-same, at-other, eq-or-ne, le-or-lt, not-both, true-or-false}
-use Rattle.one_copy.proofs.Abs.{Kind, Mark, und, cmt, abt, idle, readK, writeK, Cell, Book, Flow, Live, IsLive, Promise, Wrote, Last, Waits, Entry, Pre, cmt≢abt, und≢cmt, und≢abt, readK≢writeK, idle≢readK, idle≢writeK, CellOk, GlobOk, Seen, Inv}
+use Rattle.one_copy.proofs.Abs.{Began, Mark, und, cmt, abt, idle, readK, writeK, Cell, Book, Flow, Live, IsLive, Promise, Wrote, Last, Waits, EntryOk, Pre, cmt≢abt, und≢cmt, und≢abt, readK≢writeK, idle≢readK, idle≢writeK, CellOk, GlobOk, Seen, Inv}
 use Rattle.one_copy.proofs.Cells.{one-cell, requeue, was, not-read}
 
 pub record Sub (F′ F : Flow) : Type 0 where
@@ -105,7 +105,7 @@ module _ (S : ℕ → Type 0) (B : Book) (F : Flow) (cell : ℕ → Cell) (i : I
       hit : S c → CellOk B (acked F t c) c (queued (cell c) t v)
       hit m = let o = i .cells c m in
           let n : (cell c) .rd ≡ t → ⊥ = λ q. not-read S B F c (cell c) g o t (p .isW) q in
-          let new : (u x : ℕ) (a : Mark) → (u ≡ t) × (x ≡ v) × (a ≡ und) → Entry B F (cell c) u x a = λ u x a q. record {
+          let new : (u x : ℕ) (a : Mark) → (u ≡ t) × (x ≡ v) × (a ≡ und) → EntryOk B F (cell c) u x a = λ u x a q. record {
             fits = record { isW = rw (q .0) (p .isW); vals = rw (q .0, q .1) (p .vals); now = rw (q .0) (p .known ∙ now); overW = omega (arith, q .0); overR = omega (arith, q .0) };
             done = λ f. absurd (und≢cmt (sym (q .2) ∙ f));
             dead = λ f. absurd (und≢abt (sym (q .2) ∙ f));

@@ -6,4 +6,7 @@ pub mod Flows
 pub mod Decide
 pub mod Settle
 pub mod Refine
+pub mod Net
+pub mod View
+pub mod Hosts
 pub mod Sessions

@@ -1,22 +1,15 @@
--- `Any P l`: some element of l has P. It computes on the list, and each list function of the store has one law for it.
-use mathlib.Core.Path.{_≡_, refl, sym, subst, _∙_, ap}
-use mathlib.Core.Logic.{_⊎_, inl, inr}
-use mathlib.Core.Bool.{Bool, true, false, cond, _&&_, true≢false, false≢true}
-use mathlib.Core.List.{List, [], _∷_, _++_, map}
+-- `Any P l`: some element of l has P. It computes on the list, and each list function of the rules has one law for it
 use Prim.Native.Nat.{ℕ, zero, suc, _+_, _≤_, _<_}
+use mathlib.Core.Path.{_≡_, refl, sym, ap, _∙_}
+use mathlib.Core.Logic.{_⊎_, inl, inr}
+use mathlib.Core.Bool.{Bool, true, false, cond, _||_, true≢false, false≢true}
+use mathlib.Core.List.{List, [], _∷_, _++_}
 use native.Mathlib.Omega.{arith}
 use lib.ListN.{length, getD, set}
 use lib.Seq.{getD-set-same, getD-set-other}
-use lib.Dec.{ltb, leb, eqb}
-use Rattle.one_copy.proofs.Tests.{at, at-same, at-other, at-all, eq-or-ne, not-both}
-
-pub and-l : (a b : Bool) → a && b ≡ true → a ≡ true
-and-l true b h = refl
-and-l false b h = h
-
-pub and-r : (a b : Bool) → a && b ≡ true → b ≡ true
-and-r true b h = h
-and-r false b h = absurd (false≢true h)
+use Rattle.rules.specs.Words.{those, each, joined, every, some, from, numbers}
+use Rattle.rules.proofs.Lists.{both}
+use Rattle.one_copy.proofs.Tests.{at, at-same, at-other, eq-or-ne}
 
 module _ {A : Type 0} where
   abbrev pub Any : (A → Type 0) → List A → Type 0
@@ -46,28 +39,67 @@ module _ {A : Type 0} where
   any-append P (x ∷ xs) m (inr h) = elim (any-append P xs m h) [ inl q ↦ inl (inr q) | inr q ↦ inr q ]
 
   pub any-left : (P : A → Type 0) (l m : List A) → Any P l → Any P (l ++ m)
+  any-left P [] m h = absurd h
   any-left P (x ∷ xs) m (inl h) = inl h
   any-left P (x ∷ xs) m (inr h) = inr (any-left P xs m h)
-  any-left P [] m h = absurd h
 
   pub any-right : (P : A → Type 0) (l m : List A) → Any P m → Any P (l ++ m)
   any-right P [] m h = h
   any-right P (x ∷ xs) m h = inr (any-right P xs m h)
 
-  -- `every p l`: the test, and what it tells of the element at an index
-  abbrev pub every : (A → Bool) → List A → Bool
-  every p [] = true
-  every p (x ∷ xs) = p x && every p xs
+  -- an element, out of the list
+  pub any-at : (P : A → Type 0) (l : List A) (d : A) → Any P l → (i : ℕ) × (i < length l) × P (getD l i d)
+  any-at P [] d h = absurd h
+  any-at P (x ∷ xs) d (inl h) = (0, omega arith, h)
+  any-at P (x ∷ xs) d (inr h) = let r = any-at P xs d h in let k = r .1 in (suc (r .0), omega arith, r .2)
 
-  pub every-getD : (p : A → Bool) (l : List A) (i : ℕ) (d : A) → every p l ≡ true → p d ≡ true → p (getD l i d) ≡ true
-  every-getD p [] i d h e = e
-  every-getD p (x ∷ xs) zero d h e = and-l (p x) (every p xs) h
-  every-getD p (x ∷ xs) (suc i) d h e = every-getD p xs i d (and-r (p x) (every p xs) h) e
+  -- those that pass a test
+  pub any-those : (p : A → Bool) (P : A → Type 0) (l : List A) → Any P (those p l) → Any (λ x. (p x ≡ true) × P x) l
+  unfolding those
+  any-those p P [] h = h
+  any-those p P (x ∷ xs) h = go (p x) refl h (any-those p P xs)
+    where
+      go : (t : Bool) → p x ≡ t → Any P (cond t (x ∷ those p xs) (those p xs)) → (Any P (those p xs) → Any (λ x. (p x ≡ true) × P x) xs) → ((p x ≡ true) × P x) ⊎ Any (λ x. (p x ≡ true) × P x) xs
+      go true e (inl z) f = inl (e, z)
+      go true e (inr z) f = inr (f z)
+      go false e z f = inr (f z)
 
-  pub every-at : (p : A → Bool) (l : List A) (i : ℕ) (d : A) → every p l ≡ true → i < length l → p (getD l i d) ≡ true
-  every-at p [] i d h lt = absurd (omega arith)
-  every-at p (x ∷ xs) zero d h lt = and-l (p x) (every p xs) h
-  every-at p (x ∷ xs) (suc i) d h lt = every-at p xs i d (and-r (p x) (every p xs) h) (omega arith)
+  pub those-any : (p : A → Bool) (P : A → Type 0) (l : List A) → Any (λ x. (p x ≡ true) × P x) l → Any P (those p l)
+  unfolding those
+  those-any p P [] h = h
+  those-any p P (x ∷ xs) (inl h) = rw (h .0) (inl (h .1))
+  those-any p P (x ∷ xs) (inr h) = go (p x) (those-any p P xs h)
+    where
+      go : (t : Bool) → Any P (those p xs) → Any P (cond t (x ∷ those p xs) (those p xs))
+      go true z = inr z
+      go false z = z
+
+  -- `some`, as a test and as a fact
+  pub some-any : (p : A → Bool) (l : List A) → some p l ≡ true → Any (λ x. p x ≡ true) l
+  unfolding some
+  some-any p [] h = absurd (false≢true h)
+  some-any p (x ∷ xs) h = go (p x) refl h (some-any p xs)
+    where
+      go : (t : Bool) → p x ≡ t → t || some p xs ≡ true → (some p xs ≡ true → Any (λ x. p x ≡ true) xs) → (p x ≡ true) ⊎ Any (λ x. p x ≡ true) xs
+      go true e h f = inl e
+      go false e h f = inr (f h)
+
+  pub any-some : (p : A → Bool) (l : List A) → Any (λ x. p x ≡ true) l → some p l ≡ true
+  unfolding some
+  any-some p [] h = absurd h
+  any-some p (x ∷ xs) (inl h) = rw h refl
+  any-some p (x ∷ xs) (inr h) = go (p x) (any-some p xs h)
+    where
+      go : (t : Bool) → some p xs ≡ true → t || some p xs ≡ true
+      go true z = refl
+      go false z = z
+
+  -- what every element passes, one that has P passes too
+  pub every-any : (p : A → Bool) (P : A → Type 0) (l : List A) → every p l ≡ true → Any P l → (x : A) × P x × (p x ≡ true)
+  unfolding every
+  every-any p P [] h a = absurd a
+  every-any p P (x ∷ xs) h (inl a) = (x, a, both (p x) (every p xs) h .0)
+  every-any p P (x ∷ xs) h (inr a) = every-any p P xs (both (p x) (every p xs) h .1) a
 
   -- reading a list that was written to is reading a function that was written to
   pub getD-set : (l : List A) (i : ℕ) (a d : A) → i < length l → (j : ℕ) → getD (set l i a) j d ≡ at i a (λ k. getD l k d) j
@@ -76,7 +108,52 @@ module _ {A : Type 0} where
     | inr n ↦ rw (getD-set-other l i j a d n, at-other i a (λ k. getD l k d) j n)
   ]
 
-  -- a test, walked
-  pub walk : (P : A → Type 0) (t : Bool) (x y : A) → (t ≡ true → P x) → (t ≡ false → P y) → P (cond t x y)
-  walk P true x y f g = f refl
-  walk P false x y f g = g refl
+module _ {A B : Type 0} where
+  -- f of each
+  pub any-each : (f : A → B) (P : B → Type 0) (l : List A) → Any P (each f l) → Any (λ x. P (f x)) l
+  unfolding each
+  any-each f P [] h = h
+  any-each f P (x ∷ xs) (inl h) = inl h
+  any-each f P (x ∷ xs) (inr h) = inr (any-each f P xs h)
+
+  pub each-any : (f : A → B) (P : B → Type 0) (l : List A) → Any (λ x. P (f x)) l → Any P (each f l)
+  unfolding each
+  each-any f P [] h = h
+  each-any f P (x ∷ xs) (inl h) = inl h
+  each-any f P (x ∷ xs) (inr h) = inr (each-any f P xs h)
+
+  -- the witness out of `Any`
+  pub any-out : (P : A → B → Type 0) (l : List B) → Any (λ e. (a : A) × P a e) l → (a : A) × Any (P a) l
+  any-out P [] h = absurd h
+  any-out P (e ∷ l) (inl h) = (h .0, inl (h .1))
+  any-out P (e ∷ l) (inr h) = let z = any-out P l h in (z .0, inr (z .1))
+
+-- the lists one after the other
+pub any-joined : {A : Type 0} (P : A → Type 0) (ls : List (List A)) → Any P (joined ls) → Any (Any P) ls
+unfolding joined
+any-joined P [] h = h
+any-joined P (l ∷ ls) h = elim (any-append P l (joined ls) h) [ inl q ↦ inl q | inr q ↦ inr (any-joined P ls q) ]
+
+pub joined-any : {A : Type 0} (P : A → Type 0) (ls : List (List A)) → Any (Any P) ls → Any P (joined ls)
+unfolding joined
+joined-any P [] h = h
+joined-any P (l ∷ ls) (inl h) = any-left P l (joined ls) h
+joined-any P (l ∷ ls) (inr h) = any-right P l (joined ls) (joined-any P ls h)
+
+-- the numbers below n
+any-from : (P : ℕ → Type 0) (i n : ℕ) → Any P (from i n) → (j : ℕ) × (j < i + n) × P j
+unfolding from
+any-from P i zero h = absurd h
+any-from P i (suc n) (inl h) = (i, omega arith, h)
+any-from P i (suc n) (inr h) = let r = any-from P (suc i) n h in let k = r .1 in (r .0, omega arith, r .2)
+
+from-any : (P : ℕ → Type 0) (i n j : ℕ) → i ≤ j → j < i + n → P j → Any P (from i n)
+unfolding from
+from-any P i zero j a l h = absurd (omega arith)
+from-any P i (suc n) j a l h = elim (eq-or-ne j i) [ inl q ↦ inl (rw q at h) | inr q ↦ inr (from-any P (suc i) n j (omega arith) (omega arith) h) ]
+
+pub any-numbers : (P : ℕ → Type 0) (n : ℕ) → Any P (numbers n) → (j : ℕ) × (j < n) × P j
+any-numbers P n h = let r = any-from P 0 n h in let k = r .1 in (r .0, omega arith, r .2)
+
+pub numbers-any : (P : ℕ → Type 0) (n j : ℕ) → j < n → P j → Any P (numbers n)
+numbers-any P n j l h = from-any P 0 n j (omega arith) (omega arith) h

@@ -5,7 +5,7 @@ use mathlib.Core.Bool.{Bool, true, false, true≢false}
 use Prim.Native.Nat.{ℕ, zero, suc, _+_, _≤_, _<_}
 use native.Mathlib.Omega.{arith}
 use Rattle.one_copy.proofs.Tests.{not-both, at, at-both}
-use Rattle.one_copy.proofs.Abs.{Kind, Mark, und, cmt, abt, idle, readK, writeK, Cell, Book, Flow, Live, IsLive, Promise, Wrote, Last, Waits, Entry, Pre, CellOk, GlobOk, Seen, Inv}
+use Rattle.one_copy.proofs.Abs.{Began, Mark, und, cmt, abt, idle, readK, writeK, Cell, Book, Flow, Live, IsLive, Promise, Wrote, Last, Waits, EntryOk, Pre, CellOk, GlobOk, Seen, Inv}
 
 pub record Same (k′ k : Cell) : Type 0 where
   pub wr : k′ .wr ≡ k .wr

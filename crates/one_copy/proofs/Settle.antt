@@ -5,7 +5,7 @@ use mathlib.Core.Bool.{Bool, true, false, true≢false}
 use Prim.Native.Nat.{ℕ, zero, suc, _+_, _≤_, _<_}
 use native.Mathlib.Omega.{arith}
 use Rattle.one_copy.proofs.Tests.{at, at-all, at-same, at-other, eq-or-ne, le-or-lt, not-both, true-or-false}
-use Rattle.one_copy.proofs.Abs.{Kind, Mark, und, cmt, abt, idle, readK, writeK, Cell, Book, Flow, Live, IsLive, Promise, Wrote, Last, Waits, Entry, Pre, cmt≢abt, und≢cmt, und≢abt, readK≢writeK, idle≢readK, idle≢writeK, CellOk, GlobOk, Seen, Inv}
+use Rattle.one_copy.proofs.Abs.{Began, Mark, und, cmt, abt, idle, readK, writeK, Cell, Book, Flow, Live, IsLive, Promise, Wrote, Last, Waits, EntryOk, Pre, cmt≢abt, und≢cmt, und≢abt, readK≢writeK, idle≢readK, idle≢writeK, CellOk, GlobOk, Seen, Inv}
 use Rattle.one_copy.proofs.Flows.{reflow}
 use Rattle.one_copy.proofs.Decide.{agreed}
 
