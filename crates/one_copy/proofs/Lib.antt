@@ -8,5 +8,7 @@ pub mod Settle
 pub mod Refine
 pub mod Net
 pub mod View
+pub mod Queue
 pub mod Hosts
+pub mod Chunks
 pub mod Sessions
