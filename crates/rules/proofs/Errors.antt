@@ -1,6 +1,6 @@
 -- Document 01, "Errors that look right": the fact that each would break. (Settlement's two are P3 and P4 of Cases; a ninth operation is
 -- intake-place of Relies)
-use Prim.Native.Nat.{ℕ, _≤_, _<_}
+use Prim.Native.Nat.{ℕ, _<_}
 use mathlib.Core.Path.{_≡_, refl}
 use mathlib.Core.Bool.{true, false, not}
 use mathlib.Core.List.{List, [], _∷_}
@@ -16,7 +16,7 @@ use Rattle.rules.specs.Timestamps.{stamp, _below_}
 use Rattle.rules.specs.Waiting.{inOrder, head}
 use Rattle.rules.specs.Words.{every}
 use Rattle.rules.specs.Zero.{zeroEntry}
-use Rattle.rules.proofs.Order.{ordered, not-below}
+use Rattle.rules.proofs.Order.{Ordered, not-below}
 use Rattle.rules.proofs.Refusals.{granted-exactly}
 
 -- a lost chunk is refused its lease in every state, whatever its epoch
@@ -32,13 +32,13 @@ module _ (w : Waiting) where
   unfolding every
   runs-decided state free e = granted-exactly (runRefusals state w free) refl .0 e 2 (omega arith)
 
-  pub runs-least : ordered (inOrder w) ≡ true → every (λ x. not (x .timestamp below head w .timestamp)) (inOrder w) ≡ true
+  pub runs-least : Ordered (inOrder w) → every (λ x. not (x .timestamp below head w .timestamp)) (inOrder w) ≡ true
   unfolding every
   runs-least = go (inOrder w)
     where
-      go : (l : List Entry) → ordered l ≡ true → every (λ x. not (x .timestamp below getD l 0 zeroEntry .timestamp)) l ≡ true
+      go : (l : List Entry) → Ordered l → every (λ x. not (x .timestamp below getD l 0 zeroEntry .timestamp)) l ≡ true
       go [] o = refl
-      go (x ∷ xs) o = rw (le-ltb (x .timestamp .0) (x .timestamp .0) (omega arith), not-below (x .timestamp) xs o) refl
+      go (x ∷ xs) o = rw (le-ltb (x .timestamp .0) (x .timestamp .0) (omega arith), not-below (x .timestamp .0) (x .timestamp) xs (omega arith) (o .1)) refl
 
 -- each start draws a number above the last one and remembers it: an attempt has a timestamp of its own, a retried write's too
 module _ (h : Host) (host clock copy : ℕ) (holders : Set) (free messages : ℕ) where

@@ -3,14 +3,12 @@ use Prim.Native.Nat.{ℕ, _≤_}
 use mathlib.Core.Path.{_≡_, refl, sym, ap, _∙_}
 use mathlib.Core.Logic.{_↔_}
 use mathlib.Core.Bool.{Bool, true, false, cond}
-use mathlib.Core.List.{List}
 use lib.Dec.{eqb}
-use borrow.Author.Tests.{ne-eqb, eqb-true, eqb-false}
-use Rattle.rules.specs.Types.{Creation, Created, Table, Event, Outcome, Answer}
+use borrow.Author.Tests.{ne-eqb, eqb-true}
+use Rattle.rules.specs.Types.{Creation, Table, Event}
 use Rattle.rules.specs.Codes.{codeOf}
-use Rattle.rules.specs.Creation.{isCreation, fresh, created, creationRefusals}
+use Rattle.rules.specs.Creation.{isCreation, fresh, created}
 use Rattle.rules.specs.Events.{Rule, readRule, writeRule, startRule, deliverRule, dropRule, finishRule, timeoutRule, refreshRule, runRule, stopRule, failRule, recoverRule, takeLeaseRule, giveLeaseRule, epochRule, overdueRule, unknownRule, ruleOf, rows, done, refused, answered, step}
-use Rattle.rules.specs.Formed.{wellFormed}
 use Rattle.rules.specs.Words.{every}
 use Rattle.rules.specs.Zero.{zeroTable}
 use Rattle.rules.proofs.Lists.{walk}
@@ -84,3 +82,14 @@ module _ (t : Table) (e : Event) where
 
   pub grant-exactly : (step t e .code ≡ 0) ↔ Free (rows t (ruleOf t e))
   grant-exactly = rw step-code (granted-exactly (rows t (ruleOf t e)) (rows-coded t e))
+
+-- ---- "Any other creation is refused with code 1 and gives no store"
+
+module _ (k : Creation) where
+  pub creation-granted : isCreation k ≡ true → created k ≡ record { table = fresh k; code = 0 }
+  unfolding created codeOf
+  creation-granted h = rw h refl
+
+  pub creation-refused : isCreation k ≡ false → created k ≡ record { table = zeroTable; code = 1 }
+  unfolding created codeOf
+  creation-refused h = rw h refl

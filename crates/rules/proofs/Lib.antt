@@ -6,3 +6,9 @@ pub mod Order
 pub mod Relies
 pub mod Errors
 pub mod Cases
+pub mod Formed
+pub mod KeepsParts
+pub mod KeepsHosts
+pub mod KeepsChunks
+pub mod KeepsEpoch
+pub mod Keeps

@@ -1,14 +1,17 @@
 -- Laws about the words of the rules, over any element
-use Prim.Native.Nat.{ℕ, zero, suc, _+_, _-_, _≤_, _<_}
-use mathlib.Core.Path.{_≡_, refl, sym, ap, _∙_}
+use Prim.Native.Nat.{ℕ, zero, suc, _+_, _-_, _*_, _≤_, _<_}
+use mathlib.Core.Path.{_≡_, refl, ap, _∙_}
 use mathlib.Core.Logic.{_⊎_, inl, inr}
 use mathlib.Core.Bool.{Bool, true, false, cond, not, _&&_, _||_, true≢false, false≢true}
 use mathlib.Core.List.{List, [], _∷_, _++_}
+use native.Mathlib.Nat.{suc-mul}
 use native.Mathlib.Decide.{decLe}
 use native.Mathlib.Omega.{arith}
-use lib.ListN.{length, getD, set, take, replicate, length-append, length-take, length-replicate, getD-replicate, List·getD-eq-default, List·getD-append}
+use borrow.Author.Tests.{ltb-true, ltb-false, lt-ltb}
+use lib.Dec.{ltb}
+use lib.ListN.{length, getD, set, take, drop, replicate, length-take, List·getD-eq-default, List·getD-append}
 use lib.Seq.{getD-append-add, getD-take, take-take, take-append-seam}
-use Rattle.rules.specs.Words.{those, each, joined, every, some, none, place, fold, from, numbers, filled}
+use Rattle.rules.specs.Words.{those, each, joined, every, some, fold, from, numbers, filled}
 
 -- ---- tests
 
@@ -166,3 +169,143 @@ module _ {A : Type 0} (d : A) (n : ℕ) (l : List A) (room : length l ≤ n) whe
 
   pub filled-take : take (length l) (filled n d l) ≡ l
   filled-take = take-take (length l) n (l ++ replicate n d) room ∙ take-append-seam l (replicate n d)
+
+-- ---- tests in a row
+
+pub three : (a b c : Bool) → a && b && c ≡ true → (a ≡ true) × (b ≡ true) × (c ≡ true)
+three a b c h = let r = both (a && b) c h in let s = both a b (r .0) in (s .0, s .1, r .1)
+
+pub four : (a b c d : Bool) → a && b && c && d ≡ true → (a ≡ true) × (b ≡ true) × (c ≡ true) × (d ≡ true)
+four a b c d h = let r = both (a && b && c) d h in let s = three a b c (r .0) in (s .0, s .1, s .2, r .1)
+
+pub five : (a b c d e : Bool) → a && b && c && d && e ≡ true → (a ≡ true) × (b ≡ true) × (c ≡ true) × (d ≡ true) × (e ≡ true)
+five a b c d e h = let r = both (a && b && c && d) e h in let s = four a b c d (r .0) in (s .0, s .1, s .2, s .3, r .1)
+
+-- a is not, or b is: where a is, b is
+pub implied : (a b : Bool) → not a || b ≡ true → a ≡ true → b ≡ true
+implied a b h e = or-right (not a) b h (ap not e)
+
+pub implies : (a b : Bool) → (a ≡ true → b ≡ true) → not a || b ≡ true
+implies true b h = h refl
+implies false b h = refl
+
+-- ---- every, through the words that make lists
+
+pub take-short : {A : Type 0} (n : ℕ) (l : List A) → length (take n l) ≤ n
+take-short n l = omega (arith, length-take n l)
+
+module _ {A : Type 0} (p : A → Bool) where
+  pub every-one : (x : A) → p x ≡ true → every p (x ∷ []) ≡ true
+  unfolding every
+  every-one x h = and-true (p x) true h refl
+
+  pub every-append : (l m : List A) → every p l ≡ true → every p m ≡ true → every p (l ++ m) ≡ true
+  unfolding every
+  every-append [] m h k = k
+  every-append (x ∷ xs) m h k = let b = both (p x) (every p xs) h in and-true (p x) (every p (xs ++ m)) (b .0) (every-append xs m (b .1) k)
+
+  pub every-drop : (n : ℕ) (l : List A) → every p l ≡ true → every p (drop n l) ≡ true
+  unfolding every
+  every-drop zero l h = h
+  every-drop (suc n) [] h = h
+  every-drop (suc n) (x ∷ xs) h = every-drop n xs (both (p x) (every p xs) h .1)
+
+  pub every-take : (n : ℕ) (l : List A) (d : A) → ((i : ℕ) → i < n → p (getD l i d) ≡ true) → every p (take n l) ≡ true
+  every-take n l d h = every-of p (take n l) d (λ i k. let m : i < n = omega (arith, take-short n l) in rw (getD-take n l i d m) (h i m))
+
+  -- one element changed by what keeps p
+  pub every-change : (f : A → A) → ((x : A) → p x ≡ true → p (f x) ≡ true) → (l : List A) (i : ℕ) (d : A)
+      → every p l ≡ true → every p (set l i (f (getD l i d))) ≡ true
+  unfolding every
+  every-change f k [] i d h = h
+  every-change f k (x ∷ xs) zero d h = let b = both (p x) (every p xs) h in and-true (p (f x)) (every p xs) (k x (b .0)) (b .1)
+  every-change f k (x ∷ xs) (suc i) d h =
+      let b = both (p x) (every p xs) h in
+      and-true (p x) (every p (set xs i (f (getD xs i d)))) (b .0) (every-change f k xs i d (b .1))
+
+  pub every-joined : (ls : List (List A)) → every (every p) ls ≡ true → every p (joined ls) ≡ true
+  unfolding every joined
+  every-joined [] h = refl
+  every-joined (l ∷ ls) h = let b = both (every p l) (every (every p) ls) h in every-append l (joined ls) (b .0) (every-joined ls (b .1))
+
+  -- those that are q, where each that is q is p
+  pub every-those : (q : A → Bool) (l : List A) → every (λ x. not (q x) || p x) l ≡ true → every p (those q l) ≡ true
+  unfolding every those
+  every-those q [] h = refl
+  every-those q (x ∷ xs) h =
+      let b = both (not (q x) || p x) (every (λ x. not (q x) || p x) xs) h in
+      walk (λ (l : List A). every p l ≡ true) (q x) (x ∷ those q xs) (those q xs)
+      (λ e. and-true (p x) (every p (those q xs)) (implied (q x) (p x) (b .0) e) (every-those q xs (b .1)))
+      (λ _. every-those q xs (b .1))
+
+  -- those that are q, where each is p
+  pub every-of-all : (q : A → Bool) (l : List A) → every p l ≡ true → every p (those q l) ≡ true
+  unfolding every those
+  every-of-all q [] h = refl
+  every-of-all q (x ∷ xs) h =
+      let b = both (p x) (every p xs) h in
+      walk (λ (l : List A). every p l ≡ true) (q x) (x ∷ those q xs) (those q xs)
+      (λ _. and-true (p x) (every p (those q xs)) (b .0) (every-of-all q xs (b .1)))
+      (λ _. every-of-all q xs (b .1))
+
+  pub every-each : {B : Type 0} (q : B → Bool) (f : B → A) (l : List B)
+      → ((x : B) → q x ≡ true → p (f x) ≡ true) → every q l ≡ true → every p (each f l) ≡ true
+  unfolding every each
+  every-each q f [] g h = refl
+  every-each q f (x ∷ xs) g h =
+      let b = both (q x) (every q xs) h in
+      and-true (p (f x)) (every p (each f xs)) (g x (b .0)) (every-each q f xs g (b .1))
+
+  pub every-each-number : (f : ℕ → A) (n : ℕ) → ((i : ℕ) → i < n → p (f i) ≡ true) → every p (each f (numbers n)) ≡ true
+  every-each-number f n h =
+      every-each (λ i. ltb i n) f (numbers n) (λ i e. h i (ltb-true i n e)) (every-numbers (λ i. ltb i n) n (λ i l. lt-ltb i n l))
+
+  -- what each step with a p keeps, a fold over p's keeps
+  pub fold-keeps : {S : Type 0} (P : S → Type 0) (f : S → A → S) → ((s : S) (x : A) → P s → p x ≡ true → P (f s x))
+      → (s : S) (l : List A) → P s → every p l ≡ true → P (fold f s l)
+  unfolding every fold
+  fold-keeps P f g s [] k h = k
+  fold-keeps P f g s (x ∷ xs) k h = let b = both (p x) (every p xs) h in fold-keeps P f g (f s x) xs (g s x k (b .0)) (b .1)
+
+-- ---- an array of n places of which some are used: a used one is p, an unused one is z
+
+module _ (p z : ℕ → Bool) (n used : ℕ) where
+  pub used-at : every (λ i. cond (ltb i used) (p i) (z i)) (numbers n) ≡ true → used ≤ n → (i : ℕ) → i < used → p i ≡ true
+  used-at h m i l = rw (lt-ltb i used l) at (every-number (λ i. cond (ltb i used) (p i) (z i)) n h i (omega arith))
+
+  pub used-of : ((i : ℕ) → i < used → p i ≡ true) → ((i : ℕ) → i < n → used ≤ i → z i ≡ true)
+      → every (λ i. cond (ltb i used) (p i) (z i)) (numbers n) ≡ true
+  used-of f g =
+      every-numbers (λ i. cond (ltb i used) (p i) (z i)) n (λ i l.
+      walk (λ (b : Bool). b ≡ true) (ltb i used) (p i) (z i) (λ e. f i (ltb-true i used e)) (λ e. g i l (ltb-false i used e)))
+
+-- ---- lists of lists
+
+each-each : {A B C : Type 0} (g : B → C) (f : A → B) (l : List A) → each g (each f l) ≡ each (λ x. g (f x)) l
+unfolding each
+each-each g f [] = refl
+each-each g f (x ∷ xs) = ap (λ r. g (f x) ∷ r) (each-each g f xs)
+
+pub each-each-number : {B C : Type 0} (g : B → C) (f : ℕ → B) (n i : ℕ) (d : C) → i < n → getD (each g (each f (numbers n))) i d ≡ g (f i)
+each-each-number g f n i d h = rw (each-each g f (numbers n)) (each-number (λ x. g (f x)) n i d h)
+
+-- rows of n, one after the other: element b of row c
+rows-at : {A : Type 0} (f : ℕ → List A) (n : ℕ) → ((i : ℕ) → length (f i) ≡ n) → (i m c b : ℕ) (d : A)
+    → c < m → b < n → getD (joined (each f (from i m))) (c * n + b) d ≡ getD (f (i + c)) b d
+unfolding from each joined
+rows-at f n len i zero c b d h k = absurd (omega arith)
+rows-at f n len i (suc m) zero b d h k =
+    let e : zero * n + b ≡ b = omega arith in
+    let z : i + zero ≡ i = omega arith in
+    rw (e, z) (List·getD-append (f i) (joined (each f (from (suc i) m))) d b (omega (arith, len i)))
+rows-at f n len i (suc m) (suc c) b d h k =
+    let e : suc c * n + b ≡ length (f i) + (c * n + b) = omega (arith, len i, suc-mul c n) in
+    let z : i + suc c ≡ suc i + c = omega arith in
+    rw (e, z) (getD-append-add (f i) (joined (each f (from (suc i) m))) (c * n + b) d ∙ rows-at f n len (suc i) m c b d (omega arith) k)
+
+pub grid-at : {A : Type 0} (f : ℕ → ℕ → A) (m n c b : ℕ) (d : A) → c < m → b < n
+    → getD (joined (each (λ c. each (f c) (numbers n)) (numbers m))) (c * n + b) d ≡ f c b
+grid-at f m n c b d h k =
+    let z : 0 + c ≡ c = omega arith in
+    rows-at (λ c. each (f c) (numbers n)) n (λ i. each-length (f i) (numbers n) ∙ numbers-length n) 0 m c b d h k
+    ∙ each-number (f (0 + c)) n b d k ∙ ap (λ (i : ℕ). f i b) z

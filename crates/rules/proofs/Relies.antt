@@ -1,27 +1,25 @@
 -- What an effect relies on follows from its refusals not holding: room for its messages, an operation at the front, a head that exists
 use Prim.Native.Nat.{ℕ, zero, suc, _+_, _≤_, _<_}
-use mathlib.Core.Path.{_≡_, refl, sym, ap, _∙_}
-use mathlib.Core.Bool.{Bool, true, false, cond, not, _&&_, true≢false, false≢true}
+use mathlib.Core.Path.{_≡_, refl}
+use mathlib.Core.Bool.{Bool, true, false, cond, _&&_, false≢true}
 use mathlib.Core.List.{List, [], _∷_}
 use native.Mathlib.Omega.{arith}
-use lib.ListN.{length, getD, set, take}
-use lib.Dec.{eqb, ltb, leb}
+use lib.ListN.{length, set}
 use borrow.Author.Tests.{ltb-false, leb-true, leb-false, le-leb, eqb-false, not-false}
-use Rattle.rules.specs.Types.{Set, Creation, Kind, Waiting, State, Host, Message, Slot, Place, Table}
+use Rattle.rules.specs.Types.{Set, Creation, Waiting, State, Host, Message, Slot, Place, Table}
 use Rattle.rules.specs.Chunks.{runRefusals, overdueRefusals}
-use Rattle.rules.specs.Codes.{Row, codeOf}
+use Rattle.rules.specs.Codes.{codeOf}
 use Rattle.rules.specs.Events.{copiesOf, epochRefusals}
 use Rattle.rules.specs.Formed.{attemptFormed}
 use Rattle.rules.specs.Hosts.{hasCurrent, intakeRefusals, startRefusals, finishRefusals}
-use Rattle.rules.specs.Kinds.{isRead, isUndecided, isEmptySlot}
+use Rattle.rules.specs.Kinds.{isRead, isUndecided}
 use Rattle.rules.specs.Limits.{blockLimit, greatestClock}
 use Rattle.rules.specs.Network.{isFree, freePlaces, removed, sent, placeRefusals}
 use Rattle.rules.specs.Settlement.{allLost}
-use Rattle.rules.specs.Tables.{isBlock, slotOf}
+use Rattle.rules.specs.Tables.{isBlock}
 use Rattle.rules.specs.Timestamps.{isEpoch, next}
 use Rattle.rules.specs.Waiting.{head}
 use Rattle.rules.specs.Words.{those, every, fold, place}
-use Rattle.rules.specs.Zero.{zeroPlace}
 use Rattle.rules.proofs.Lists.{both, none-number}
 use Rattle.rules.proofs.Refusals.{granted-exactly}
 

@@ -1,8 +1,7 @@
 -- A promise `answer ≡ definition of the arguments` determines the answer
 use mathlib.Core.Path.{_≡_, sym, ap, _∙_}
-use Prim.Native.Nat.{ℕ}
 use Rattle.rules.specs.Types.{Table, Event, Answer}
-use Rattle.rules.specs.Codes.{Numbers, numbersOf}
+use Rattle.rules.specs.Codes.{numbersOf}
 use Rattle.rules.specs.Events.{step}
 
 -- two programs that keep the promise for all arguments answer alike for all arguments, whatever the definition

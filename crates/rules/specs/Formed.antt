@@ -3,7 +3,7 @@
 use Prim.Native.Nat.{ℕ, _-_}
 use mathlib.Core.Bool.{Bool, true, false, not, _&&_, _||_}
 use lib.ListN.{getD}
-use lib.Dec.{eqb, ltb, leb}
+use lib.Dec.{ltb, leb}
 use Rattle.rules.specs.Types.{Epoch, Creation, Entry, Waiting, Record, Chunk, Operation, Queue, Attempt, Host, Message, Slot, Table}
 use Rattle.rules.specs.Creation.{isCreation, ofStore}
 use Rattle.rules.specs.Kinds.{headerOf, epochOf}

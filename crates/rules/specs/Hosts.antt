@@ -8,7 +8,7 @@ use Rattle.rules.specs.Types.{Timestamp, Epoch, Set, Action, Operation, 
 use Rattle.rules.specs.Codes.{Row, _gives_⨾_, granted}
 use Rattle.rules.specs.Kinds.{isReading, headerOf}
 use Rattle.rules.specs.Limits.{chunkLimit, operationLimit}
-use Rattle.rules.specs.Timestamps.{stamp, never, _is_, _above_}
+use Rattle.rules.specs.Timestamps.{never, _is_, _above_}
 use Rattle.rules.specs.Words.{if_then_else_, each, numbers, filled}
 use Rattle.rules.specs.Zero.{_among_, isEmpty, zeroSet, zeroOperation, zeroAttempt}
 

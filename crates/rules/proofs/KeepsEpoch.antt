@@ -1,0 +1,130 @@
+-- The epoch change keeps well-formedness
+use Prim.Native.Nat.{ℕ, _+_, _<_}
+use mathlib.Core.Path.{_≡_, refl}
+use mathlib.Core.Bool.{Bool, true, false, cond}
+use mathlib.Core.List.{List}
+use lib.ListN.{getD}
+use lib.Dec.{eqb}
+use borrow.Author.Tests.{leb-true, le-leb, eq-eqb, eqb-false}
+use native.Mathlib.Omega.{arith}
+use Rattle.rules.specs.Types.{Timestamp, Creation, Entry, Record, State, Chunk, Table, Copy}
+use Rattle.rules.specs.Chunks.{emptied}
+use Rattle.rules.specs.Events.{copyOf, copiesOf, renewed, epochChanged, epochRule}
+use Rattle.rules.specs.Formed.{chunkFormed, entryFormed, recordFormed}
+use Rattle.rules.specs.Kinds.{isWrite, isFailed}
+use Rattle.rules.specs.Limits.{chunkLimit, blockLimit, greatestClock}
+use Rattle.rules.specs.Settlement.{inSet, notLost, lastRead, lastWrite, waiting, writesOf, W, committed, writes, commits, latest, settledRecord, settled}
+use Rattle.rules.specs.Tables.{isHost, isChunk, setOf, chunkOf, recordOf}
+use Rattle.rules.specs.Timestamps.{never, later, greatest, isTimestamp, next, isEpoch}
+use Rattle.rules.specs.Words.{those, each, every, some, numbers}
+use Rattle.rules.specs.Zero.{_among_, noBlocks, isZeroChunk, noCopy, noChunk}
+use Rattle.rules.proofs.Lists.{three, walk, every-of-all, every-each, every-each-number, every-joined, fold-keeps, each-number, each-each-number}
+use Rattle.rules.proofs.Formed.{Formed, of-store, set-of-store, set-of-block, waiting-facts, entries-formed, record-facts, record-formed, record-of}
+use Rattle.rules.proofs.KeepsParts.{Keeps, keeps, passed-second, RecordAt, records-kept}
+use Rattle.rules.proofs.KeepsChunks.{later-formed, none-waiting, emptied-at, blank-formed}
+
+-- the greatest of timestamps is one
+greatest-formed : (l : List Timestamp) → every isTimestamp l ≡ true → isTimestamp (greatest l) ≡ true
+greatest-formed l h = fold-keeps isTimestamp (λ (x : Timestamp). isTimestamp x ≡ true) later later-formed never l refl h
+
+-- ---- settlement: where the copies' records are formed, the settled record is
+
+module _ (k : Creation) where
+  -- a copy with a formed record
+  abbrev copyFormed : Copy → Bool
+  copyFormed c = recordFormed k (c .block)
+
+  -- the writes that wait in a copy have timestamps
+  writes-of-formed : (c : Copy) → copyFormed c ≡ true → every isTimestamp (writesOf c) ≡ true
+  writes-of-formed c h =
+      let w = c .block .waiting in
+      every-each isTimestamp (entryFormed k) (λ (e : Entry). e .timestamp) (those (λ e. isWrite (e .kind)) (waiting c))
+      (λ e g. three (isTimestamp (e .timestamp)) (isHost k (e .sender)) (isEpoch (e .epoch)) g .0)
+      (every-of-all (entryFormed k) (λ e. isWrite (e .kind)) (waiting c)
+      (entries-formed k w (waiting-facts k w (record-facts k (c .block) h .waiting))))
+
+  module _ (copies : List Copy) (h : every copyFormed copies ≡ true) where
+    -- the greatest over the set
+    over-set : (f : Copy → Timestamp) → ((c : Copy) → copyFormed c ≡ true → isTimestamp (f c) ≡ true)
+        → isTimestamp (greatest (each f (those inSet copies))) ≡ true
+    over-set f g =
+        let members = those inSet copies in
+        greatest-formed (each f members) (every-each isTimestamp copyFormed f members g (every-of-all copyFormed inSet copies h))
+
+    -- W, the latest committed one, and the settled record
+    W-formed : isTimestamp (W copies) ≡ true
+    unfolding W
+    W-formed = over-set lastWrite (λ c g. record-facts k (c .block) g .write)
+
+    latest-formed : isTimestamp (latest copies) ≡ true
+    unfolding latest commits writes
+    latest-formed =
+        let alive = those notLost copies in
+        greatest-formed (commits copies) (every-of-all isTimestamp (committed copies) (writes copies)
+        (every-joined isTimestamp (each writesOf alive)
+        (every-each (every isTimestamp) copyFormed writesOf alive writes-of-formed (every-of-all copyFormed notLost copies h))))
+
+    settled-formed : recordFormed k (settledRecord copies) ≡ true
+    unfolding settledRecord
+    settled-formed = record-formed k (settledRecord copies) (record {
+      read = over-set lastRead (λ c g. record-facts k (c .block) g .read);
+      write = walk (λ (x : Timestamp). isTimestamp x ≡ true) (some (committed copies) (writes copies)) (latest copies) (W copies)
+          (λ _. latest-formed) (λ _. W-formed);
+      waiting = none-waiting k;
+    })
+
+-- ---- the table after the change
+
+module _ (t : Table) (f : Formed t) where
+  abbrev creation : Creation
+  creation = t .creation
+
+  -- a copy in the set is the settled record; any other is emptied
+  settled-at : (c b : ℕ) → c < chunkLimit → b < blockLimit → RecordAt creation c b (getD (settled (copiesOf t b)) c noCopy .block)
+  unfolding settled
+  settled-at c b l m =
+      let copies = copiesOf t b in
+      let s = setOf creation b in
+      let after : Copy → Record = λ x. cond (inSet x) (settledRecord copies) (emptied (x .block)) in
+      let now : Copy → Copy = λ x. record { member = x .member; lost = x .lost; block = after x } in
+      rw (each-each-number now (copyOf t b) chunkLimit c noCopy l)
+      (walk (RecordAt creation c b) (c among s) (settledRecord copies) (emptied (recordOf t c b))
+      (λ e.
+      let d = set-of-block creation b c (f .creation) m l e in
+      rw (of-store creation s (set-of-store creation b (f .creation) d) c l e, d)
+      (settled-formed creation copies (every-each-number (copyFormed creation) (copyOf t b) chunkLimit (λ i n. record-of t f i b n m))))
+      (λ _. emptied-at creation c b (recordOf t c b) (f .records c b l m)))
+
+  -- a chunk of the store's is blank in the next epoch; any other is zero as it was
+  renewed-at : (c : ℕ) → c < chunkLimit
+      → cond (isChunk creation c) (chunkFormed creation (next (t .epoch)) (renewed t c)) (isZeroChunk (renewed t c)) ≡ true
+  renewed-at c l = go (isChunk creation c) (f .chunks c l)
+    where
+      blank : Chunk
+      blank = record { state = State.Normal; lost = false; epoch = next (t .epoch); reconcile = noBlocks }
+
+      go : (x : Bool) → cond x (chunkFormed creation (t .epoch) (chunkOf t c)) (isZeroChunk (chunkOf t c)) ≡ true
+          → cond x (chunkFormed creation (next (t .epoch)) (cond x blank (chunkOf t c))) (isZeroChunk (cond x blank (chunkOf t c))) ≡ true
+      go true h = blank-formed creation (next (t .epoch)) blank (eq-eqb (t .epoch .0 + 1) (t .epoch .0 + 1) refl) refl
+      go false h = h
+
+  -- there is a next epoch
+  changed-formed : eqb (t .epoch .0) greatestClock ≡ false → Formed (epochChanged t)
+  changed-formed e =
+      let last = eqb-false (t .epoch .0) greatestClock e in
+      record {
+        creation = f .creation;
+        epoch = le-leb (t .epoch .0 + 1) greatestClock (omega (arith, leb-true (t .epoch .0) greatestClock (f .epoch)));
+        hosts = f .hosts;
+        chunks = λ c l. rw (each-number (renewed t) chunkLimit c noChunk l) (renewed-at c l);
+        records = records-kept t f (λ c b. getD (settled (copiesOf t b)) c noCopy .block) settled-at .records;
+        places = f .places;
+      }
+
+-- 15 epoch change
+pub epoch-kept : (t : Table) (a b c : ℕ) → Keeps t (epochRule t a b c)
+unfolding epochRule
+epoch-kept t a b c =
+    keeps t (epochRule t a b c) (λ f e p.
+    let anyFailed = some (λ c. isFailed (chunkOf t c .state)) (numbers chunkLimit) in
+    changed-formed t f (passed-second anyFailed (eqb (t .epoch .0) greatestClock) 1 6 _ p .0))

@@ -1,0 +1,305 @@
+-- The events of hosts keep well-formedness: read, write, start, finish, timeout, refresh, stop; and so does a reply at a host
+use Prim.Native.Nat.{ℕ, _+_, _*_, _≤_, _<_}
+use mathlib.Core.Path.{_≡_, refl, sym, _∙_}
+use mathlib.Core.Bool.{Bool, true, false, not, false≢true}
+use mathlib.Core.List.{List, [], _∷_, _++_}
+use lib.ListN.{length, drop, length-append, length-drop}
+use lib.Dec.{eqb, leb}
+use borrow.Author.Tests.{leb-false, le-leb, lt-ltb, eqb-true, eqb-false, not-true, not-false}
+use native.Mathlib.Omega.{arith}
+use Rattle.rules.specs.Types.{Timestamp, Epoch, Set, Creation, Action, Operation, Attempt, Host, Header, Message, Table}
+use Rattle.rules.specs.Codes.{Row, codeOf}
+use Rattle.rules.specs.Creation.{isCreation, ofStore}
+use Rattle.rules.specs.Events.{unused, holdersOf, intakeRule, readRule, writeRule, startRule, finishRule, hostRule, timeoutRule, refreshRule, stopRule}
+use Rattle.rules.specs.Formed.{operationFormed, attemptFormed, hostFormed, messageFormed}
+use Rattle.rules.specs.Hosts.{withQueue, withAttempt, withOkay, withRestart, withResult, operationsOf, queueOf, front, hasCurrent, isOutstanding, appended, only, openingTo, opening, started, suits, counts, answeredBy, heard, atHost, closingTo, closing, goesBack, ended, finished, timeoutRefusals, timedOut, workingRefusals, refreshed, stopped}
+use Rattle.rules.specs.Kinds.{isReading, headerOf, headed}
+use Rattle.rules.specs.Limits.{chunkLimit, blockLimit, operationLimit, greatestClock, greatestTimestamp, oneTo}
+use Rattle.rules.specs.Tables.{isHost, isChunk, isBlock, hostOf, withHost}
+use Rattle.rules.specs.Timestamps.{stamp, never, _is_, _above_, isTimestamp, isEpoch}
+use Rattle.rules.specs.Words.{every, some, from}
+use Rattle.rules.specs.Zero.{_among_, isEmpty, zeroSet, zeroAttempt, isZeroAttempt}
+use Rattle.rules.proofs.Lists.{three, walk, every-one, every-append, every-drop, each-number, set-all, take-short}
+use Rattle.rules.proofs.Formed.{one-to, Formed, host-place, chunk-place, block-place, member-some, of-store, is-of-store, set-of-store, queue-facts, operations-length, operations-formed, queue-formed, front-block, FormedAttempt, attempt-facts, attempt-formed, outstanding-current, host-facts, host-formed, FormedHeader, message-facts, message-formed, host-of, queue-of}
+use Rattle.rules.proofs.KeepsParts.{Keeps, keeps, passed, passed-second, host-kept, sent-to-each-kept}
+
+module _ (k : Creation) where
+  -- ---- attempts, and sets of chunks
+
+  -- no attempt is formed beside any queue
+  none-formed : (n : ℕ) → attemptFormed k n zeroAttempt ≡ true
+  unfolding some from
+  none-formed n = refl
+
+  -- an attempt stays formed beside any queue that has an operation
+  recounted : (n m : ℕ) (a : Attempt) → attemptFormed k n a ≡ true → 1 ≤ m → attemptFormed k m a ≡ true
+  recounted n m a h l = go (a .timestamp above never) refl
+    where
+      go : (b : Bool) → a .timestamp above never ≡ b → attemptFormed k m a ≡ true
+      go true e =
+          let f = attempt-facts k n a h e in
+          attempt-formed k m a e (record { one = l; timestamp = f .timestamp; outstanding = f .outstanding })
+      go false e = let zero : isZeroAttempt a ≡ true = rw e at h in rw e zero
+
+  -- a host with another attempt
+  attempted : (h : Host) (a : Attempt) → hostFormed k h ≡ true → attemptFormed k (h .queue .count) a ≡ true
+      → hostFormed k (withAttempt h a) ≡ true
+  attempted h a f e =
+      let r = host-facts k h f in
+      host-formed k (withAttempt h a) (record { queue = r .queue; attempt = e; epoch = r .epoch; clock = r .clock })
+
+  -- a host with a current attempt
+  current : (h : Host) (a : Attempt) → hostFormed k h ≡ true → a .timestamp above never ≡ true
+      → FormedAttempt k (h .queue .count) (a .timestamp) (a .outstanding) → hostFormed k (withAttempt h a) ≡ true
+  current h a f e r = attempted h a f (attempt-formed k (h .queue .count) a e r)
+
+  -- the empty set is the store's
+  nobody-of-store : ofStore k zeroSet ≡ true
+  unfolding every from
+  nobody-of-store = refl
+
+  -- .. and so is one of the store's chunks alone
+  only-of-store : (c : ℕ) → isChunk k c ≡ true → ofStore k (only c) ≡ true
+  only-of-store c h = is-of-store k (only c) (λ i l e. rw (sym (eqb-true c i (sym (each-number (eqb c) chunkLimit i false l) ∙ e))) h)
+
+  -- a chunk leaves the set of those outstanding
+  answered-of-store : (a : Attempt) (c : ℕ) → ofStore k (a .outstanding) ≡ true → ofStore k (answeredBy a c .outstanding) ≡ true
+  answered-of-store a c h =
+      is-of-store k (answeredBy a c .outstanding)
+      (set-all (λ i b. i < chunkLimit → b ≡ true → isChunk k i ≡ true) false (a .outstanding .chunks) c false
+      (λ _ e. absurd (false≢true e)) (of-store k (a .outstanding) h))
+
+  -- ---- one host
+
+  -- one operation more
+  appended-formed : (h : Host) (o : Operation) → hostFormed k h ≡ true → isBlock k (o .block) ≡ true
+      → leb operationLimit (h .queue .count) ≡ false → hostFormed k (appended h o) ≡ true
+  unfolding appended queueOf
+  appended-formed h o f e full =
+      let r = host-facts k h f in
+      let l = operationsOf h ++ o ∷ [] in
+      let n = leb-false operationLimit (h .queue .count) full in
+      let m = length-append (operationsOf h) (o ∷ []) in
+      let old = operations-formed k h (queue-facts k (h .queue) (r .queue)) in
+      host-formed k (appended h o) (record {
+        queue = queue-formed k l (omega (arith, take-short (h .queue .count) (h .queue .operations)))
+            (every-append (operationFormed k) (operationsOf h) (o ∷ []) old (every-one (operationFormed k) o e));
+        attempt = recounted (h .queue .count) (length l) (h .attempt) (r .attempt) (omega arith);
+        epoch = r .epoch;
+        clock = r .clock;
+      })
+
+  -- clock and host number make a timestamp
+  stamp-formed : (clock host : ℕ) → isCreation k ≡ true → isHost k host ≡ true → oneTo greatestClock clock ≡ true
+      → isTimestamp (stamp clock host) ≡ true
+  stamp-formed clock host w e c =
+      let r = one-to greatestClock clock c in
+      le-leb (clock * 8 + host) greatestTimestamp (omega (arith, r .1, host-place k host e w))
+
+  -- a start: a clock, a timestamp, and the store's chunks outstanding
+  started-formed : (h : Host) (clock host : ℕ) (to : Set) → hostFormed k h ≡ true → isTimestamp (stamp clock host) ≡ true
+      → oneTo greatestClock clock ≡ true → 1 ≤ h .queue .count → ofStore k to ≡ true
+      → hostFormed k (started h (stamp clock host) clock to) ≡ true
+  started-formed h clock host to f s c one g =
+      let r = host-facts k h f in
+      let u = one-to greatestClock clock c in
+      let a = started h (stamp clock host) clock to .attempt in
+      host-formed k (started h (stamp clock host) clock to) (record {
+        queue = r .queue;
+        attempt = attempt-formed k (h .queue .count) a (lt-ltb 0 (clock * 8 + host) (omega (arith, u .0)))
+            (record { one = one; timestamp = s; outstanding = g });
+        epoch = r .epoch;
+        clock = le-leb clock greatestClock (u .1);
+      })
+
+  -- a finish: no attempt, and the operation goes or stays
+  finished-formed : (h : Host) → hostFormed k h ≡ true → hostFormed k (finished h) ≡ true
+  unfolding finished queueOf
+  finished-formed h f =
+      let r = host-facts k h f in
+      let l = drop 1 (operationsOf h) in
+      let q = queue-facts k (h .queue) (r .queue) in
+      walk (λ (x : Host). hostFormed k x ≡ true) (goesBack (h .attempt)) (ended h) (withQueue (ended h) (queueOf l))
+      (λ _. attempted h zeroAttempt f (none-formed (h .queue .count)))
+      (λ _. host-formed k (withQueue (ended h) (queueOf l)) (record {
+        queue = queue-formed k l (omega (arith, length-drop 1 (operationsOf h), operations-length k h q))
+            (every-drop (operationFormed k) 1 (operationsOf h) (operations-formed k h q));
+        attempt = none-formed (length l);
+        epoch = r .epoch;
+        clock = r .clock;
+      }))
+
+  -- a timeout: nobody outstanding
+  timed-out-formed : (h : Host) → hostFormed k h ≡ true → isEmpty (h .attempt .outstanding) ≡ false → hostFormed k (timedOut h) ≡ true
+  timed-out-formed h f e =
+      let n = h .queue .count in
+      let now = outstanding-current k n (h .attempt) (host-facts k h f .attempt) e in
+      let r = attempt-facts k n (h .attempt) (host-facts k h f .attempt) now in
+      let a = timedOut h .attempt in
+      current h a f now (record { one = r .one; timestamp = r .timestamp; outstanding = nobody-of-store })
+
+  -- ---- a reply at a host
+
+  -- a reply that counts
+  heard-formed : (h : Host) (a : Attempt) (m : Message) → hostFormed k h ≡ true → a .timestamp above never ≡ true
+      → FormedAttempt k (h .queue .count) (a .timestamp) (a .outstanding) → hostFormed k (heard h a m) ≡ true
+  heard-formed h a (Message.Mismatch header) f e r = current h (withOkay a false) f e r
+  heard-formed h a (Message.OutOfOrder header) f e r = current h (withOkay a false) f e r
+  heard-formed h a (Message.Busy header) f e r = current h (withOkay a false) f e r
+  heard-formed h a (Message.Error header) f e r = current h (withRestart (withOkay a false) false) f e r
+  heard-formed h a (Message.ReadReply header v) f e r = current h (withResult a v) f e r
+  heard-formed h a (Message.PrewriteReply header) f e r = current h a f e r
+  heard-formed h a (Message.Read header epoch) f e r = f
+  heard-formed h a (Message.Prewrite header epoch v) f e r = f
+  heard-formed h a (Message.Commit header epoch) f e r = f
+  heard-formed h a (Message.Abort header epoch) f e r = f
+
+  -- any message: one that counts finds its chunk outstanding, so there is a current operation
+  pub at-host-formed : (h : Host) (m : Message) → isCreation k ≡ true → hostFormed k h ≡ true → messageFormed k m ≡ true
+      → hostFormed k (atHost h m) ≡ true
+  unfolding atHost
+  at-host-formed h m w f g =
+      let a = h .attempt in
+      let c = headerOf m .chunk in
+      walk (λ (x : Host). hostFormed k x ≡ true) (counts h m) (heard h (answeredBy a c) m) h (λ e.
+      let member = three (headerOf m .timestamp is a .timestamp) (c among a .outstanding) (suits (isReading (front h .action)) m) e .1 in
+      let l = chunk-place k c (message-facts k m g .header .chunk) w in
+      let now = outstanding-current k (h .queue .count) a (host-facts k h f .attempt) (member-some (a .outstanding) c l member) in
+      let r = attempt-facts k (h .queue .count) a (host-facts k h f .attempt) now in
+      let left = answered-of-store a c (r .outstanding) in
+      heard-formed h (answeredBy a c) m f now (record { one = r .one; timestamp = r .timestamp; outstanding = left }))
+      (λ _. f)
+
+  -- ---- the messages of start and finish
+
+  -- they go to the store's chunks
+  opening-of-store : (a : Action) (copy : ℕ) (holders : Set) → isChunk k copy ≡ true → ofStore k holders ≡ true
+      → ofStore k (openingTo a copy holders) ≡ true
+  opening-of-store Action.Read copy holders h g = only-of-store copy h
+  opening-of-store (Action.Write v) copy holders h g = g
+
+  closing-of-store : (a : Action) (holders : Set) → ofStore k holders ≡ true → ofStore k (closingTo a holders) ≡ true
+  closing-of-store Action.Read holders g = nobody-of-store
+  closing-of-store (Action.Write v) holders g = g
+
+  -- and are formed where their header is
+  opening-formed : (header : Header) (epoch : Epoch) (a : Action) → FormedHeader k header → isEpoch epoch ≡ true
+      → messageFormed k (opening header epoch a) ≡ true
+  opening-formed header epoch Action.Read f e = message-formed k (Message.Read header epoch) f e
+  opening-formed header epoch (Action.Write v) f e = message-formed k (Message.Prewrite header epoch v) f e
+
+  closing-formed : (okay : Bool) (header : Header) (epoch : Epoch) → FormedHeader k header → isEpoch epoch ≡ true
+      → messageFormed k (closing okay header epoch) ≡ true
+  closing-formed true header epoch f e = message-formed k (Message.Commit header epoch) f e
+  closing-formed false header epoch f e = message-formed k (Message.Abort header epoch) f e
+
+-- ---- the events
+
+module _ (t : Table) where
+  abbrev creation : Creation
+  creation = t .creation
+
+  -- read and write
+  intake-kept : (host block : ℕ) (inRange : Bool) (o : Operation) → o .block ≡ block → Keeps t (intakeRule t host block inRange o)
+  intake-kept host block inRange o about =
+      keeps t (intakeRule t host block inRange o) (λ f e p.
+      let r = three (isHost creation host) (isBlock creation block) inRange e in
+      let h = hostOf t host in
+      let full = passed-second (not (h .working)) (leb operationLimit (h .queue .count)) 1 3 [] p .0 in
+      host-kept t f host (appended h o) (r .0) (appended-formed creation h o (host-of t f host (r .0)) (rw about (r .1)) full))
+
+  -- 1 read
+  pub read-kept : (host block c : ℕ) → Keeps t (readRule t host block c)
+  unfolding readRule
+  read-kept host block c = intake-kept host block (unused c) (record { block = block; action = Action.Read }) refl
+
+  -- 2 write
+  pub write-kept : (host block value : ℕ) → Keeps t (writeRule t host block value)
+  unfolding writeRule
+  write-kept host block value = intake-kept host block true (record { block = block; action = Action.Write value }) refl
+
+  -- the front operation of a host of the store's: its block's set, and the headers of its messages
+  module _ (f : Formed t) (host : ℕ) (e : isHost creation host ≡ true) (one : 1 ≤ hostOf t host .queue .count) where
+    abbrev block : ℕ
+    block = front (hostOf t host) .block
+
+    front-of : isBlock creation block ≡ true
+    front-of = front-block creation (hostOf t host) (queue-of t f host e) one
+
+    holders-of : ofStore creation (holdersOf t (hostOf t host)) ≡ true
+    holders-of = set-of-store creation block (f .creation) front-of
+
+    header-of : (s : Timestamp) → isTimestamp s ≡ true → (c : ℕ) → isChunk creation c ≡ true → FormedHeader creation (headed host c block s)
+    header-of s g c h =
+        let l = lt-ltb block blockLimit (block-place creation block front-of (f .creation)) in
+        record { host = e; chunk = h; block = l; timestamp = g }
+
+  -- 3 start
+  pub start-kept : (host clock copy : ℕ) → Keeps t (startRule t host clock copy)
+  unfolding startRule
+  start-kept host clock copy =
+      keeps t (startRule t host clock copy) (λ f e p.
+      let h = hostOf t host in
+      let o = front h in
+      let to = openingTo (o .action) copy (holdersOf t h) in
+      let r = three (isHost creation host) (oneTo greatestClock clock) (isChunk creation copy) e in
+      let n = h .queue .count in
+      let some = eqb-false n 0 (passed (eqb n 0) 1 _ (passed-second (not (h .working)) (hasCurrent h) 1 1 _ p .1) .0) in
+      let one : 1 ≤ n = omega arith in
+      let g = host-of t f host (r .0) in
+      let now = stamp clock host in
+      let s = stamp-formed creation clock host (f .creation) (r .0) (r .1) in
+      let ours = opening-of-store creation (o .action) copy (holdersOf t h) (r .2) (holders-of f host (r .0) one) in
+      sent-to-each-kept (withHost t host (started h now clock to))
+      (host-kept t f host (started h now clock to) (r .0) (started-formed creation h clock host to g s (r .1) one ours)) to _ ours
+      (λ c q. opening-formed creation (headed host c (o .block) now) (h .epoch) (o .action)
+      (header-of f host (r .0) one now s c q) (host-facts creation h g .epoch)))
+
+  -- 6 finish
+  pub finish-kept : (host b c : ℕ) → Keeps t (finishRule t host b c)
+  unfolding finishRule
+  finish-kept host b c =
+      keeps t (finishRule t host b c) (λ f e p.
+      let h = hostOf t host in
+      let o = front h in
+      let to = closingTo (o .action) (holdersOf t h) in
+      let r = three (isHost creation host) (unused b) (unused c) e in
+      let has = not-false (hasCurrent h) (passed-second (not (h .working)) (not (hasCurrent h)) 1 1 _ p .0) in
+      let now = h .attempt .timestamp in
+      let g = host-of t f host (r .0) in
+      let a = attempt-facts creation (h .queue .count) (h .attempt) (host-facts creation h g .attempt) has in
+      sent-to-each-kept (withHost t host (finished h)) (host-kept t f host (finished h) (r .0) (finished-formed creation h g)) to _
+      (closing-of-store creation (o .action) (holdersOf t h) (holders-of f host (r .0) (a .one)))
+      (λ c q. closing-formed creation (h .attempt .okay) (headed host c (o .block) now) (h .epoch)
+      (header-of f host (r .0) (a .one) now (a .timestamp) c q) (host-facts creation h g .epoch)))
+
+  -- an event of one host alone
+  alone-kept : (host b c : ℕ) (refusals : Host → List Row) (change : Host → Host)
+      → (Formed t → (h : Host) → hostFormed creation h ≡ true → codeOf (refusals h) ≡ 0 → hostFormed creation (change h) ≡ true)
+      → Keeps t (hostRule t host b c refusals change)
+  alone-kept host b c refusals change g =
+      keeps t (hostRule t host b c refusals change) (λ f e p.
+      let r = three (isHost creation host) (unused b) (unused c) e in
+      host-kept t f host (change (hostOf t host)) (r .0) (g f (hostOf t host) (host-of t f host (r .0)) p))
+
+  -- 7 timeout
+  pub timeout-kept : (host b c : ℕ) → Keeps t (timeoutRule t host b c)
+  unfolding timeoutRule
+  timeout-kept host b c =
+      alone-kept host b c timeoutRefusals timedOut (λ f h g p.
+      let empty = isEmpty (h .attempt .outstanding) in
+      let some = not-false (not empty) (passed-second (not (h .working)) (not (isOutstanding h)) 1 1 [] p .0) in
+      timed-out-formed creation h g (not-true empty some))
+
+  -- 8 refresh
+  pub refresh-kept : (host b c : ℕ) → Keeps t (refreshRule t host b c)
+  unfolding refreshRule
+  refresh-kept host b c =
+      alone-kept host b c workingRefusals (λ h. refreshed h (t .epoch)) (λ f h g _.
+      let r = host-facts creation h g in
+      host-formed creation (refreshed h (t .epoch)) (record { queue = r .queue; attempt = r .attempt; epoch = f .epoch; clock = r .clock }))
+
+  -- 10 stop
+  pub stop-kept : (host b c : ℕ) → Keeps t (stopRule t host b c)
+  unfolding stopRule
+  stop-kept host b c = alone-kept host b c workingRefusals stopped (λ f h g _. g)
