@@ -9,6 +9,8 @@ pub mod Refine
 pub mod Net
 pub mod View
 pub mod Queue
+pub mod Shapes
 pub mod Hosts
 pub mod Chunks
+pub mod Good
 pub mod Sessions

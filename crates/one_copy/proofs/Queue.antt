@@ -1,25 +1,24 @@
 -- The waiting list under insertion, marking and removal of its head; one law each for `Any`
-use Prim.Native.Nat.{ℕ, zero, suc, _-_, _≤_, _<_}
-use mathlib.Core.Path.{_≡_, refl, sym, _∙_, ap}
+use Prim.Native.Nat.{ℕ, suc, _≤_, _<_}
+use mathlib.Core.Path.{_≡_, refl, sym, subst, _∙_, ap}
 use mathlib.Core.Logic.{_⊎_, inl, inr}
-use mathlib.Core.Bool.{Bool, true, false, cond, not}
+use mathlib.Core.Bool.{Bool, true, false, cond}
 use mathlib.Core.List.{List, [], _∷_}
 use native.Mathlib.Omega.{arith}
-use lib.Dec.{ltb, leb}
 use lib.ListN.{length, getD, set, take, drop, length-take, length-drop, length-set}
-use lib.Seq.{getD-take}
-use borrow.Author.Tests.{ltb-false, lt-ltb, leb-true, eqb-true, not-true}
+use borrow.Author.Tests.{eqb-true}
 use Rattle.one_copy.specs.Types.{Timestamp, Creation, Kind, Entry, Waiting}
-use Rattle.rules.specs.Formed.{entryFormed, entryAt, waitingFormed}
 use Rattle.rules.specs.Limits.{waitingLimit}
-use Rattle.rules.specs.Timestamps.{_is_, _above_, _below_}
+use Rattle.rules.specs.Timestamps.{_is_, _below_}
 use Rattle.rules.specs.Waiting.{inOrder, holding, insert, inserted, headRemoved, firstWith, decidedKind, decided, mark, marked}
-use Rattle.rules.specs.Words.{every, place, numbers}
+use Rattle.rules.specs.Words.{place}
 use Rattle.rules.specs.Zero.{zeroEntry}
-use Rattle.rules.proofs.Lists.{both, every-number, filled-take}
+use Rattle.rules.proofs.Formed.{FormedWaiting, entries-ordered}
+use Rattle.rules.proofs.Lists.{filled-take, take-short}
+use Rattle.rules.proofs.Order.{OrderedFrom, Ordered}
 use Rattle.one_copy.proofs.Abs.{Mark, und, cmt, abt}
-use Rattle.one_copy.proofs.Lists.{Any, any-at}
-use Rattle.one_copy.proofs.View.{asWrite, asRead, isW, isR}
+use Rattle.one_copy.proofs.Lists.{Any}
+use Rattle.one_copy.proofs.View.{isW, isR}
 
 -- ---- insertion
 
@@ -123,20 +122,17 @@ holding-order : (l : List Entry) → length l ≤ waitingLimit → inOrder (hold
 unfolding holding
 holding-order l h = filled-take zeroEntry waitingLimit l h
 
-order-length : (w : Waiting) → length (inOrder w) ≤ w .count
-order-length w = omega (arith, length-take (w .count) (w .entries))
-
 pub inserted-order : (w : Waiting) (e : Entry) → w .count < waitingLimit → inOrder (inserted w e) ≡ insert e (inOrder w)
 unfolding inserted
-inserted-order w e h = holding-order (insert e (inOrder w)) (omega (arith, insert-length e (inOrder w), order-length w))
+inserted-order w e h = holding-order (insert e (inOrder w)) (omega (arith, insert-length e (inOrder w), take-short (w .count) (w .entries)))
 
 pub marked-order : (w : Waiting) (commit : Bool) (t : Timestamp) → w .count ≤ waitingLimit → inOrder (marked commit t w) ≡ mark commit t (inOrder w)
 unfolding marked mark
-marked-order w commit t h = holding-order (mark commit t (inOrder w)) (omega (arith, length-set (inOrder w) (firstWith t (inOrder w)) (decided commit (getD (inOrder w) (firstWith t (inOrder w)) zeroEntry)), order-length w))
+marked-order w commit t h = holding-order (mark commit t (inOrder w)) (omega (arith, length-set (inOrder w) (firstWith t (inOrder w)) (decided commit (getD (inOrder w) (firstWith t (inOrder w)) zeroEntry)), take-short (w .count) (w .entries)))
 
 pub removed-order : (w : Waiting) → w .count ≤ waitingLimit → inOrder (headRemoved w) ≡ drop 1 (inOrder w)
 unfolding headRemoved
-removed-order w h = holding-order (drop 1 (inOrder w)) (omega (arith, length-drop 1 (inOrder w), order-length w))
+removed-order w h = holding-order (drop 1 (inOrder w)) (omega (arith, length-drop 1 (inOrder w), take-short (w .count) (w .entries)))
 
 -- a count above 0 and an array that is long enough: there is a head
 pub head-exists : (w : Waiting) → 0 < w .count → w .count ≤ length (w .entries) → (e : Entry) × (q : List Entry) × (inOrder w ≡ e ∷ q)
@@ -148,28 +144,13 @@ head-exists w h k = go (inOrder w) refl
 
 -- ---- the head of a list in order is least
 
-climbs : (l : List Entry) → ((i : ℕ) → suc i < length l → getD l i zeroEntry .timestamp .0 ≤ getD l (suc i) zeroEntry .timestamp .0) → (i : ℕ) → i < length l → getD l 0 zeroEntry .timestamp .0 ≤ getD l i zeroEntry .timestamp .0
-climbs l h zero k = omega arith
-climbs l h (suc i) k = let z = climbs l h i (omega arith) in let y = h i k in omega arith
+behind : (n : ℕ) (l : List Entry) → OrderedFrom n l → (P : Entry → Type 0) → Any P l → (x : Entry) × P x × (n ≤ x .timestamp .0)
+behind n [] o P a = absurd a
+behind n (x ∷ xs) o P (inl a) = (x, a, o .0)
+behind n (x ∷ xs) o P (inr a) = let r = behind (x .timestamp .0) xs (o .1) P a in (r .0, r .1, omega (arith, o .0, r .2))
 
-module _ (k : Creation) (w : Waiting) (f : waitingFormed k w ≡ true) where
-  parts : (leb (w .count) waitingLimit ≡ true) × (every (entryAt k w) (numbers waitingLimit) ≡ true)
-  parts = both (leb (w .count) waitingLimit) (every (entryAt k w) (numbers waitingLimit)) f
-
-  pub few : w .count ≤ waitingLimit
-  few = leb-true (w .count) waitingLimit (parts .0)
-
-  ascends : (i : ℕ) → suc i < length (inOrder w) → getD (inOrder w) i zeroEntry .timestamp .0 ≤ getD (inOrder w) (suc i) zeroEntry .timestamp .0
-  ascends i l =
-      let n : suc i < w .count = omega (arith, order-length w) in
-      let m : suc i < waitingLimit = omega (arith, few) in
-      let o : suc i - 1 ≡ i = omega arith in
-      let z : not (getD (w .entries) i zeroEntry .timestamp above getD (w .entries) (suc i) zeroEntry .timestamp) ≡ true =
-          rw o at (both (entryFormed k (getD (w .entries) (suc i) zeroEntry)) _ (rw (lt-ltb (suc i) (w .count) n) at (every-number (entryAt k w) waitingLimit (parts .1) (suc i) m)) .1) in
-      rw (getD-take (w .count) (w .entries) i zeroEntry (omega arith), getD-take (w .count) (w .entries) (suc i) zeroEntry n)
-      (ltb-false (getD (w .entries) (suc i) zeroEntry .timestamp .0) (getD (w .entries) i zeroEntry .timestamp .0) (not-true _ z))
-
-  pub least : (e : Entry) (q : List Entry) → inOrder w ≡ e ∷ q → (P : Entry → Type 0) → Any P (e ∷ q) → (x : Entry) × P x × (e .timestamp .0 ≤ x .timestamp .0)
-  least e q h P a =
-      let r = any-at P (e ∷ q) zeroEntry a in
-      (getD (e ∷ q) (r .0) zeroEntry, r .2, climbs (e ∷ q) (rw h at ascends) (r .0) (r .1))
+pub least : (k : Creation) (w : Waiting) → FormedWaiting k w → (e : Entry) (q : List Entry) → inOrder w ≡ e ∷ q
+    → (P : Entry → Type 0) → Any P (e ∷ q) → (x : Entry) × P x × (e .timestamp .0 ≤ x .timestamp .0)
+least k w f e q h P a =
+    let o : Ordered (e ∷ q) = subst Ordered h (entries-ordered k w f) in
+    behind (e .timestamp .0) (e ∷ q) (omega arith, o .1) P a

@@ -6,7 +6,7 @@ use mathlib.Core.Bool.{Bool, true, false, not}
 use mathlib.Core.List.{List, [], _∷_}
 use native.Mathlib.Omega.{arith}
 use lib.ListN.{getD}
-use Rattle.one_copy.specs.Types.{Set, Kind, Entry, State, Host, Message, Place, Table}
+use Rattle.one_copy.specs.Types.{Set, Kind, Entry, Record, State, Chunk, Host, Message, Place, Table}
 use Rattle.one_copy.specs.Runs.{Write, written}
 use Rattle.rules.specs.Hosts.{front}
 use Rattle.rules.specs.Kinds.{isNormal, isReading}
@@ -37,8 +37,11 @@ pub record Part : Type 0 where
   pub wr : ℕ
   pub queue : List Entry
 
+abbrev pub partWith : Chunk → Record → Part
+partWith c r = record { mode = c .state; lost = c .lost; val = r .value; rd = r .read .0; wr = r .write .0; queue = inOrder (r .waiting) }
+
 abbrev pub partOf : Table → (block chunk : ℕ) → Part
-partOf t b c = record { mode = chunkOf t c .state; lost = chunkOf t c .lost; val = recordOf t c b .value; rd = recordOf t c b .read .0; wr = recordOf t c b .write .0; queue = inOrder (recordOf t c b .waiting) }
+partOf t b c = partWith (chunkOf t c) (recordOf t c b)
 
 -- a host's part: its front operation and its attempt
 pub record Seat : Type 0 where
