@@ -3,13 +3,14 @@ use Prim.Native.Nat.{ℕ, _+_, _*_, _≤_, _<_}
 use mathlib.Core.Path.{_≡_, refl, sym, subst⁻¹, _∙_, ap, fun-ext}
 use mathlib.Core.Logic.{_⊎_, inl, inr}
 use mathlib.Core.Bool.{Bool, true, false, cond, not, _&&_}
-use mathlib.Core.List.{List}
+use mathlib.Core.List.{List, [], _∷_, _++_}
 use native.Mathlib.Omega.{arith}
 use lib.Dec.{eqb}
 use lib.ListN.{length, getD, set, List·getD-eq-default}
 use lib.Seq.{getD-set-same, getD-set-other}
 use borrow.Author.Tests.{eqb-true, not-true, not-false}
-use Rattle.one_copy.specs.Types.{Creation, Record, Chunk, Host, Place, Table}
+use Rattle.one_copy.specs.Types.{Creation, Record, Chunk, Host, Place, Table, Outcome}
+use Rattle.one_copy.specs.Runs.{Write, timestampAt}
 use Rattle.rules.specs.Chunks.{emptied}
 use Rattle.rules.specs.Creation.{ofStore, isSetOf}
 use Rattle.rules.specs.Limits.{hostLimit, chunkLimit, blockLimit}
@@ -19,9 +20,9 @@ use Rattle.rules.specs.Zero.{_among_, isEmpty, noHost, noChunk, noRecord}
 use Rattle.rules.proofs.Formed.{Formed, creation-facts, chunk-place, block-place, of-store}
 use Rattle.rules.proofs.Lists.{both, some-number, grid-at}
 use Rattle.one_copy.proofs.Tests.{at, at-id, at-map, at-same, at-other, at-with, eq-or-ne, le-or-lt}
-use Rattle.one_copy.proofs.Lists.{getD-set}
+use Rattle.one_copy.proofs.Lists.{Any, getD-set}
 use Rattle.one_copy.proofs.Shapes.{Shape, records-beyond, beyond}
-use Rattle.one_copy.proofs.View.{Hist, Part, partWith, partOf, Seat, seatOf, seatsOf, CInv}
+use Rattle.one_copy.proofs.View.{Hist, Part, partWith, partOf, Seat, seatOf, seatsOf, isIt, CInv}
 
 -- chunk c holds a copy of block b
 abbrev pub In : Creation → (block chunk : ℕ) → Type 0
@@ -94,3 +95,20 @@ module _ (b : ℕ) (h : Hist) (t : Table) (s : Shape t) where
       go : (x : Bool) → eqb a c ≡ x → cond x (emptied (recordOf t a b)) (recordOf t a b) ≡ cond x (emptied (recordOf t c b)) (recordOf t a b)
       go true e = ap (λ (d : ℕ). emptied (recordOf t d b)) (eqb-true a c e)
       go false e = refl
+
+-- ---- what an event makes of a good table: ws are the writes that it lists, o its outcome
+
+pub record Next (b : ℕ) (h : Hist) (t : Table) (ws : List Write) (o : Outcome) (t′ : Table) : Type 0 where
+  pub hist : Hist
+  pub good : Good b hist t′
+  pub listed : hist .listed ≡ ws ++ h .listed
+  pub kept : (u v : ℕ) → Any (isIt u v) (h .reads) → Any (isIt u v) (hist .reads)
+  pub done : (j v : ℕ) → o ≡ Outcome.ReadDone j b v → Any (isIt (timestampAt t j .0) v) (hist .reads)
+
+-- no outcome is a read done
+pub none-done : (j b v : ℕ) → Outcome.None ≡ Outcome.ReadDone j b v → ⊥
+none-done j b v q = let z : _≡_ {A = ℕ} 0 1 = cc in omega arith
+
+-- an event that the history does not note
+pub quietly : (b : ℕ) (h : Hist) (t t′ : Table) → Good b h t′ → Next b h t [] Outcome.None t′
+quietly b h t t′ g = record { hist = h; good = g; listed = refl; kept = λ u v z. z; done = λ j v q. absurd (none-done j b v q) }

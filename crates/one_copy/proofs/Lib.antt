@@ -13,4 +13,5 @@ pub mod Shapes
 pub mod Hosts
 pub mod Chunks
 pub mod Good
+pub mod EvHost
 pub mod Sessions

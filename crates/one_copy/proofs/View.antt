@@ -6,10 +6,10 @@ use mathlib.Core.Bool.{Bool, true, false, not}
 use mathlib.Core.List.{List, [], _∷_}
 use native.Mathlib.Omega.{arith}
 use lib.ListN.{getD}
-use Rattle.one_copy.specs.Types.{Set, Kind, Entry, Record, State, Chunk, Host, Message, Place, Table}
+use Rattle.one_copy.specs.Types.{Set, Kind, Entry, Record, State, Chunk, Host, Header, Message, Place, Table}
 use Rattle.one_copy.specs.Runs.{Write, written}
 use Rattle.rules.specs.Hosts.{front}
-use Rattle.rules.specs.Kinds.{isNormal, isReading}
+use Rattle.rules.specs.Kinds.{isNormal, isReading, headerOf}
 use Rattle.rules.specs.Tables.{hostOf, chunkOf, recordOf}
 use Rattle.rules.specs.Timestamps.{stamp}
 use Rattle.rules.specs.Waiting.{inOrder}
@@ -163,6 +163,32 @@ net-foreign b n′ n D f adds none = record {
   abtm = λ t h. elim (adds (ofAbort b t) h) [ inl q ↦ q | inr q ↦ absurd ((none (q .0)) .abtm t (q .1)) ];
   value = λ t x h. elim (adds (ofValue b t x) h) [ inl q ↦ q | inr q ↦ absurd ((none (q .0)) .value t x (q .1)) ];
 }
+
+-- a message of another block says nothing of block b
+pub far-message : (b : ℕ) (m : Message) → (headerOf m .block ≡ b → ⊥) → Foreign b m
+far-message b (Message.Read hd e) far = record { ack = λ t c z. z; pre = λ c t e v z. z; rdm = λ c t z. far (z .0); comm = λ t z. z; abtm = λ t z. z; value = λ t x z. z }
+far-message b (Message.Prewrite hd e v) far = record { ack = λ t c z. z; pre = λ c t e v z. far (z .0); rdm = λ c t z. z; comm = λ t z. z; abtm = λ t z. z; value = λ t x z. z }
+far-message b (Message.Commit hd e) far = record { ack = λ t c z. z; pre = λ c t e v z. z; rdm = λ c t z. z; comm = λ t z. far (z .0); abtm = λ t z. z; value = λ t x z. z }
+far-message b (Message.Abort hd e) far = record { ack = λ t c z. z; pre = λ c t e v z. z; rdm = λ c t z. z; comm = λ t z. z; abtm = λ t z. far (z .0); value = λ t x z. z }
+far-message b (Message.Mismatch hd) far = record { ack = λ t c z. z; pre = λ c t e v z. z; rdm = λ c t z. z; comm = λ t z. z; abtm = λ t z. z; value = λ t x z. z }
+far-message b (Message.Error hd) far = record { ack = λ t c z. z; pre = λ c t e v z. z; rdm = λ c t z. z; comm = λ t z. z; abtm = λ t z. z; value = λ t x z. z }
+far-message b (Message.OutOfOrder hd) far = record { ack = λ t c z. z; pre = λ c t e v z. z; rdm = λ c t z. z; comm = λ t z. z; abtm = λ t z. z; value = λ t x z. z }
+far-message b (Message.Busy hd) far = record { ack = λ t c z. z; pre = λ c t e v z. z; rdm = λ c t z. z; comm = λ t z. z; abtm = λ t z. z; value = λ t x z. z }
+far-message b (Message.ReadReply hd v) far = record { ack = λ t c z. z; pre = λ c t e v z. z; rdm = λ c t z. z; comm = λ t z. z; abtm = λ t z. z; value = λ t x z. far (z .0) }
+far-message b (Message.PrewriteReply hd) far = record { ack = λ t c z. far (z .0); pre = λ c t e v z. z; rdm = λ c t z. z; comm = λ t z. z; abtm = λ t z. z; value = λ t x z. z }
+
+-- a reply that is neither a value nor a prewrite reply says nothing of any block
+pub plain-mismatch : (b : ℕ) (hd : Header) → Foreign b (Message.Mismatch hd)
+plain-mismatch b hd = record { ack = λ t c z. z; pre = λ c t e v z. z; rdm = λ c t z. z; comm = λ t z. z; abtm = λ t z. z; value = λ t x z. z }
+
+pub plain-error : (b : ℕ) (hd : Header) → Foreign b (Message.Error hd)
+plain-error b hd = record { ack = λ t c z. z; pre = λ c t e v z. z; rdm = λ c t z. z; comm = λ t z. z; abtm = λ t z. z; value = λ t x z. z }
+
+pub plain-order : (b : ℕ) (hd : Header) → Foreign b (Message.OutOfOrder hd)
+plain-order b hd = record { ack = λ t c z. z; pre = λ c t e v z. z; rdm = λ c t z. z; comm = λ t z. z; abtm = λ t z. z; value = λ t x z. z }
+
+pub plain-busy : (b : ℕ) (hd : Header) → Foreign b (Message.Busy hd)
+plain-busy b hd = record { ack = λ t c z. z; pre = λ c t e v z. z; rdm = λ c t z. z; comm = λ t z. z; abtm = λ t z. z; value = λ t x z. z }
 
 pub record Drawn (hs : ℕ → Seat) (t : ℕ) : Type 0 where
   pub by : ℕ
