@@ -14,4 +14,5 @@ pub mod Hosts
 pub mod Chunks
 pub mod Good
 pub mod EvHost
+pub mod EvChunk
 pub mod Sessions
