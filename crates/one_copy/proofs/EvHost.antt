@@ -29,7 +29,7 @@ use Rattle.one_copy.proofs.Lists.{Any}
 use Rattle.one_copy.proofs.Net.{Sent, sent-each}
 use Rattle.one_copy.proofs.View.{Hist, partOf, Seat, seatOf, seatsOf, isIt, HasW, HasR, NetLe, net-less, net-foreign, far-message, CInv, Quiet, quiet}
 use Rattle.one_copy.proofs.Hosts.{begins, lists, answers, start-other, begin-write, begin-read, end-commit, end-abort, end-other, end-read}
-use Rattle.one_copy.proofs.Shapes.{Shape}
+use Rattle.one_copy.proofs.Shapes.{Shape, front-kept, at-front}
 use Rattle.one_copy.proofs.Good.{In, Good, inside, holder, good-host, Next, none-done, quietly}
 
 -- the operation is as it was, where there is an attempt
@@ -82,20 +82,6 @@ front-same x y e = record {
 pub net-same : (b : ℕ) (n : List Place) → NetLe b n n
 net-same b n = net-less b n n (λ P z. z)
 
--- ---- the front operation
-
--- an operation more does not change the front one
-front-kept : (x : Host) (o : Operation) → 0 < length (operationsOf x) → x .queue .count < operationLimit → front (appended x o) ≡ front x
-unfolding appended queueOf
-front-kept x o h k = ap (λ (l : List Operation). getD l 0 zeroOperation) (filled-take zeroOperation operationLimit (operationsOf x ++ o ∷ []) room) ∙ go (operationsOf x) h
-  where
-    room : length (operationsOf x ++ o ∷ []) ≤ operationLimit
-    room = omega (arith, length-append (operationsOf x) (o ∷ []), take-short (x .queue .count) (x .queue .operations))
-
-    go : (l : List Operation) → 0 < length l → getD (l ++ o ∷ []) 0 zeroOperation ≡ getD l 0 zeroOperation
-    go [] h = absurd (omega arith)
-    go (p ∷ l) h = refl
-
 -- ---- where a finish leaves the host
 
 ended-seat : (x : Host) (t : Bool) → (seatOf (cond t (ended x) (withQueue (ended x) (queueOf (drop 1 (operationsOf x))))) .ts ≡ 0) × (seatOf (cond t (ended x) (withQueue (ended x) (queueOf (drop 1 (operationsOf x))))) .clock ≡ x .clock) × (seatOf (cond t (ended x) (withQueue (ended x) (queueOf (drop 1 (operationsOf x))))) .known ≡ x .epoch .0)
@@ -125,13 +111,6 @@ module _ (b : ℕ) (h : Hist) (t : Table) (f : Formed t) (s : Shape t) (lb : isB
   small : j < hostLimit
   small = host-place (t .creation) j lj (f .creation)
 
-  -- a host at work has its operation
-  at-front : 0 < x .attempt .timestamp .0 → 0 < length (operationsOf x)
-  at-front p =
-      let k = t .creation in
-      let a = attempt-facts k (x .queue .count) (x .attempt) (host-facts k x (host-of t f j lj) .attempt) (lt-ltb 0 (x .attempt .timestamp .0) p) in
-      omega (arith, a .one, s .queues j small, length-take (x .queue .count) (x .queue .operations))
-
   -- a quiet change of the host
   pub host-quiet : (y : Host) → Quiet S b (t .places) (t .epoch .0) (seatsOf t j) (seatOf y) → Next b h t [] Outcome.None (withHost t j y)
   host-quiet y q = quietly b h t (withHost t j y) (good-host b h t s j y (t .places) small
@@ -141,9 +120,9 @@ module _ (b : ℕ) (h : Hist) (t : Table) (f : Formed t) (s : Shape t) (lb : isB
   pub ev-intake : (o : Operation) → x .queue .count < operationLimit → Next b h t [] Outcome.None (withHost t j (appended x o))
   unfolding appended
   ev-intake o k = host-quiet (appended x o) (same-host S b (t .places) (t .epoch .0) (seatsOf t j) (seatOf (appended x o)) (record {
-    block = λ p. ap (λ (o : Operation). o .block) (front-kept x o (at-front p) k);
-    write = λ p. ap (λ (o : Operation). not (isReading (o .action))) (front-kept x o (at-front p) k);
-    value = λ p. ap (λ (o : Operation). written (o .action)) (front-kept x o (at-front p) k);
+    block = λ p. ap (λ (o : Operation). o .block) (front-kept x o (at-front t f s j lj p) k);
+    write = λ p. ap (λ (o : Operation). not (isReading (o .action))) (front-kept x o (at-front t f s j lj p) k);
+    value = λ p. ap (λ (o : Operation). written (o .action)) (front-kept x o (at-front t f s j lj p) k);
   }) refl refl (i .known j) refl refl refl)
 
   pub ev-timeout : Next b h t [] Outcome.None (withHost t j (timedOut x))

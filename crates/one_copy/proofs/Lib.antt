@@ -12,6 +12,7 @@ pub mod Queue
 pub mod Shapes
 pub mod Hosts
 pub mod Chunks
+pub mod Homes
 pub mod Good
 pub mod EvHost
 pub mod EvChunk

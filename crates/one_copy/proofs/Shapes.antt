@@ -5,16 +5,18 @@ use mathlib.Core.Logic.{_⊎_, inl, inr}
 use mathlib.Core.Bool.{Bool, true, false, cond}
 use mathlib.Core.List.{List, [], _∷_, _++_}
 use native.Mathlib.Omega.{arith}
+use borrow.Author.Tests.{lt-ltb}
 use lib.ListN.{length, getD, set, take, replicate, length-append, length-take, length-replicate, length-set, getD-replicate, List·getD-eq-default}
 use Rattle.one_copy.specs.Types.{Epoch, Creation, Entry, Waiting, Record, Chunk, Operation, Queue, Host, Place, Table}
 use Rattle.rules.specs.Creation.{freshHost, freshChunk, fresh}
-use Rattle.rules.specs.Hosts.{queueOf}
+use Rattle.rules.specs.Hosts.{operationsOf, queueOf, front, appended}
 use Rattle.rules.specs.Limits.{hostLimit, chunkLimit, blockLimit, operationLimit, waitingLimit}
 use Rattle.rules.specs.Tables.{isHost, isChunk, hostOf, recordOf, recordsBy, withHost, withChunk, withRecord, withRecords, withPlaces, withChunks, withEpoch}
 use Rattle.rules.specs.Waiting.{holding}
 use Rattle.rules.specs.Words.{each, joined, from, numbers, filled}
 use Rattle.rules.specs.Zero.{zeroEntry, zeroRecord, zeroOperation, zeroHost, zeroChunk, noHost, noRecord}
-use Rattle.rules.proofs.Lists.{get-set, set-all, each-length, numbers-length, each-number, grid-at}
+use Rattle.rules.proofs.Formed.{Formed, host-place, host-of, host-facts, attempt-facts}
+use Rattle.rules.proofs.Lists.{filled-take, take-short, get-set, set-all, each-length, numbers-length, each-number, grid-at}
 
 pub record Shape (t : Table) : Type 0 where
   pub hosts : length (t .hosts) ≡ hostLimit
@@ -103,3 +105,24 @@ fresh-shape k = record {
     go : (x : Bool) → length (cond x freshHost zeroHost .queue .operations) ≡ operationLimit
     go true = refl
     go false = refl
+
+-- ---- what the lengths are for: a host at work has its operation at the front
+
+-- an operation more does not change the front one
+pub front-kept : (x : Host) (o : Operation) → 0 < length (operationsOf x) → x .queue .count < operationLimit → front (appended x o) ≡ front x
+unfolding appended queueOf
+front-kept x o h k = ap (λ (l : List Operation). getD l 0 zeroOperation) (filled-take zeroOperation operationLimit (operationsOf x ++ o ∷ []) room) ∙ go (operationsOf x) h
+  where
+    room : length (operationsOf x ++ o ∷ []) ≤ operationLimit
+    room = omega (arith, length-append (operationsOf x) (o ∷ []), take-short (x .queue .count) (x .queue .operations))
+
+    go : (l : List Operation) → 0 < length l → getD (l ++ o ∷ []) 0 zeroOperation ≡ getD l 0 zeroOperation
+    go [] h = absurd (omega arith)
+    go (p ∷ l) h = refl
+
+pub at-front : (t : Table) → Formed t → Shape t → (j : ℕ) → isHost (t .creation) j ≡ true → 0 < hostOf t j .attempt .timestamp .0 → 0 < length (operationsOf (hostOf t j))
+at-front t f s j lj p =
+    let k = t .creation in
+    let x = hostOf t j in
+    let a = attempt-facts k (x .queue .count) (x .attempt) (host-facts k x (host-of t f j lj) .attempt) (lt-ltb 0 (x .attempt .timestamp .0) p) in
+    omega (arith, a .one, s .queues j (host-place k j lj (f .creation)), length-take (x .queue .count) (x .queue .operations))
