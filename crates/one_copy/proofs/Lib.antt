@@ -13,6 +13,8 @@ pub mod Shapes
 pub mod Hosts
 pub mod Chunks
 pub mod Homes
+pub mod Arrivals
+pub mod EvHomes
 pub mod Good
 pub mod EvHost
 pub mod EvChunk
