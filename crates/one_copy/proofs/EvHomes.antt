@@ -97,7 +97,8 @@ module _ (t : Table) (f : Formed t) (j : ℕ) (lj : isHost (t .creation) j ≡ t
   unfolding every
   start-home blk s hm clock copy free messages e =
       begins-home blk t s hm j clock place-j (leb-false clock (x .clock) (granted-exactly (startRefusals x clock copy (holdersOf t x) free messages) refl .0 e 5 (omega arith)))
-      (started x (stamp clock j) clock (openingTo (front x .action) copy (holdersOf t x))) _ (front x .block) refl refl refl
+      (started x (stamp clock j) clock (openingTo (front x .action) copy (holdersOf t x)))
+      (sentToEach (t .places) (openingTo (front x .action) copy (holdersOf t x)) (λ c. opening (headed j c (front x .block) (stamp clock j)) (x .epoch) (front x .action))) (front x .block) refl refl refl
       (λ u d z. elim (sent-each (ofBoth d u) (λ c. opening (headed j c (front x .block) (stamp clock j)) (x .epoch) (front x .action)) (openingTo (front x .action) copy (holdersOf t x)) (t .places) z) [ inl q ↦ inl q | inr q ↦ inr (own (front x .action) (q .0) u d (q .3)) ])
     where
       own : (a : Action) (c u d : ℕ) → ofBoth d u (opening (headed j c (front x .block) (stamp clock j)) (x .epoch) a) → (front x .block ≡ d) × (stamp clock j .0 ≡ u)

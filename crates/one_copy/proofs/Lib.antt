@@ -1,5 +1,6 @@
 pub mod Tests
 pub mod Lists
+pub mod Folds
 pub mod Abs
 pub mod Cells
 pub mod Flows
@@ -16,6 +17,7 @@ pub mod Homes
 pub mod Arrivals
 pub mod EvHomes
 pub mod Good
+pub mod Epoch
 pub mod EvHost
 pub mod EvChunk
 pub mod Sessions
