@@ -25,7 +25,7 @@ use Rattle.rules.proofs.Lists.{both, three, and-true, true-or-false, each-lengt
 use Rattle.one_copy.proofs.Tests.{not-both}
 use Rattle.one_copy.proofs.Abs.{Mark, und, cmt, abt, Cell}
 use Rattle.one_copy.proofs.Settle.{Chosen, Settling}
-use Rattle.one_copy.proofs.Lists.{Any, any-map, any-getD, any-those, those-any, some-any, any-some, any-each, each-any, any-out, any-joined, joined-any, any-numbers, numbers-any}
+use Rattle.one_copy.proofs.Lists.{Any, any-map, any-at, any-getD, any-those, those-any, some-any, any-some, any-each, each-any, any-out, any-joined, joined-any, any-numbers, numbers-any}
 use Rattle.one_copy.proofs.Folds.{top-all, top-is, place-at, those-at, those-of, those-not}
 use Rattle.one_copy.proofs.View.{partOf, isW, asWrite, cellOf}
 use Rattle.one_copy.proofs.Good.{In, inside, holder}
@@ -213,3 +213,118 @@ module _ (t : Table) (f : Formed t) (b : ℕ) (lb : isBlock (t .creation) b ≡ 
           let w = inOrder (recordOf t (r .0) b .waiting) in
           let z = any-out (λ v e. isW (u .0) v abt e) w (any-map (λ e. abortedWith u e ≡ true) (λ e. (v : ℕ) × isW (u .0) v abt e) (is-aborted u) w (some-any (abortedWith u) w (r .2 .1))) in
           h .clean (r .0) (member-in (r .0) (r .1) (s .0)) (not-true (chunkOf t (r .0) .lost) (s .1)) (z .0) (z .1))
+
+  -- ---- the list of what is committed
+
+  abbrev isStamp : ℕ → Timestamp → Type 0
+  isStamp u x = x .0 ≡ u
+
+  -- what is listed is chosen
+  pub commits-in : (u : ℕ) → Any (isStamp u) (commits copies) → Chosen S cell (W copies .0) u
+  unfolding commits
+  commits-in u h =
+      let r = any-at (λ x. (committed copies x ≡ true) × (x .0 ≡ u)) (writes copies) never (any-those (committed copies) (isStamp u) (writes copies) h) in
+      subst (Chosen S cell (W copies .0)) (r .2 .1) (chosen-to (getD (writes copies) (r .0) never) (r .2 .0))
+
+  -- an entry of a chunk that is not lost is among the writes
+  writes-any : (P : Timestamp → Type 0) (c : ℕ) → S c → chunkOf t c .lost ≡ false → Any (λ e. (isWrite (e .kind) ≡ true) × P (e .timestamp)) (inOrder (recordOf t c b .waiting)) → Any P (writes copies)
+  unfolding writes
+  writes-any P c m l h = joined-any P (each writesOf (those notLost copies)) (each-any writesOf (Any P) (those notLost copies)
+      (those-any notLost (λ x. Any P (writesOf x)) copies (copies-any (λ x. (notLost x ≡ true) × Any P (writesOf x)) c (inside t f b lb c m)
+      (rw (m .1, l) refl, each-any (λ (e : Entry). e .timestamp) P (those (λ e. isWrite (e .kind)) (inOrder (recordOf t c b .waiting))) (those-any (λ e. isWrite (e .kind)) (λ e. P (e .timestamp)) (inOrder (recordOf t c b .waiting)) h)))))
+
+  module _ (al : allLost copies ≡ false) where
+    -- a chunk that is not lost
+    pub alive : (c : ℕ) × S c × (chunkOf t c .lost ≡ false)
+    unfolding allLost
+    alive =
+        let r = those-not isLost inSet copies noCopy al in
+        let l : r .0 < chunkLimit = omega (arith, r .1, copies-length) in
+        let m : inSet (copy (r .0)) ≡ true = rw (copy-at (r .0) l) at (r .2) in
+        let o : isLost (copy (r .0)) ≡ false = rw (copy-at (r .0) l) at (r .3) in
+        (r .0, member-in (r .0) l m, rw m at o)
+
+    -- what is chosen is listed
+    pub commits-has : (u : ℕ) → Chosen S cell (W copies .0) u → Any (isStamp u) (commits copies)
+    unfolding commits
+    commits-has u h =
+        let a = alive in
+        let z = h .holds (a .0) (a .1) (a .2) in
+        let w = inOrder (recordOf t (a .0) b .waiting) in
+        those-any (committed copies) (isStamp u) (writes copies)
+        (writes-any (λ x. (committed copies x ≡ true) × (x .0 ≡ u)) (a .0) (a .1) (a .2)
+        (any-map (isW u (z .0) (z .1)) (λ e. (isWrite (e .kind) ≡ true) × ((committed copies (e .timestamp) ≡ true) × (e .timestamp .0 ≡ u)))
+        (λ e q. (both (e .timestamp is e .timestamp) (isWrite (e .kind)) (write-is (e .timestamp) (z .0) (z .1) e (refl, q .1)) .1, (chosen-from (e .timestamp) (subst⁻¹ (Chosen S cell (W copies .0)) (q .0) h), q .0))) w (z .2)))
+
+    -- the value that a chosen write is listed with is an entry's
+    pub written : (u : Timestamp) → Chosen S cell (W copies .0) (u .0) → (c : ℕ) × (m : Mark) × S c × Any (isW (u .0) (writtenWith copies u) m) (inOrder (recordOf t c b .waiting))
+    unfolding writtenWith
+    written u h = (at, entry .0, member-in at (found .0) (held .0), subst (λ v. Any (isW (u .0) v (entry .0)) l) value (any-getD (isW (u .0) (valueOf (e .kind)) (entry .0)) l (place (writeWith u) l) zeroEntry (λ q. q .1) (entry .1)))
+      where
+        at : ℕ
+        at = place (λ c. notLost c && holds u c) copies
+
+        found : (at < chunkLimit) × (notLost (copy at) && holds u (copy at) ≡ true)
+        found =
+            let a = alive in
+            let z = h .holds (a .0) (a .1) (a .2) in
+            let w = inOrder (recordOf t (a .0) b .waiting) in
+            let r = place-at (λ c. notLost c && holds u c) copies noCopy (copies-any (λ c. notLost c && holds u c ≡ true) (a .0) (inside t f b lb (a .0) (a .1))
+            (and-true (notLost (copy (a .0))) (holds u (copy (a .0))) (rw (a .1 .1, a .2) refl) (any-some (writeWith u) w (any-map (isW (u .0) (z .0) (z .1)) (λ e. writeWith u e ≡ true) (write-is u (z .0) (z .1)) w (z .2))))) in
+            let k : at < chunkLimit = omega (arith, r .0, copies-length) in
+            (k, rw (copy-at at k) at (r .1))
+
+        held : (at among setOf (t .creation) b ≡ true) × (holds u (copy at) ≡ true)
+        held = let r = both (notLost (copy at)) (holds u (copy at)) (found .1) in (both (at among setOf (t .creation) b) (not (chunkOf t at .lost)) (r .0) .0, r .1)
+
+        l : List Entry
+        l = inOrder (recordOf t at b .waiting)
+
+        e : Entry
+        e = first zeroEntry (writeWith u) l
+
+        entry : (m : Mark) × isW (u .0) (valueOf (e .kind)) m e
+        entry = is-write u e (place-at (writeWith u) l zeroEntry (some-any (writeWith u) l (held .1)) .1)
+
+        value : valueOf (e .kind) ≡ valueOf (first zeroEntry (writeWith u) (waiting (first noCopy (λ c. notLost c && holds u c) copies)) .kind)
+        value = ap (λ (x : Copy). valueOf (first zeroEntry (writeWith u) (waiting x) .kind)) (sym (copy-at at (found .0)))
+
+    -- ---- settlement
+
+    -- nothing is committed, or the latest is
+    picked : (x : Bool) → some (committed copies) (writes copies) ≡ x
+        → (((u : ℕ) → Chosen S cell (W copies .0) u → ⊥) × (cond x (latest copies) (W copies) .0 ≡ W copies .0) × (cond x (writtenWith copies (latest copies)) (besideW copies) ≡ besideW copies))
+        ⊎ (Chosen S cell (W copies .0) (cond x (latest copies) (W copies) .0) × ((u : ℕ) → Chosen S cell (W copies .0) u → u ≤ cond x (latest copies) (W copies) .0)
+        × ((c : ℕ) × (m : Mark) × S c × cell c .w (cond x (latest copies) (W copies) .0) (cond x (writtenWith copies (latest copies)) (besideW copies)) m))
+    unfolding commits latest
+    picked false e = inl (λ u h. not-both (some (committed copies) (writes copies)) (any-some (committed copies) (writes copies) (any-map _ (λ x. committed copies x ≡ true) (λ x q. q .0) (writes copies) (any-those (committed copies) (isStamp u) (writes copies) (commits-has u h)))) e, refl, refl)
+    picked true e = inr (chosen, λ u h. top-all (λ (x : Timestamp). x .0) never (commits copies) u (commits-has u h), written (latest copies) chosen)
+      where
+        -- one that is committed
+        one : (u : ℕ) × Any (isStamp u) (commits copies)
+        one = let r = any-at (λ x. committed copies x ≡ true) (writes copies) never (some-any (committed copies) (writes copies) e) in
+            (getD (writes copies) (r .0) never .0, commits-has _ (chosen-to (getD (writes copies) (r .0) never) (r .2)))
+
+        chosen : Chosen S cell (W copies .0) (latest copies .0)
+        chosen = elim (top-is (λ (x : Timestamp). x .0) never (commits copies)) [
+          | inl q ↦ absurd (let r = one in let z : latest copies .0 ≡ 0 = ap (λ (x : Timestamp). x .0) q in omega (arith, commits-in (r .0) (r .1) .above, top-all (λ (x : Timestamp). x .0) never (commits copies) (r .0) (r .1)))
+          | inr q ↦ commits-in (latest copies .0) (any-map (λ x. x ≡ latest copies) (isStamp (latest copies .0)) (λ x z. ap (λ (x : Timestamp). x .0) z) (commits copies) q)
+        ]
+
+    pub settling : Settling S cell (W copies .0) (besideW copies) (settledRecord copies .write .0) (settledRecord copies .value) (settledRecord copies .read .0)
+    unfolding settledRecord
+    settling = record {
+      atW = atW;
+      atW-in = W-in;
+      atW-wr = W-is;
+      atW-val = W-value;
+      topW = W-top;
+      atM = peak-at lastRead .0;
+      atM-in = peak-at lastRead .1;
+      atM-rd = peak-at lastRead .2;
+      topM = peak-top lastRead;
+      alive = alive .0;
+      alive-in = alive .1;
+      alive-is = alive .2;
+      pick = picked (some (committed copies) (writes copies)) refl;
+    }
