@@ -20,4 +20,5 @@ pub mod Good
 pub mod Epoch
 pub mod EvHost
 pub mod EvChunk
+pub mod EvEpoch
 pub mod Sessions
