@@ -20,7 +20,7 @@ use Rattle.rules.specs.Tables.{isHost, isChunk, isBlock, hostOf, chunkOf, recor
 use Rattle.rules.specs.Timestamps.{stamp, _below_}
 use Rattle.rules.specs.Waiting.{inOrder, head, insert, inserted, headRemoved, mark, marked}
 use Rattle.rules.specs.Words.{each, every}
-use Rattle.rules.specs.Zero.{zeroEntry, zeroOperation}
+use Rattle.rules.specs.Zero.{zeroEntry, zeroOperation, noRecord}
 use Rattle.rules.proofs.Formed.{Formed, FormedWaiting, FormedMessage, host-place, chunk-place, block-place, waiting-of, message-facts}
 use Rattle.rules.proofs.Lists.{walk, grid-at}
 use Rattle.rules.proofs.Order.{mark-timestamps}
@@ -253,3 +253,32 @@ module _ (t : Table) (f : Formed t) (p : ℕ) (lp : p < placeLimit) where
   deliver-less m e = walk (λ (x : Table). Less x t) (isForChunk m) _ _
       (λ _. walk (λ (x : Table). Less x t) (isNormal (chunkOf t (headerOf m .chunk) .state)) _ _ (λ _. took-at m e (t .creation .blocks) (chunkOf t (headerOf m .chunk) .epoch)) (λ _. drop-less))
       (λ _. host-takes m e)
+
+-- ---- a failure: what waits at other chunks stays
+
+pub fail-less : (t : Table) (c : ℕ) → Less (withRecords (withChunk t c (failed (chunkOf t c))) (recordsBy (λ a b. cond (eqb a c) (emptied (recordOf t a b)) (recordOf t a b)))) t
+fail-less t c = record {
+  ment = λ u d. elim [
+    | inl z ↦ inl z
+    | inr z ↦ elim z [
+      | inl q ↦ inr (inl q)
+      | inr q ↦ elim (le-or-lt chunkLimit (q .0)) [
+        | inl l ↦ absurd (subst (λ (r : Record). Any (atTs u) (inOrder (r .waiting))) (records-beyond f (q .0) d l) (q .2))
+        | inr l ↦ inr (inr (q .0, q .1, old (q .0) d u (eqb (q .0) c) (subst (λ (r : Record). Any (atTs u) (inOrder (r .waiting))) (grid-at f chunkLimit blockLimit (q .0) d noRecord l (q .1)) (q .2))))
+      ]
+    ]
+  ];
+  clocks = λ j. omega arith;
+  shape = λ s. shape-records (withChunk t c (failed (chunkOf t c))) (shape-chunk t s c (failed (chunkOf t c))) f (λ a b l m. long a b s l m (eqb a c));
+}
+  where
+    f : ℕ → ℕ → Record
+    f a b = cond (eqb a c) (emptied (recordOf t a b)) (recordOf t a b)
+
+    old : (a d u : ℕ) (x : Bool) → Any (atTs u) (inOrder (cond x (emptied (recordOf t a d)) (recordOf t a d) .waiting)) → Any (atTs u) (inOrder (recordOf t a d .waiting))
+    old a d u true z = absurd z
+    old a d u false z = z
+
+    long : (a b : ℕ) → Shape t → a < chunkLimit → b < blockLimit → (x : Bool) → length (cond x (emptied (recordOf t a b)) (recordOf t a b) .waiting .entries) ≡ waitingLimit
+    long a b s l m true = refl
+    long a b s l m false = s .entries a b l m

@@ -21,4 +21,5 @@ pub mod Epoch
 pub mod EvHost
 pub mod EvChunk
 pub mod EvEpoch
+pub mod EvNet
 pub mod Sessions
