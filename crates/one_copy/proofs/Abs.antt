@@ -131,6 +131,7 @@ module _ (S : ℕ → Type 0) where
     pub stale : (t : ℕ) → B .void t → B .ae t < B .era
 
   pub record Seen (B : Book) (cell : ℕ → Cell) (t x : ℕ) : Type 0 where
+    pub isR : B .kind t ≡ readK
     pub guard : ℕ
     pub copy : S guard
     pub over : t ≤ (cell guard) .rd

@@ -16,6 +16,7 @@ module _ (S : ℕ → Type 0) where
     cells = at-all (λ j x. S j → CellOk B F j x) c k cell ok (λ j _. i .cells j);
     seen = λ t x h. let o : Seen S B cell t x = i .seen t x h in
         record {
+          isR = o .isR;
           guard = o .guard;
           copy = o .copy;
           last = o .last;

@@ -67,6 +67,7 @@ module _ (S : ℕ → Type 0) (B : Book) (F : Flow) (cell : ℕ → Cell) (i : I
       promise = λ u b. o .promise u (b .0);
     };
     seen = λ r x h. let o = i .seen r x h in let p = o .last in record {
+      isR = o .isR;
       guard = o .guard;
       copy = o .copy;
       over = o .over;
@@ -163,6 +164,7 @@ module _ (S : ℕ → Type 0) (B : Book) (F : Flow) (cell : ℕ → Cell) (i : I
 
     pub begin-seen : (r x : ℕ) → F .seen r x → Seen S (begun B t K v e) cell r x
     begin-seen r x h = let o = i .seen r x h in let p = o .last in record {
+      isR = keepR r (o .isR);
       guard = o .guard;
       copy = o .copy;
       over = o .over;

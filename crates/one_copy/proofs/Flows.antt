@@ -93,7 +93,7 @@ module _ (S : ℕ → Type 0) (B : Book) (F : Flow) (cell : ℕ → Cell) (i : I
     };
     cells = at-all (λ j x. S j → CellOk B (acked F t c) j x) c (queued (cell c) t v) cell hit
         (λ j n m. reflow B F (acked F t c) j (cell j) (i .cells j m) (λ t a. a) (λ t a. elim [ inl q ↦ (i .cells j m) .promise t a q | inr q ↦ absurd (n (q .1)) ]));
-    seen = λ u x q. let o = i .seen u x q in record { guard = o .guard; copy = o .copy; last = o .last; over = at-all (λ j x. u ≤ (cell j) .rd → u ≤ x .rd) c (queued (cell c) t v) cell (λ a. a) (λ j _ a. a) (o .guard) (o .over) };
+    seen = λ u x q. let o = i .seen u x q in record { isR = o .isR; guard = o .guard; copy = o .copy; last = o .last; over = at-all (λ j x. u ≤ (cell j) .rd → u ≤ x .rd) c (queued (cell c) t v) cell (λ a. a) (λ j _ a. a) (o .guard) (o .over) };
   }
     where
       g : GlobOk S B F
@@ -128,8 +128,8 @@ module _ (S : ℕ → Type 0) (B : Book) (F : Flow) (cell : ℕ → Cell) (i : I
     cells = at-all (λ j x. S j → CellOk B (answered F t ((cell c) .val)) j x) c (readAt (cell c) rd′ r′) cell (λ _. hit)
         (λ j n m. reflow B F (answered F t ((cell c) .val)) j (cell j) (i .cells j m) (λ t a. a) ((i .cells j m) .promise));
     seen = λ u x. elim [
-      | inl q ↦ let p = i .seen u x q in record { guard = p .guard; copy = p .copy; last = p .last; over = at-all (λ j x. u ≤ (cell j) .rd → u ≤ x .rd) c (readAt (cell c) rd′ r′) cell (λ a. omega arith) (λ j _ a. a) (p .guard) (p .over) }
-      | inr q ↦ record { guard = c; copy = m; over = rw (at-same c (readAt (cell c) rd′ r′) cell) (omega (arith, q .0)); last = rw (q .0, q .1) last }
+      | inl q ↦ let p = i .seen u x q in record { isR = p .isR; guard = p .guard; copy = p .copy; last = p .last; over = at-all (λ j x. u ≤ (cell j) .rd → u ≤ x .rd) c (readAt (cell c) rd′ r′) cell (λ a. omega arith) (λ j _ a. a) (p .guard) (p .over) }
+      | inr q ↦ record { isR = rw (q .0) isR; guard = c; copy = m; over = rw (at-same c (readAt (cell c) rd′ r′) cell) (omega (arith, q .0)); last = rw (q .0, q .1) last }
     ];
   }
     where

@@ -22,4 +22,5 @@ pub mod EvHost
 pub mod EvChunk
 pub mod EvEpoch
 pub mod EvNet
+pub mod Fresh
 pub mod Sessions

@@ -38,7 +38,7 @@ recell S B F cell cell′ i s hm = record {
   glob = i .glob;
   home = hm;
   cells = λ c m. let e = s c m in let k = cell′ c in same-cell B F c (cell c) (k .wr) (k .rd) (k .val) (k .lost) (k .w) (k .r) (e .wr) (e .rd) (e .val) (e .lost) (e .to) (e .from) (e .r) (i .cells c m);
-  seen = λ t x h. let o = i .seen t x h in record { guard = o .guard; copy = o .copy; last = o .last; over = (let z = (s (o .guard) (o .copy)) .rd in let y = o .over in omega arith) };
+  seen = λ t x h. let o = i .seen t x h in record { isR = o .isR; guard = o .guard; copy = o .copy; last = o .last; over = (let z = (s (o .guard) (o .copy)) .rd in let y = o .over in omega arith) };
 }
 
 pub relist : (S : ℕ → Type 0) (B : Book) (F : Flow) (cell : ℕ → Cell) (L′ : ℕ → Type 0) → Inv S B F cell → ((t : ℕ) → L′ t → B .L t) → ((t : ℕ) → B .L t → L′ t)
@@ -74,6 +74,7 @@ relist S B F cell L′ i to from = let g = i .glob in let more : (t : ℕ) → B
     gone = λ l t p. o .gone l t (to t p);
   };
   seen = λ t x h. let o = i .seen t x h in let p = o .last in record {
+    isR = o .isR;
     guard = o .guard;
     copy = o .copy;
     over = o .over;

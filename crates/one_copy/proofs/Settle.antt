@@ -132,6 +132,7 @@ module _ (S : ℕ → Type 0) (B : Book) (F : Flow) (cell : ℕ → Cell) (i : I
       promise = λ u a b e. absurd (let z = g .past u (g .curK u (g .actCur u a)) in omega arith);
     };
     seen = λ r x h. let o = i .seen r x h in let p = o .last in record {
+      isR = o .isR;
       guard = o .guard;
       copy = o .copy;
       over = (let z = s .topM (o .guard) (o .copy) in let y = o .over in omega arith);
