@@ -23,4 +23,5 @@ pub mod EvChunk
 pub mod EvEpoch
 pub mod EvNet
 pub mod Fresh
+pub mod Steps
 pub mod Sessions
