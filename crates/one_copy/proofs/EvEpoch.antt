@@ -68,7 +68,7 @@ module _ (b : ℕ) (h : Hist) (t : Table) (f : Formed t) (lb : isBlock (t .creat
   r = settledRecord (copiesOf t b)
 
   -- the part of a chunk of the set
-  changed-part : (c : ℕ) → S c → partOf (epochChanged t) b c ≡ record { mode = State.Normal; lost = false; val = r .value; rd = r .read .0; wr = r .write .0; queue = [] }
+  pub changed-part : (c : ℕ) → S c → partOf (epochChanged t) b c ≡ record { mode = State.Normal; lost = false; val = r .value; rd = r .read .0; wr = r .write .0; queue = [] }
   unfolding settledRecord
   changed-part c m =
       let l = inside t f b lb c m in

@@ -24,4 +24,6 @@ pub mod EvEpoch
 pub mod EvNet
 pub mod Fresh
 pub mod Steps
+pub mod History
+pub mod Demand
 pub mod Sessions

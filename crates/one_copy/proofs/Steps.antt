@@ -11,7 +11,7 @@ use borrow.Author.Tests.{ltb-true, eqb-true, not-false}
 use Rattle.one_copy.specs.Types.{Action, Operation, Message, Slot, Table, Event, Outcome, Answer}
 use Rattle.one_copy.specs.Runs.{Write, byHost, byChange, isChange, listedAt}
 use Rattle.rules.specs.Codes.{codeOf}
-use Rattle.rules.specs.Events.{Effect, Rule, quietly, done, refused, unused, isPlace, holdersOf, readRule, writeRule, startRule, deliverRule, dropRule, finishRule, timeoutRule, refreshRule, runRule, stopRule, failRule, recoverRule, takeLeaseRule, giveLeaseRule, epochRule, overdueRule, unknownRule, ruleOf, rows, answered, step, takes, epochChanged}
+use Rattle.rules.specs.Events.{Effect, Rule, quietly, done, refused, unused, isPlace, holdersOf, readRule, writeRule, startRule, deliverRule, dropRule, finishRule, timeoutRule, refreshRule, runRule, stopRule, failRule, recoverRule, takeLeaseRule, giveLeaseRule, epochRule, overdueRule, unknownRule, ruleOf, rows, answered, step, takes, epochChanged, epochRefusals}
 use Rattle.rules.specs.Formed.{wellFormed}
 use Rattle.rules.specs.Hosts.{front, openingTo, closingTo}
 use Rattle.rules.specs.Kinds.{isNormal, headerOf, isForChunk}
@@ -20,6 +20,7 @@ use Rattle.rules.specs.Network.{freePlaces, howMany, removed}
 use Rattle.rules.specs.Tables.{isHost, isChunk, isBlock, hostOf, chunkOf, recordOf, slotOf, withPlaces}
 use Rattle.rules.specs.Timestamps.{stamp}
 use Rattle.rules.specs.Words.{every}
+use Rattle.rules.proofs.Events.{answered-granted, step-code}
 use Rattle.rules.proofs.Formed.{Formed, formed, chunk-place, block-place, waiting-of}
 use Rattle.rules.proofs.KeepsParts.{passed, passed-second}
 use Rattle.rules.proofs.Lists.{both, three, walk}
@@ -241,3 +242,23 @@ module _ (b : ℕ) (h : Hist) (blk : ℕ → ℕ) (t : Table) (lb : isBlock (t .
   unfolding step
   step-kept = answers (ruleOf t e) (by-number Grants t e (reads _ _ _) (writes _ _ _) (starts _ _ _) (delivers _ _ _) (drops _ _ _) (finishes _ _ _) (times-out _ _ _) (refreshes _ _ _) (runs _ _ _)
       (stops _ _ _) (fails _ _ _) (recovers _ _ _) (leases-taken _ _ _) (leases-given _ _ _) (changes _ _ _) (overdues _ _ _) (λ f r x. absurd (false≢true r)))
+
+-- ---- a granted epoch change, read back from its answer
+
+pub record Changed (t t′ : Table) : Type 0 where
+  pub formed : Formed t
+  pub refusals : codeOf (epochRefusals t) ≡ 0
+  pub table : t′ ≡ epochChanged t
+
+pub changed : (t : Table) (e : Event) → isChange e (step t e) ≡ true → Changed t (step t e .table)
+unfolding step ruleOf epochRule rows
+changed t e h =
+    let q = both (eqb (e .kind) 15) (eqb (step t e .code) 0) h in
+    let k : ruleOf t e ≡ epochRule t (e .a) (e .b) (e .c) = rw (eqb-true (e .kind) 15 (q .0)) refl in
+    let z : codeOf (rows t (ruleOf t e)) ≡ 0 = sym (step-code t e) ∙ eqb-true (step t e .code) 0 (q .1) in
+    let c : codeOf (rows t (epochRule t (e .a) (e .b) (e .c))) ≡ 0 = rw k at z in
+    record {
+      formed = formed t (not-false (wellFormed t) (passed (not (wellFormed t)) 7 _ c .0));
+      refusals = passed-second (not (wellFormed t)) (not (epochRule t (e .a) (e .b) (e .c) .ranges)) 7 0 (epochRefusals t) c .1;
+      table = ap (λ (a : Answer). a .table) (answered-granted t (ruleOf t e) z) ∙ ap (λ (r : Rule). r .effect .table) k;
+    }
