@@ -9,7 +9,7 @@ use lib.Dec.{eqb, ltb}
 use lib.ListN.{getD}
 use borrow.Author.Tests.{ltb-true, lt-ltb, eqb-true, eq-eqb}
 use Rattle.one_copy.specs.Types.{Timestamp, Creation, Table, Event, Outcome, Answer}
-use Rattle.one_copy.specs.Runs.{Write, after, byHost, byChange, isChange, listedAt, listed, mentions, lists, last, lastBefore, timestampAt, attemptAt}
+use Rattle.one_copy.specs.Runs.{Write, write, after, byHost, byChange, isChange, listedAt, listed, mentions, lists, last, lastBefore, timestampAt, attemptAt, heldBy}
 use Rattle.one_copy.specs.OneCopy.{OneCopy}
 use Rattle.rules.specs.Creation.{isCreation, fresh}
 use Rattle.rules.specs.Events.{step}
@@ -37,11 +37,11 @@ with-value : (u : ℕ) (l : List Write) → Any (isTs u) l → (v : ℕ) × Any 
 with-value u l h = any-out (λ v w. isIt u v w) l (any-map (isTs u) (λ w. (v : ℕ) × isIt u v w) (λ w z. (w .value, (z, refl))) l h)
 
 -- as a test and as a fact
-lists-any : (l : List Write) (u : Timestamp) (v : ℕ) → lists l u v ≡ true → Any (isIt (u .0) v) l
+lists-any : (l : List Write) (u : Timestamp) (v : ℕ) → lists l (write u v) ≡ true → Any (isIt (u .0) v) l
 lists-any l u v h = any-map (λ w. w .timestamp is u && eqb (w .value) v ≡ true) (isIt (u .0) v)
     (λ w z. let r = both (w .timestamp is u) (eqb (w .value) v) z in (eqb-true (w .timestamp .0) (u .0) (r .0), eqb-true (w .value) v (r .1))) l (some-any (λ w. w .timestamp is u && eqb (w .value) v) l h)
 
-any-lists : (l : List Write) (u : Timestamp) (v : ℕ) → Any (isIt (u .0) v) l → lists l u v ≡ true
+any-lists : (l : List Write) (u : Timestamp) (v : ℕ) → Any (isIt (u .0) v) l → lists l (write u v) ≡ true
 any-lists l u v h = any-some (λ w. w .timestamp is u && eqb (w .value) v) l (any-map (isIt (u .0) v) (λ w. w .timestamp is u && eqb (w .value) v ≡ true)
     (λ w z. and-true (w .timestamp is u) (eqb (w .value) v) (eq-eqb (w .timestamp .0) (u .0) (z .0)) (eq-eqb (w .value) v (z .1))) l h)
 
@@ -52,21 +52,23 @@ not-mentioned l u n = go (mentions l u) refl
     go false e = refl
     go true e = absurd (n (any-map (λ w. w .timestamp is u ≡ true) (isTs (u .0)) (λ w z. eqb-true (w .timestamp .0) (u .0) z) l (some-any (λ w. w .timestamp is u) l e)))
 
--- the last of a list is told by what bounds it
+-- the last of a list is told by what bounds it: x under top
 is-last : (value : ℕ → ℕ) (L : ℕ → Type 0) (l : List Write) (top x : ℕ) → ((top ≡ 0) × (x ≡ 0)) ⊎ (L top × (value top ≡ x))
-    → ((u : ℕ) → Any (isTs u) l → u ≤ top) → (L top → Any (isTs top) l) → ((u v : ℕ) → Any (isIt u v) l → value u ≡ v) → (Any (isTs 0) l → ⊥) → x ≡ last l .value
+    → ((u : ℕ) → Any (isTs u) l → u ≤ top) → (L top → Any (isTs top) l) → ((u v : ℕ) → Any (isIt u v) l → value u ≡ v) → (Any (isTs 0) l → ⊥)
+    → (top ≡ last l .timestamp .0) × (x ≡ last l .value)
 is-last value L l top x w most here vals noZ = elim (top-is key z l) [
   | inl e ↦ elim w [
-    | inl p ↦ p .1 ∙ sym (ap (λ (y : Write). y .value) e)
+    | inl p ↦ (p .0 ∙ sym (ap key e), p .1 ∙ sym (ap (λ (y : Write). y .value) e))
     | inr p ↦ absurd (noZ (subst (λ u. Any (isTs u) l) (omega (arith, top-all key z l top (here (p .0)), ap key e)) (here (p .0))))
   ]
   | inr e ↦ (
-      let at = any-map (λ y. y ≡ last l) (isTs (last l .timestamp .0)) (λ y q. ap key q) l e in
-      let m = most (last l .timestamp .0) at in
+      let found = any-map (λ y. y ≡ last l) (isIt (last l .timestamp .0) (last l .value)) (λ y q. (ap key q, ap (λ (y : Write). y .value) q)) l e in
+      let there = ofIt (last l .timestamp .0) (last l .value) l found in
+      let m = most (last l .timestamp .0) there in
       elim w [
-        | inl p ↦ absurd (noZ (subst (λ u. Any (isTs u) l) (omega (arith, p .0)) at))
-        | inr p ↦ (let d : last l .timestamp .0 ≡ top = omega (arith, top-all key z l top (here (p .0))) in
-            sym (p .1) ∙ ap value (sym d) ∙ vals (last l .timestamp .0) (last l .value) (any-map (λ y. y ≡ last l) (isIt (last l .timestamp .0) (last l .value)) (λ y q. (ap key q, ap (λ (y : Write). y .value) q)) l e))
+        | inl p ↦ absurd (noZ (subst (λ u. Any (isTs u) l) (omega (arith, p .0)) there))
+        | inr p ↦ (let d : top ≡ last l .timestamp .0 = omega (arith, top-all key z l top (here (p .0))) in
+            (d, sym (p .1) ∙ ap value d ∙ vals (last l .timestamp .0) (last l .value) found))
       ])
 ]
   where
@@ -120,7 +122,7 @@ module _ (k : Creation) (b : ℕ) (lb : isBlock k b ≡ true) where
           p .most w (from-ts w (any-map _ (isTs w) (λ x c. c .1) all y)) (omega (arith, a .2 .1, ltb-true (getD all (a .0) (record { timestamp = never; value = 0 }) .timestamp .0) (u .0) (a .2 .0))))
           (λ q. those-any (λ w. w .timestamp below u) (isTs (p .top)) all (any-map (isTs (p .top)) _ (λ x c. (lt-ltb (x .timestamp .0) (u .0) (omega (arith, p .below)), c)) all (to-ts (p .top) q)))
           (λ w x q. valued w x (any-map _ (isIt w x) (λ y c. c .1) all (any-those (λ w. w .timestamp below u) (isIt w x) all q)))
-          (λ q. no-zero (any-map _ (isTs 0) (λ y c. c .1) all (any-those (λ w. w .timestamp below u) (isTs 0) all q)))
+          (λ q. no-zero (any-map _ (isTs 0) (λ y c. c .1) all (any-those (λ w. w .timestamp below u) (isTs 0) all q))) .1
 
       read-apart : mentions all u ≡ false
       read-apart = not-mentioned all u (λ q. readK≢writeK (sym (r .whole .good .inv .seen (u .0) v (inr (inr z)) .isR) ∙ r .whole .good .inv .glob .listK (u .0) (from-ts (u .0) q)))
@@ -170,20 +172,23 @@ module _ (k : Creation) (b : ℕ) (lb : isBlock k b ≡ true) where
       unfolding fresh
       same-creation = before .1 .creation
 
-      copy-value : (c : ℕ) → isChunk k c ≡ true → c among setOf k b ≡ true → recordOf (step t e .table) c b .value ≡ last (listed b (fresh k) (es ++ e ∷ [])) .value
-      copy-value c lc m =
+      copy-last : (c : ℕ) → isChunk k c ≡ true → c among setOf k b ≡ true → heldBy (recordOf (step t e .table) c b) ≡ last (listed b (fresh k) (es ++ e ∷ []))
+      copy-last c lc m =
           let x = changed t e g in
           let held : In (t .creation) b c = subst⁻¹ (λ (k : Creation). In k b c) same-creation (lc, m) in
           let now : In (step t e .table .creation) b c = subst⁻¹ (λ (k : Creation). In k b c) (stepped .creation) held in
           let o = stepped .next .good .inv .cells c now in
           let p = ap (λ (x : Table). partOf x b c) (x .table) ∙ changed-part b (before .0) t (x .formed) here (before .1 .whole .good) (x .refusals) c held in
-          is-last (stepped .next .hist .value) (λ u. Any (isTs u) (stepped .next .hist .listed)) (listed b (fresh k) (es ++ e ∷ [])) (recordOf (step t e .table) c b .write .0) (recordOf (step t e .table) c b .value) (o .held)
+          let q = is-last (stepped .next .hist .value) (λ u. Any (isTs u) (stepped .next .hist .listed)) (listed b (fresh k) (es ++ e ∷ [])) (recordOf (step t e .table) c b .write .0) (recordOf (step t e .table) c b .value) (o .held)
           (λ u q. elim (o .live (ap (λ (x : Part). x .lost) p) u (from-ts (es ++ e ∷ []) (stepped .next .hist) so-far u q)) [
             | inl z ↦ z
             | inr z ↦ absurd (subst (Any (isW u (z .0) (z .1))) (ap (λ (x : Part). x .queue) p) (z .2))
           ])
           (to-ts (es ++ e ∷ []) (stepped .next .hist) so-far (recordOf (step t e .table) c b .write .0))
-          (valued (es ++ e ∷ []) (stepped .next .hist) so-far) (no-zero (es ++ e ∷ []) (stepped .next .hist) so-far)
+          (valued (es ++ e ∷ []) (stepped .next .hist) so-far) (no-zero (es ++ e ∷ []) (stepped .next .hist) so-far) in
+          let l = last (listed b (fresh k) (es ++ e ∷ [])) in
+          ap {B = Write} (λ (u : ℕ). record { timestamp = record { 0 = u }; value = recordOf (step t e .table) c b .value }) (q .0)
+          ∙ ap {B = Write} (λ (v : ℕ). record { timestamp = l .timestamp; value = v }) (q .1)
 
   -- ---- the five clauses
 
@@ -192,7 +197,7 @@ module _ (k : Creation) (b : ℕ) (lb : isBlock k b ≡ true) where
     reads = λ es e later h v q. read-value (es ++ e ∷ later) (rest es e later .0) (sequence es e later) (timestampAt (after (fresh k) es) h) v (answered es e later h v q);
     apart = λ es e later h v q. read-apart (es ++ e ∷ later) (rest es e later .0) (sequence es e later) (timestampAt (after (fresh k) es) h) v (answered es e later h v q);
     writes = λ es e later h q. any-lists (listed b (fresh k) (es ++ e ∷ later)) (timestampAt (after (fresh k) es) h) (attemptAt (after (fresh k) es) h .value) (written es e later h q);
-    copies = copy-value;
+    copies = copy-last;
     once = λ es u v w p q. let r = run b es noHist (λ _. 0) (fresh k) base-block base in
         sym (valued es (r .0) (r .1) (u .0) v (lists-any (listed b (fresh k) es) u v p)) ∙ valued es (r .0) (r .1) (u .0) w (lists-any (listed b (fresh k) es) u w q);
   }

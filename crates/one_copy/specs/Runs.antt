@@ -3,7 +3,7 @@ use Prim.Native.Nat.{ℕ}
 use mathlib.Core.Bool.{Bool, _&&_}
 use mathlib.Core.List.{List, [], _∷_, _++_}
 use lib.Dec.{eqb}
-use Rattle.one_copy.specs.Types.{Timestamp, Action, Table, Event, Outcome, Answer}
+use Rattle.one_copy.specs.Types.{Timestamp, Record, Action, Table, Event, Outcome, Answer}
 use Rattle.rules.specs.Events.{copiesOf, step}
 use Rattle.rules.specs.Hosts.{front}
 use Rattle.rules.specs.Settlement.{commits, writtenWith}
@@ -25,6 +25,9 @@ pub record Write : Type 0 where
   pub timestamp : Timestamp
   pub value : ℕ
 
+abbrev pub write : Timestamp → ℕ → Write
+write u v = record { timestamp = u; value = v }
+
 -- the value that an operation writes
 abbrev pub written : Action → ℕ
 written Action.Read = 0
@@ -35,7 +38,11 @@ abbrev pub timestampAt : Table → (host : ℕ) → Timestamp
 timestampAt t h = hostOf t h .attempt .timestamp
 
 abbrev pub attemptAt : Table → (host : ℕ) → Write
-attemptAt t h = record { timestamp = timestampAt t h; value = written (front (hostOf t h) .action) }
+attemptAt t h = write (timestampAt t h) (written (front (hostOf t h) .action))
+
+-- the write that a copy holds
+abbrev pub heldBy : Record → Write
+heldBy r = write (r .write) (r .value)
 
 -- "its host .. committed": the attempt whose finish was answered "write done"
 abbrev pub byHost : (block : ℕ) → Table → Outcome → List Write
@@ -53,7 +60,7 @@ isChange e a = eqb (e .kind) 15 && eqb (a .code) 0
 abbrev pub byChange : (block : ℕ) → Table → Event → Answer → List Write
 byChange b t e a =
     let copies = copiesOf t b in
-    if isChange e a then each (λ u. record { timestamp = u; value = writtenWith copies u }) (commits copies) else []
+    if isChange e a then each (λ u. write u (writtenWith copies u)) (commits copies) else []
 
 -- what one event, found at table t and answered with a, adds to the list
 abbrev pub listedAt : (block : ℕ) → Table → Event → Answer → List Write
@@ -66,19 +73,20 @@ listed b t (e ∷ es) = let a = step t e in listedAt b t e a ++ listed b (a .tab
 
 -- ---- reading a list
 
--- the list has a write with the timestamp, and one with the timestamp and the value
+-- the list has a write with the timestamp
 abbrev pub mentions : List Write → Timestamp → Bool
 mentions l u = some (λ w. w .timestamp is u) l
 
-abbrev pub lists : List Write → Timestamp → ℕ → Bool
-lists l u v = some (λ w. w .timestamp is u && eqb (w .value) v) l
+-- the list has the write
+abbrev pub lists : List Write → Write → Bool
+lists l x = some (λ w. w .timestamp is x .timestamp && eqb (w .value) (x .value)) l
 
 -- the write with the greatest timestamp; the value 0 under "never" where there is none
 abbrev pub laterWrite : Write → Write → Write
 laterWrite w x = if x .timestamp above w .timestamp then x else w
 
 abbrev pub last : List Write → Write
-last l = fold laterWrite (record { timestamp = never; value = 0 }) l
+last l = fold laterWrite (write never 0) l
 
 -- "the last listed write before": the value that one plain copy would hold just before the timestamp
 abbrev pub lastBefore : Timestamp → List Write → Write
