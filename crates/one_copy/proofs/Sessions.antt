@@ -1,7 +1,8 @@
--- Two sessions by computation: their answers, and the lists that they leave. The statement says something
-use mathlib.Core.List.{List, [], _∷_}
-use mathlib.Core.Path.{_≡_, refl}
-use Rattle.one_copy.specs.Types.{Outcome}
+-- Sessions by computation: their answers, and the lists that they leave. The statement says something
+use Prim.Native.Nat.{ℕ}
+use mathlib.Core.List.{List, [], _∷_, _++_}
+use mathlib.Core.Path.{_≡_, refl, ap, _∙_}
+use Rattle.one_copy.specs.Types.{Table, Event, Outcome}
 use Rattle.rules.specs.Chunks.{atChunk, arrived, decides, ran}
 use Rattle.rules.specs.Codes.{codeOf}
 use Rattle.rules.specs.Creation.{fresh, isCreation}
@@ -12,29 +13,58 @@ use Rattle.rules.specs.Network.{freePlaces, sent, howMany, sentToEach, replied}
 use Rattle.rules.specs.Settlement.{W, besideW, agreed, committed, writes, commits, latest, writtenWith, settledRecord, settled, allLost}
 use Rattle.rules.specs.Waiting.{holding, insert, inserted, headRemoved, firstWith, mark, marked}
 use Rattle.rules.specs.Words.{those, each, joined, every, some, place, fold, from}
-use Rattle.one_copy.specs.Runs.{listed}
-use Rattle.one_copy.specs.Sessions.{creation, session, fault, answers, granted, refused, told}
+use Rattle.one_copy.specs.Runs.{Write, listedAt, listed}
+use Rattle.one_copy.specs.Sessions.{creation, session, fault, passed, retried, Line, account, granted, refused, told, wrote}
 
--- document 01's session answers as printed there, the read with 77
-pub session-answers : answers (fresh creation) session
-    ≡ granted ∷ granted ∷ granted ∷ granted ∷ granted ∷ granted ∷ granted ∷ granted ∷ granted ∷ told (Outcome.WriteDone 0 0) ∷ granted ∷ granted
-    ∷ granted ∷ granted ∷ refused 2 ∷ granted ∷ granted ∷ granted ∷ granted ∷ told (Outcome.ReadDone 1 0 77) ∷ []
-unfolding answers step answered rows ruleOf readRule writeRule startRule finishRule timeoutRule refreshRule stopRule deliverRule dropRule runRule failRule recoverRule takeLeaseRule giveLeaseRule overdueRule epochRule codeOf fresh isCreation wellFormed atChunk arrived decides ran queueOf appended atHost finishOutcome finished freePlaces sent howMany sentToEach replied W besideW agreed committed writes commits latest writtenWith settledRecord settled allLost holding insert inserted headRemoved firstWith mark marked those each joined every some place fold from
-session-answers = refl
+-- the list of a run is what its events list, one after the other
+account-listed : (b : ℕ) (t : Table) (es : List Event) → listed b t es ≡ joined (each (λ (l : Line). l .listed) (account b t es))
+unfolding listed account joined each
+account-listed b t [] = refl
+account-listed b t (e ∷ es) = ap (λ (l : List Write). listedAt b t e (step t e) ++ l) (account-listed b (step t e .table) es)
 
--- its list: the one write, under clock 5 of host 0
-pub session-list : listed 0 (fresh creation) session ≡ record { timestamp = record { 0 = 40 }; value = 77 } ∷ []
-unfolding listed step answered rows ruleOf readRule writeRule startRule finishRule timeoutRule refreshRule stopRule deliverRule dropRule runRule failRule recoverRule takeLeaseRule giveLeaseRule overdueRule epochRule codeOf fresh isCreation wellFormed atChunk arrived decides ran queueOf appended atHost finishOutcome finished freePlaces sent howMany sentToEach replied W besideW agreed committed writes commits latest writtenWith settledRecord settled allLost holding insert inserted headRemoved firstWith mark marked those each joined every some place fold from
-session-list = refl
+-- document 01's session is answered as printed there: the read gives 77, and a run past the undecided write is refused
+session-account : account 0 (fresh creation) session
+    ≡ granted ∷ granted ∷ granted ∷ granted ∷ granted ∷ granted ∷ granted ∷ granted ∷ granted ∷ told (Outcome.WriteDone 0 0) (wrote 40 77 ∷ []) ∷ granted
+    ∷ granted ∷ granted ∷ granted ∷ refused 2 ∷ granted ∷ granted ∷ granted ∷ granted ∷ told (Outcome.ReadDone 1 0 77) [] ∷ []
+unfolding account step answered rows ruleOf readRule writeRule startRule finishRule timeoutRule refreshRule stopRule deliverRule dropRule runRule failRule recoverRule takeLeaseRule giveLeaseRule overdueRule epochRule codeOf fresh isCreation wellFormed atChunk arrived decides ran queueOf appended atHost finishOutcome finished freePlaces sent howMany sentToEach replied W besideW agreed committed writes commits latest writtenWith settledRecord settled allLost holding insert inserted headRemoved firstWith mark marked those each joined every some place fold from
+session-account = refl
 
--- the fault session: the lease is refused (2), and the read from the chunk that had failed gives 77
-pub fault-answers : answers (fresh creation) fault
-    ≡ granted ∷ granted ∷ granted ∷ granted ∷ granted ∷ granted ∷ granted ∷ granted ∷ granted ∷ granted ∷ told (Outcome.WriteDone 0 0) ∷ granted
-    ∷ refused 2 ∷ granted ∷ granted ∷ granted ∷ granted ∷ granted ∷ granted ∷ granted ∷ granted ∷ granted ∷ told (Outcome.ReadDone 1 0 77) ∷ []
-unfolding answers step answered rows ruleOf readRule writeRule startRule finishRule timeoutRule refreshRule stopRule deliverRule dropRule runRule failRule recoverRule takeLeaseRule giveLeaseRule overdueRule epochRule codeOf fresh isCreation wellFormed atChunk arrived decides ran queueOf appended atHost finishOutcome finished freePlaces sent howMany sentToEach replied W besideW agreed committed writes commits latest writtenWith settledRecord settled allLost holding insert inserted headRemoved firstWith mark marked those each joined every some place fold from
-fault-answers = refl
+pub session-list : listed 0 (fresh creation) session ≡ wrote 40 77 ∷ []
+unfolding joined each
+session-list = account-listed 0 (fresh creation) session ∙ ap (λ (l : List Line). joined (each (λ (x : Line). x .listed) l)) session-account
 
--- its list: the write twice, by its host and by the epoch change, with one value
-pub fault-list : listed 0 (fresh creation) fault ≡ record { timestamp = record { 0 = 40 }; value = 77 } ∷ record { timestamp = record { 0 = 40 }; value = 77 } ∷ []
-unfolding listed step answered rows ruleOf readRule writeRule startRule finishRule timeoutRule refreshRule stopRule deliverRule dropRule runRule failRule recoverRule takeLeaseRule giveLeaseRule overdueRule epochRule codeOf fresh isCreation wellFormed atChunk arrived decides ran queueOf appended atHost finishOutcome finished freePlaces sent howMany sentToEach replied W besideW agreed committed writes commits latest writtenWith settledRecord settled allLost holding insert inserted headRemoved firstWith mark marked those each joined every some place fold from
-fault-list = refl
+-- the fault session: the lease is refused, the write that was answered as done is settled, and the read from the chunk that had failed
+-- gives it
+fault-account : account 0 (fresh creation) fault
+    ≡ granted ∷ granted ∷ granted ∷ granted ∷ granted ∷ granted ∷ granted ∷ granted ∷ granted ∷ granted ∷ told (Outcome.WriteDone 0 0) (wrote 40 77 ∷ [])
+    ∷ granted ∷ refused 2 ∷ granted ∷ granted ∷ told Outcome.None (wrote 40 77 ∷ []) ∷ granted ∷ granted ∷ granted ∷ granted ∷ granted ∷ granted
+    ∷ told (Outcome.ReadDone 1 0 77) [] ∷ []
+unfolding account step answered rows ruleOf readRule writeRule startRule finishRule timeoutRule refreshRule stopRule deliverRule dropRule runRule failRule recoverRule takeLeaseRule giveLeaseRule overdueRule epochRule codeOf fresh isCreation wellFormed atChunk arrived decides ran queueOf appended atHost finishOutcome finished freePlaces sent howMany sentToEach replied W besideW agreed committed writes commits latest writtenWith settledRecord settled allLost holding insert inserted headRemoved firstWith mark marked those each joined every some place fold from
+fault-account = refl
+
+-- its list: the write by its host and by the epoch change
+pub fault-list : listed 0 (fresh creation) fault ≡ wrote 40 77 ∷ wrote 40 77 ∷ []
+unfolding joined each
+fault-list = account-listed 0 (fresh creation) fault ∙ ap (λ (l : List Line). joined (each (λ (x : Line). x .listed) l)) fault-account
+
+-- a write that a read has passed is not settled: both reads give 0
+passed-account : account 0 (fresh creation) passed
+    ≡ granted ∷ granted ∷ granted ∷ granted ∷ granted ∷ granted ∷ granted ∷ granted ∷ granted ∷ granted ∷ granted ∷ granted ∷ told (Outcome.ReadDone 1 0 0) []
+    ∷ granted ∷ granted ∷ granted ∷ granted ∷ granted ∷ granted ∷ granted ∷ granted ∷ granted ∷ told (Outcome.ReadDone 1 0 0) [] ∷ []
+unfolding account step answered rows ruleOf readRule writeRule startRule finishRule timeoutRule refreshRule stopRule deliverRule dropRule runRule failRule recoverRule takeLeaseRule giveLeaseRule overdueRule epochRule codeOf fresh isCreation wellFormed atChunk arrived decides ran queueOf appended atHost finishOutcome finished freePlaces sent howMany sentToEach replied W besideW agreed committed writes commits latest writtenWith settledRecord settled allLost holding insert inserted headRemoved firstWith mark marked those each joined every some place fold from
+passed-account = refl
+
+pub passed-list : listed 0 (fresh creation) passed ≡ []
+unfolding joined each
+passed-list = account-listed 0 (fresh creation) passed ∙ ap (λ (l : List Line). joined (each (λ (x : Line). x .listed) l)) passed-account
+
+-- a retried write is refused its old number and done under a new one
+retried-account : account 0 (fresh creation) retried
+    ≡ granted ∷ granted ∷ granted ∷ granted ∷ granted ∷ granted ∷ granted ∷ refused 3 ∷ granted ∷ granted ∷ granted ∷ granted ∷ granted
+    ∷ told (Outcome.WriteDone 0 0) (wrote 48 77 ∷ []) ∷ []
+unfolding account step answered rows ruleOf readRule writeRule startRule finishRule timeoutRule refreshRule stopRule deliverRule dropRule runRule failRule recoverRule takeLeaseRule giveLeaseRule overdueRule epochRule codeOf fresh isCreation wellFormed atChunk arrived decides ran queueOf appended atHost finishOutcome finished freePlaces sent howMany sentToEach replied W besideW agreed committed writes commits latest writtenWith settledRecord settled allLost holding insert inserted headRemoved firstWith mark marked those each joined every some place fold from
+retried-account = refl
+
+pub retried-list : listed 0 (fresh creation) retried ≡ wrote 48 77 ∷ []
+unfolding joined each
+retried-list = account-listed 0 (fresh creation) retried ∙ ap (λ (l : List Line). joined (each (λ (x : Line). x .listed) l)) retried-account

@@ -1,9 +1,10 @@
--- Two sessions: document 01's, and one with a fault between write and read
+-- Sessions: document 01's, and three in which an error that looks right would show
 use Prim.Native.Nat.{ℕ}
 use mathlib.Core.Bool.{true, false}
 use mathlib.Core.List.{List, [], _∷_}
 use lib.ListN.{replicate}
 use Rattle.one_copy.specs.Types.{Set, Creation, Table, Event, Outcome}
+use Rattle.one_copy.specs.Runs.{Write, write, listedAt}
 use Rattle.rules.specs.Events.{step}
 use Rattle.rules.specs.Zero.{zeroSet}
 
@@ -17,24 +18,33 @@ creation = record { hosts = 2; chunks = 2; blocks = 1; age = 100; sets = onBoth 
 abbrev pub event : (kind a b c : ℕ) → Event
 event kind a b c = record { kind = kind; a = a; b = b; c = c }
 
--- an answer: its code and its outcome
+-- ---- what a run's events are answered and what they list
+
+-- an event's code and outcome, and the writes that it adds to the block's list
 pub record Line : Type 0 where
   pub code : ℕ
   pub outcome : Outcome
+  pub listed : List Write
 
-unfoldable pub answers : Table → List Event → List Line
-answers t [] = []
-answers t (e ∷ es) = let a = step t e in record { code = a .code; outcome = a .outcome } ∷ answers (a .table) es
+unfoldable pub account : (block : ℕ) → Table → List Event → List Line
+account b t [] = []
+account b t (e ∷ es) = let a = step t e in record { code = a .code; outcome = a .outcome; listed = listedAt b t e a } ∷ account b (a .table) es
 
--- an event that was granted with no outcome, and one that was refused
+-- granted, and nothing else
 abbrev pub granted : Line
-granted = record { code = 0; outcome = Outcome.None }
+granted = record { code = 0; outcome = Outcome.None; listed = [] }
 
 abbrev pub refused : (code : ℕ) → Line
-refused k = record { code = k; outcome = Outcome.None }
+refused k = record { code = k; outcome = Outcome.None; listed = [] }
 
-abbrev pub told : Outcome → Line
-told o = record { code = 0; outcome = o }
+-- granted with an outcome, and with writes that are listed
+abbrev pub told : Outcome → List Write → Line
+told o ws = record { code = 0; outcome = o; listed = ws }
+
+abbrev pub wrote : (timestamp v : ℕ) → Write
+wrote u v = write (record { 0 = u }) v
+
+-- ---- the sessions
 
 -- document 01, "One session, whole"
 abbrev pub session : List Event
@@ -50,3 +60,17 @@ fault =
     event 14 0 0 0 ∷ event 14 1 0 0 ∷ event 8 0 0 0 ∷ event 2 0 0 77 ∷ event 3 0 5 0 ∷ event 4 0 0 0 ∷ event 4 1 0 0 ∷ event 4 0 0 0 ∷ event 4 1 0 0
     ∷ event 11 1 0 0 ∷ event 6 0 0 0 ∷ event 12 1 0 0 ∷ event 14 1 0 0 ∷ event 4 0 0 0 ∷ event 4 1 0 0 ∷ event 15 0 0 0 ∷ event 8 1 0 0 ∷ event 1 1 0 0
     ∷ event 3 1 6 1 ∷ event 4 0 0 0 ∷ event 9 1 0 0 ∷ event 4 0 0 0 ∷ event 6 1 0 0 ∷ []
+
+-- a read passes at chunk 1 before the write is prepared there; the chunk fails, and the epoch change must not commit the write, which
+-- chunk 0 holds: the read was answered without it. A second read says the same
+abbrev pub passed : List Event
+passed =
+    event 14 0 0 0 ∷ event 14 1 0 0 ∷ event 8 0 0 0 ∷ event 8 1 0 0 ∷ event 2 0 0 77 ∷ event 3 0 5 0 ∷ event 4 0 0 0 ∷ event 1 1 0 0 ∷ event 3 1 6 1
+    ∷ event 4 2 0 0 ∷ event 9 1 0 0 ∷ event 4 2 0 0 ∷ event 6 1 0 0 ∷ event 11 1 0 0 ∷ event 12 1 0 0 ∷ event 15 0 0 0 ∷ event 8 1 0 0 ∷ event 1 1 0 0
+    ∷ event 3 1 7 0 ∷ event 4 2 0 0 ∷ event 9 0 0 0 ∷ event 4 2 0 0 ∷ event 6 1 0 0 ∷ []
+
+-- a write that timed out goes back and starts again: not with the number drawn before, but with a new one, under which it is done
+abbrev pub retried : List Event
+retried =
+    event 14 0 0 0 ∷ event 14 1 0 0 ∷ event 8 0 0 0 ∷ event 2 0 0 77 ∷ event 3 0 5 0 ∷ event 7 0 0 0 ∷ event 6 0 0 0 ∷ event 3 0 5 0 ∷ event 3 0 6 0
+    ∷ event 4 4 0 0 ∷ event 4 5 0 0 ∷ event 4 4 0 0 ∷ event 4 5 0 0 ∷ event 6 0 0 0 ∷ []
