@@ -1,12 +1,12 @@
 -- What a message does at a chunk and at a host, case by case
-use Prim.Native.Nat.{ℕ, _≤_, _<_}
+use Prim.Native.Nat.{ℕ, _<_}
 use mathlib.Core.Path.{_≡_, refl}
-use mathlib.Core.Bool.{Bool, true, false, cond, not}
+use mathlib.Core.Bool.{Bool, false, not}
 use lib.Dec.{ltb, leb}
 use borrow.Author.Tests.{ltb-true, leb-false, eqb-true, not-false}
-use Rattle.one_copy.specs.Types.{Timestamp, Epoch, Kind, Record, Attempt, Host, Header, Message, Arrived}
+use Rattle.one_copy.specs.Types.{Epoch, Kind, Record, Host, Header, Message, Arrived}
 use Rattle.rules.specs.Chunks.{withWaiting, answering, silent, isOutOfOrder, waits, arrived, decides}
-use Rattle.rules.specs.Hosts.{front, answeredBy, heard, counts, atHost}
+use Rattle.rules.specs.Hosts.{answeredBy, heard, counts, atHost}
 use Rattle.rules.specs.Kinds.{headerOf}
 use Rattle.rules.specs.Limits.{waitingLimit}
 use Rattle.rules.specs.Timestamps.{_same_}

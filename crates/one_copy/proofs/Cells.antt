@@ -1,11 +1,12 @@
 -- Moves of one cell: the globals stay.
 use mathlib.Core.Path.{_≡_, refl, sym, subst, _∙_, ap}
 use mathlib.Core.Logic.{_⊎_, inl, inr}
-use mathlib.Core.Bool.{Bool, true, false, true≢false}
-use Prim.Native.Nat.{ℕ, zero, suc, _+_, _≤_, _<_}
+use mathlib.Core.Bool.{true, false, true≢false}
+use Prim.Native.Nat.{ℕ, _≤_, _<_}
 use native.Mathlib.Omega.{arith}
-use Rattle.one_copy.proofs.Tests.{at, at-all, at-same, at-other, eq-or-ne, le-or-lt, not-both, true-or-false}
-use Rattle.one_copy.proofs.Abs.{Began, Mark, und, cmt, abt, idle, readK, writeK, Cell, Book, Flow, Live, IsLive, Promise, Wrote, Last, Waits, EntryOk, cmt≢abt, idle≢writeK, readK≢writeK, CellOk, GlobOk, Seen, Inv}
+use Rattle.rules.proofs.Lists.{true-or-false}
+use Rattle.one_copy.proofs.Tests.{at, at-all, not-both}
+use Rattle.one_copy.proofs.Abs.{Mark, und, cmt, abt, readK, writeK, Cell, Book, Flow, Live, IsLive, EntryOk, cmt≢abt, idle≢writeK, readK≢writeK, CellOk, GlobOk, Seen, Inv}
 
 module _ (S : ℕ → Type 0) where
   -- one cell moves, its last read does not fall: only that cell is to be looked at

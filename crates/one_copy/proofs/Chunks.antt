@@ -1,6 +1,6 @@
 -- A chunk's part in block b moves
-use Prim.Native.Nat.{ℕ, _≤_, _<_}
-use mathlib.Core.Path.{_≡_, refl, sym, subst, _∙_, ap}
+use Prim.Native.Nat.{ℕ, _≤_}
+use mathlib.Core.Path.{_≡_, refl, sym, subst, _∙_}
 use mathlib.Core.Logic.{_⊎_, inl, inr}
 use mathlib.Core.Bool.{Bool, true, false, false≢true}
 use mathlib.Core.List.{List, [], _∷_}
@@ -10,14 +10,14 @@ use Rattle.rules.specs.Chunks.{entryOf}
 use Rattle.rules.specs.Kinds.{isNormal, headed}
 use Rattle.rules.specs.Waiting.{insert, mark}
 use Rattle.one_copy.proofs.Tests.{at, at-all, at-map}
-use Rattle.one_copy.proofs.Abs.{Mark, und, cmt, abt, CellOk, Inv}
+use Rattle.one_copy.proofs.Abs.{Mark, cmt, abt, CellOk, Inv}
 use Rattle.one_copy.proofs.Flows.{Sub, shrink, accept, acked, queued, pop-read, answered, readAt}
 use Rattle.one_copy.proofs.Cells.{one-cell, requeue, was, mark-cmt, mark-abt, pop-cmt, pop-abt, fail}
 use Rattle.one_copy.proofs.Refine.{Same, recell-at}
 use Rattle.one_copy.proofs.Lists.{Any}
 use Rattle.one_copy.proofs.Net.{Sent, ofRead, ofPre, ofCommit, ofAbort, ofValue, ofAck}
-use Rattle.one_copy.proofs.View.{Hist, Part, Seat, asWrite, asRead, isW, isR, cellOf, book, flow, NetLe, CInv}
-use Rattle.one_copy.proofs.Queue.{insert-to, insert-from, Marked, markOf, mark-cases}
+use Rattle.one_copy.proofs.View.{Hist, Part, Seat, isW, isR, cellOf, book, flow, NetLe, CInv}
+use Rattle.one_copy.proofs.Queue.{insert-to, insert-from, markOf, mark-cases}
 
 -- another queue, the rest as it was
 abbrev pub withQueue : Part → List Entry → Part

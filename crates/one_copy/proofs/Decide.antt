@@ -1,11 +1,10 @@
 -- Moves of the history: a start, a host's commit, a host's abort.
-use mathlib.Core.Path.{_≡_, refl, sym, subst, _∙_, ap}
+use mathlib.Core.Path.{_≡_, sym, _∙_, ap}
 use mathlib.Core.Logic.{_⊎_, inl, inr}
-use mathlib.Core.Bool.{Bool, true, false, true≢false}
-use Prim.Native.Nat.{ℕ, zero, suc, _+_, _≤_, _<_}
+use Prim.Native.Nat.{ℕ, _≤_}
 use native.Mathlib.Omega.{arith}
-use Rattle.one_copy.proofs.Tests.{at, at-all, at-same, at-other, eq-or-ne, le-or-lt, not-both, true-or-false}
-use Rattle.one_copy.proofs.Abs.{Began, Mark, und, cmt, abt, idle, readK, writeK, Cell, Book, Flow, Live, IsLive, Promise, Wrote, Last, Waits, EntryOk, Pre, cmt≢abt, und≢cmt, und≢abt, readK≢writeK, idle≢readK, idle≢writeK, CellOk, GlobOk, Seen, Inv}
+use Rattle.one_copy.proofs.Tests.{at, at-same, at-other, eq-or-ne, le-or-lt, not-both}
+use Rattle.one_copy.proofs.Abs.{Began, abt, idle, readK, writeK, Cell, Book, Flow, Promise, Wrote, readK≢writeK, idle≢readK, idle≢writeK, CellOk, GlobOk, Seen, Inv}
 use Rattle.one_copy.proofs.Flows.{reflow}
 
 abbrev pub listed : Book → ℕ → Book

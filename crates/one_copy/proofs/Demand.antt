@@ -1,14 +1,14 @@
 -- The mirrors answer as one plain copy: demand 3 proved
-use Prim.Native.Nat.{ℕ, _≤_, _<_}
+use Prim.Native.Nat.{ℕ, _≤_}
 use mathlib.Core.Path.{_≡_, refl, sym, subst, subst⁻¹, _∙_, ap}
 use mathlib.Core.Logic.{_⊎_, inl, inr}
-use mathlib.Core.Bool.{Bool, true, false, _&&_, true≢false}
+use mathlib.Core.Bool.{Bool, true, false, _&&_}
 use mathlib.Core.List.{List, [], _∷_, _++_}
 use native.Mathlib.Omega.{arith}
-use lib.Dec.{eqb, ltb}
+use lib.Dec.{eqb}
 use lib.ListN.{getD}
 use borrow.Author.Tests.{ltb-true, lt-ltb, eqb-true, eq-eqb}
-use Rattle.one_copy.specs.Types.{Timestamp, Creation, Table, Event, Outcome, Answer}
+use Rattle.one_copy.specs.Types.{Timestamp, Creation, Table, Event, Outcome}
 use Rattle.one_copy.specs.Runs.{Write, write, after, byHost, byChange, isChange, listedAt, listed, mentions, lists, last, lastBefore, timestampAt, attemptAt, heldBy}
 use Rattle.one_copy.specs.OneCopy.{OneCopy}
 use Rattle.rules.specs.Creation.{isCreation, fresh}

@@ -2,14 +2,12 @@
 use Prim.Native.Nat.{ℕ, _≤_, _<_}
 use mathlib.Core.Path.{_≡_, refl, sym, subst, subst⁻¹, _∙_, ap}
 use mathlib.Core.Logic.{_⊎_, inl, inr}
-use mathlib.Core.Bool.{Bool, true, false, cond, not, _&&_, true≢false, false≢true}
-use mathlib.Core.List.{List, [], _∷_}
+use mathlib.Core.Bool.{Bool, true, false, cond, not, _&&_, false≢true}
+use mathlib.Core.List.{List}
 use native.Mathlib.Omega.{arith}
-use lib.Dec.{eqb, ltb}
 use lib.ListN.{length, getD}
-use borrow.Author.Tests.{ltb-true, lt-ltb, eqb-true, eq-eqb, not-true, not-false}
-use Rattle.one_copy.specs.Types.{Timestamp, Kind, Entry, Record, Table, Copy}
-use Rattle.one_copy.specs.Runs.{Write}
+use borrow.Author.Tests.{ltb-true, lt-ltb, eqb-true, eq-eqb, not-true}
+use Rattle.one_copy.specs.Types.{Timestamp, Kind, Entry, Table, Copy}
 use Rattle.rules.specs.Chunks.{emptied}
 use Rattle.rules.specs.Events.{copyOf, copiesOf}
 use Rattle.rules.specs.Kinds.{isWrite, isAborted, valueOf}
@@ -18,14 +16,14 @@ use Rattle.rules.specs.Settlement.{inSet, isLost, notLost, lastRead, lastWrite,
 use Rattle.rules.specs.Tables.{isBlock, setOf, chunkOf, recordOf}
 use Rattle.rules.specs.Timestamps.{never, _is_, _above_, greatest}
 use Rattle.rules.specs.Waiting.{inOrder}
-use Rattle.rules.specs.Words.{those, each, joined, every, some, none, place, first, numbers}
+use Rattle.rules.specs.Words.{those, each, every, some, none, place, first, numbers}
 use Rattle.rules.specs.Zero.{_among_, zeroEntry, noCopy}
 use Rattle.rules.proofs.Formed.{Formed, of-store, set-of-store}
-use Rattle.rules.proofs.Lists.{both, three, and-true, true-or-false, each-length, numbers-length, each-number, each-each-number}
+use Rattle.rules.proofs.Lists.{both, three, and-true, each-length, numbers-length, each-number, each-each-number}
 use Rattle.one_copy.proofs.Tests.{not-both}
 use Rattle.one_copy.proofs.Abs.{Mark, und, cmt, abt, Cell}
 use Rattle.one_copy.proofs.Settle.{Chosen, Settling}
-use Rattle.one_copy.proofs.Lists.{Any, any-map, any-at, any-getD, any-those, those-any, some-any, any-some, any-each, each-any, any-out, any-joined, joined-any, any-numbers, numbers-any}
+use Rattle.one_copy.proofs.Lists.{Any, any-map, any-at, any-getD, any-those, those-any, some-any, any-some, any-each, each-any, any-out, joined-any, any-numbers, numbers-any}
 use Rattle.one_copy.proofs.Folds.{top-all, top-is, place-at, those-at, those-of, those-not}
 use Rattle.one_copy.proofs.View.{partOf, isW, asWrite, cellOf}
 use Rattle.one_copy.proofs.Good.{In, inside, holder}

@@ -1,19 +1,19 @@
 -- The events of a chunk keep a table good
 use Prim.Native.Nat.{ℕ, _≤_, _<_}
-use mathlib.Core.Path.{_≡_, refl, sym, subst⁻¹, _∙_, ap, fun-ext}
+use mathlib.Core.Path.{_≡_, refl, subst⁻¹, _∙_, ap, fun-ext}
 use mathlib.Core.Logic.{_⊎_, inl, inr}
-use mathlib.Core.Bool.{Bool, true, false, cond, not, false≢true, true≢false}
+use mathlib.Core.Bool.{Bool, true, false, cond, false≢true, true≢false}
 use mathlib.Core.List.{List, [], _∷_}
 use native.Mathlib.Omega.{arith}
 use lib.Dec.{eqb, ltb}
 use lib.ListN.{length, getD, drop, length-take}
-use borrow.Author.Tests.{ltb-true, ltb-false, eqb-false, not-false}
-use Rattle.one_copy.specs.Types.{Timestamp, Kind, Entry, Waiting, Record, State, Chunk, Header, Message, Slot, Place, Table, Arrived, Outcome}
-use Rattle.rules.specs.Chunks.{withWaiting, emptied, runRefusals, runs, ran, failed, leaseGiven, leaseTaken, recovered, overdue, giveLeaseRefusals, answering}
+use borrow.Author.Tests.{ltb-true, ltb-false, not-false}
+use Rattle.one_copy.specs.Types.{Timestamp, Kind, Entry, Waiting, Record, Chunk, Header, Message, Slot, Place, Table, Arrived, Outcome}
+use Rattle.rules.specs.Chunks.{withWaiting, emptied, runRefusals, runs, ran, failed, leaseGiven, leaseTaken, recovered, overdue, giveLeaseRefusals}
 use Rattle.rules.specs.Codes.{codeOf}
-use Rattle.rules.specs.Kinds.{isUndecided, isNormal, headed, headerOf}
-use Rattle.rules.specs.Limits.{chunkLimit, blockLimit, waitingLimit}
-use Rattle.rules.specs.Network.{sent, replied, freePlaces}
+use Rattle.rules.specs.Kinds.{isUndecided, isNormal, headed}
+use Rattle.rules.specs.Limits.{chunkLimit, blockLimit}
+use Rattle.rules.specs.Network.{sent, replied}
 use Rattle.rules.specs.Tables.{isChunk, isBlock, chunkOf, recordOf, recordsBy, withPlaces, withChunk, withRecord, withRecords}
 use Rattle.rules.specs.Timestamps.{_below_, later}
 use Rattle.rules.specs.Waiting.{inOrder, head, headRemoved}
@@ -24,12 +24,11 @@ use Rattle.rules.proofs.Lists.{walk}
 use Rattle.rules.proofs.Refusals.{granted-exactly}
 use Rattle.rules.proofs.Relies.{run-head}
 use Rattle.one_copy.proofs.Tests.{at, at-pair, eq-or-ne}
-use Rattle.one_copy.proofs.Abs.{abt}
 use Rattle.one_copy.proofs.Lists.{Any, getD-set}
 use Rattle.one_copy.proofs.Net.{Sent, sent-one}
 use Rattle.one_copy.proofs.Queue.{removed-order, least}
 use Rattle.one_copy.proofs.View.{Hist, Part, partWith, partOf, seatsOf, NetLe, Foreign, net-less, net-foreign, far-message, plain-order, CInv}
-use Rattle.one_copy.proofs.Chunks.{withQueue, wrote, wasRead, fallen, inMode, net-only, mode-only, falls, runs-cmt, runs-off, runs-read}
+use Rattle.one_copy.proofs.Chunks.{withQueue, wrote, wasRead, net-only, mode-only, falls, runs-cmt, runs-off, runs-read}
 use Rattle.one_copy.proofs.Shapes.{Shape, shape-chunk}
 use Rattle.one_copy.proofs.Good.{In, Good, good-chunk, good-record, good-records, good-far, emptied-at, Next, quietly}
 use Rattle.one_copy.proofs.EvHost.{net-same}

@@ -1,12 +1,12 @@
 -- An epoch change keeps a table good, and lists what it commits
-use Prim.Native.Nat.{ℕ, suc, _+_, _*_, _≤_, _<_}
+use Prim.Native.Nat.{ℕ, suc, _+_, _<_}
 use mathlib.Core.Path.{_≡_, refl, sym, subst, subst⁻¹, _∙_, ap}
 use mathlib.Core.Logic.{_⊎_, inl, inr}
 use mathlib.Core.Bool.{Bool, true, false, cond}
-use mathlib.Core.List.{List, [], _∷_, _++_}
+use mathlib.Core.List.{List, [], _++_}
 use native.Mathlib.Omega.{arith}
 use lib.ListN.{length, getD, List·getD-eq-default}
-use Rattle.one_copy.specs.Types.{Timestamp, Entry, Record, State, Chunk, Table, Outcome}
+use Rattle.one_copy.specs.Types.{Timestamp, Record, State, Chunk, Table, Outcome}
 use Rattle.one_copy.specs.Runs.{Write}
 use Rattle.rules.specs.Chunks.{emptied}
 use Rattle.rules.specs.Codes.{codeOf}
@@ -23,13 +23,13 @@ use Rattle.rules.proofs.Formed.{Formed}
 use Rattle.rules.proofs.Lists.{each-number, each-length, numbers-length, grid-at}
 use Rattle.rules.proofs.Relies.{epoch-holder}
 use Rattle.one_copy.proofs.Tests.{le-or-lt}
-use Rattle.one_copy.proofs.Abs.{Mark, Cell, Inv}
+use Rattle.one_copy.proofs.Abs.{Cell}
 use Rattle.one_copy.proofs.Settle.{Chosen, Settling, settle, settledBook, settledCell}
 use Rattle.one_copy.proofs.Refine.{Same, recell, relist}
 use Rattle.one_copy.proofs.Lists.{Any, any-map, any-at, any-append, any-left, any-right, any-each, each-any}
-use Rattle.one_copy.proofs.View.{Hist, Part, partWith, partOf, seatsOf, isIt, isTs, isR, cellOf, book, flow, CInv}
+use Rattle.one_copy.proofs.View.{Hist, Part, partOf, seatsOf, isIt, isTs, isR, cellOf, book, flow, CInv}
 use Rattle.one_copy.proofs.Hosts.{lists}
-use Rattle.one_copy.proofs.Shapes.{Shape, records-beyond, shape-records, shape-epoch}
+use Rattle.one_copy.proofs.Shapes.{records-beyond, shape-records, shape-epoch}
 use Rattle.one_copy.proofs.Good.{In, Good, inside, small, Next, none-done}
 use Rattle.one_copy.proofs.Epoch.{settled-at, commits-in, commits-has, written, settling}
 use Rattle.one_copy.proofs.Homes.{atTs, Less}

@@ -1,37 +1,37 @@
 -- No event but a start mentions a new timestamp of a block
-use Prim.Native.Nat.{ℕ, _+_, _*_, _≤_, _<_}
-use mathlib.Core.Path.{_≡_, refl, sym, subst, subst⁻¹, _∙_, ap}
-use mathlib.Core.Logic.{_⊎_, inl, inr}
-use mathlib.Core.Bool.{Bool, true, false, cond, not}
+use Prim.Native.Nat.{ℕ, _<_}
+use mathlib.Core.Path.{_≡_, refl, sym, subst, _∙_, ap}
+use mathlib.Core.Logic.{inl, inr}
+use mathlib.Core.Bool.{Bool, true, false, cond}
 use mathlib.Core.List.{List, [], _∷_}
 use native.Mathlib.Omega.{arith}
-use lib.Dec.{eqb, ltb}
+use lib.Dec.{eqb}
 use lib.ListN.{length, getD, take, drop}
 use borrow.Author.Tests.{ltb-true, leb-false, not-false}
-use Rattle.one_copy.specs.Types.{Timestamp, Epoch, Set, Kind, Entry, Waiting, Record, Chunk, Action, Operation, Queue, Host, Header, Message, Slot, Place, Table, Arrived}
-use Rattle.rules.specs.Chunks.{withWaiting, emptied, failed, answering, silent, entryOf, waits, arrived, decides, atChunk, runRefusals, runs, ran}
+use Rattle.one_copy.specs.Types.{Timestamp, Epoch, Set, Kind, Entry, Waiting, Record, Action, Operation, Queue, Host, Header, Message, Slot, Place, Table, Arrived}
+use Rattle.rules.specs.Chunks.{withWaiting, emptied, failed, answering, silent, entryOf, waits, arrived, decides, atChunk, runs, ran}
 use Rattle.rules.specs.Codes.{codeOf}
-use Rattle.rules.specs.Events.{holdersOf, chunkTakes, hostTakes, takes, epochChanged}
+use Rattle.rules.specs.Events.{holdersOf, hostTakes, takes}
 use Rattle.rules.specs.Hosts.{front, operationsOf, queueOf, hasCurrent, appended, startRefusals, openingTo, opening, started, finishRefusals, closingTo, closing, goesBack, atHost, finished, ended, withQueue, timedOut, refreshed, stopped}
 use Rattle.rules.specs.Kinds.{isWrite, isNormal, headerOf, headed, isForChunk}
 use Rattle.rules.specs.Limits.{hostLimit, chunkLimit, blockLimit, operationLimit, placeLimit, waitingLimit}
-use Rattle.rules.specs.Network.{removed, sent, sentToEach, replied}
-use Rattle.rules.specs.Tables.{isHost, isChunk, isBlock, hostOf, chunkOf, recordOf, recordsBy, slotOf, withPlaces, withHost, withChunk, withRecord, withRecords}
+use Rattle.rules.specs.Network.{removed, sentToEach, replied}
+use Rattle.rules.specs.Tables.{isHost, hostOf, chunkOf, recordOf, recordsBy, slotOf, withPlaces, withHost, withChunk, withRecord, withRecords}
 use Rattle.rules.specs.Timestamps.{stamp, _below_}
 use Rattle.rules.specs.Waiting.{inOrder, head, insert, inserted, headRemoved, mark, marked}
-use Rattle.rules.specs.Words.{each, every}
+use Rattle.rules.specs.Words.{every}
 use Rattle.rules.specs.Zero.{zeroEntry, zeroOperation, noRecord}
-use Rattle.rules.proofs.Formed.{Formed, FormedWaiting, FormedMessage, host-place, chunk-place, block-place, waiting-of, message-facts}
+use Rattle.rules.proofs.Formed.{Formed, FormedWaiting, FormedMessage, host-place, chunk-place, waiting-of, message-facts}
 use Rattle.rules.proofs.Lists.{walk, grid-at}
 use Rattle.rules.proofs.Order.{mark-timestamps}
 use Rattle.rules.proofs.Refusals.{granted-exactly}
 use Rattle.one_copy.proofs.Tests.{at, le-or-lt}
 use Rattle.one_copy.proofs.Lists.{Any, any-each, each-any}
-use Rattle.one_copy.proofs.Net.{ofBoth, Sent, sent-each, sent-taken, sent-at}
+use Rattle.one_copy.proofs.Net.{ofBoth, sent-each, sent-taken, sent-at}
 use Rattle.one_copy.proofs.Queue.{insert-to, inserted-order, marked-order, removed-order}
 use Rattle.one_copy.proofs.Shapes.{Shape, holding-length, queue-length, shape-host, shape-places, shape-chunk, shape-records, records-beyond, front-kept, at-front}
-use Rattle.one_copy.proofs.Arrivals.{Passed, arrived-walk, decides-walk, Hears, at-host-keeps}
-use Rattle.one_copy.proofs.Homes.{atTs, HostAt, Mention, Less, NetOk, same-net, less-places, less-host, less-chunk, less-record, one-ok, each-ok, kept, rested, Homes, begins-home}
+use Rattle.one_copy.proofs.Arrivals.{arrived-walk, decides-walk, Hears, at-host-keeps}
+use Rattle.one_copy.proofs.Homes.{atTs, Mention, Less, NetOk, same-net, less-places, less-host, less-record, one-ok, each-ok, kept, rested, Homes, begins-home}
 
 -- ---- the waiting list
 

@@ -2,32 +2,31 @@
 use Prim.Native.Nat.{ℕ, _≤_, _<_}
 use mathlib.Core.Path.{_≡_, refl, sym, subst, subst⁻¹, _∙_, ap}
 use mathlib.Core.Logic.{_⊎_, inl, inr}
-use mathlib.Core.Bool.{Bool, true, false, cond, not, _&&_, false≢true}
-use mathlib.Core.List.{List, [], _∷_, _++_}
+use mathlib.Core.Bool.{Bool, true, false, cond, not, _&&_}
+use mathlib.Core.List.{List, [], _∷_}
 use native.Mathlib.Omega.{arith}
-use lib.Dec.{eqb, ltb, leb}
-use lib.ListN.{length, getD, take, drop, length-append, length-take}
-use borrow.Author.Tests.{ltb-true, lt-ltb, leb-false, eqb-true, eqb-false, eq-eqb, ne-eqb, not-true, not-false}
-use Rattle.one_copy.specs.Types.{Timestamp, Epoch, Set, Action, Operation, Attempt, Host, Message, Place, Table, Outcome}
+use lib.Dec.{eqb}
+use lib.ListN.{drop}
+use borrow.Author.Tests.{ltb-true, leb-false, eqb-true, eq-eqb, ne-eqb, not-false}
+use Rattle.one_copy.specs.Types.{Set, Action, Operation, Host, Message, Place, Table, Outcome}
 use Rattle.one_copy.specs.Runs.{Write, written, timestampAt, attemptAt, byHost}
 use Rattle.rules.specs.Codes.{codeOf}
 use Rattle.rules.specs.Events.{holdersOf}
-use Rattle.rules.specs.Hosts.{operationsOf, queueOf, front, hasCurrent, isOutstanding, appended, startRefusals, only, openingTo, opening, started, finishRefusals, closingTo, closing, doneAs, failedAs, goesBack, finishOutcome, ended, finished, timedOut, refreshed, stopped, withQueue}
+use Rattle.rules.specs.Hosts.{operationsOf, queueOf, front, hasCurrent, appended, startRefusals, only, openingTo, opening, started, finishRefusals, closingTo, closing, doneAs, failedAs, goesBack, finishOutcome, ended, finished, timedOut, refreshed, stopped, withQueue}
 use Rattle.rules.specs.Kinds.{isReading, headerOf, headed}
 use Rattle.rules.specs.Limits.{hostLimit, chunkLimit, operationLimit}
-use Rattle.rules.specs.Network.{freePlaces, howMany, sentToEach}
+use Rattle.rules.specs.Network.{sentToEach}
 use Rattle.rules.specs.Tables.{isHost, isChunk, isBlock, setOf, hostOf, withHost, withPlaces}
-use Rattle.rules.specs.Timestamps.{stamp, never, _above_}
-use Rattle.rules.specs.Words.{those, each, every, fold, from, numbers}
-use Rattle.rules.specs.Zero.{_among_, isEmpty, zeroSet, zeroOperation}
-use Rattle.rules.proofs.Formed.{Formed, host-place, host-of, host-facts, queue-of, attempt-facts}
-use Rattle.rules.proofs.Lists.{each-number, filled-take, take-short, walk}
+use Rattle.rules.specs.Timestamps.{stamp}
+use Rattle.rules.specs.Words.{those, each, every, fold, from}
+use Rattle.rules.specs.Zero.{_among_, isEmpty, zeroSet}
+use Rattle.rules.proofs.Formed.{Formed, host-place}
+use Rattle.rules.proofs.Lists.{each-number}
 use Rattle.rules.proofs.Refusals.{granted-exactly}
 use Rattle.one_copy.proofs.Tests.{at, eq-or-ne, not-both}
 use Rattle.one_copy.proofs.Abs.{readK, writeK}
-use Rattle.one_copy.proofs.Lists.{Any}
-use Rattle.one_copy.proofs.Net.{Sent, sent-each}
-use Rattle.one_copy.proofs.View.{Hist, partOf, Seat, seatOf, seatsOf, isIt, HasW, HasR, NetLe, net-less, net-foreign, far-message, CInv, Quiet, quiet}
+use Rattle.one_copy.proofs.Net.{sent-each}
+use Rattle.one_copy.proofs.View.{Hist, partOf, Seat, seatOf, seatsOf, HasW, NetLe, net-less, net-foreign, far-message, CInv, Quiet, quiet}
 use Rattle.one_copy.proofs.Hosts.{begins, lists, answers, start-other, begin-write, begin-read, end-commit, end-abort, end-other, end-read}
 use Rattle.one_copy.proofs.Shapes.{Shape, front-kept, at-front}
 use Rattle.one_copy.proofs.Good.{In, Good, inside, holder, good-host, Next, none-done, quietly}
@@ -152,8 +151,11 @@ module _ (b : ℕ) (h : Hist) (t : Table) (f : Formed t) (s : Shape t) (lb : isB
           (begin-write S (inside t f b lb) b h (t .epoch .0) (seatsOf t) (partOf t b) (t .places) i j clock small lt y refl refl (i .known j) n (x .epoch)
           (λ P z. elim (sent-each P m (holdersOf t x) (t .places) z) [
             | inl q ↦ inl q
-            | inr q ↦ inr (q .0, subst (λ d. P (Message.Prewrite (headed j (q .0) d (stamp clock j)) (x .epoch) (y .value))) eb
-                (subst (λ u. P (Message.Prewrite (headed j (q .0) (front x .block) (stamp clock j)) (x .epoch) u)) (sym (ap written ea)) (q .3)))
+            | inr q ↦ inr (
+              q .0,
+              subst (λ d. P (Message.Prewrite (headed j (q .0) d (stamp clock j)) (x .epoch) (y .value))) eb
+                  (subst (λ u. P (Message.Prewrite (headed j (q .0) (front x .block) (stamp clock j)) (x .epoch) u)) (sym (ap written ea)) (q .3)),
+            )
           ])
           (i .known j) (rw ea refl) eb (λ c z. rw eb (z .1)) (holder t f b lb .0) (holder t f b lb .1));
       listed = refl;

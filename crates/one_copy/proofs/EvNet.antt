@@ -1,37 +1,34 @@
 -- Delivery keeps a table good
-use Prim.Native.Nat.{ℕ, _≤_, _<_}
+use Prim.Native.Nat.{ℕ, _<_}
 use mathlib.Core.Path.{_≡_, refl, sym, subst, subst⁻¹, _∙_, ap}
 use mathlib.Core.Logic.{_⊎_, inl, inr}
-use mathlib.Core.Bool.{Bool, true, false, cond, not, _&&_, _||_, true≢false, false≢true}
-use mathlib.Core.List.{List, [], _∷_}
+use mathlib.Core.Bool.{Bool, true, false, not, _||_, true≢false}
+use mathlib.Core.List.{List, []}
 use native.Mathlib.Omega.{arith}
-use lib.Dec.{eqb, ltb}
 use lib.ListN.{getD, take}
 use lib.Seq.{getD-set-other}
-use borrow.Author.Tests.{ltb-true, ltb-false, eqb-true, not-true}
-use Rattle.one_copy.specs.Types.{Timestamp, Epoch, Kind, Entry, Record, Action, Operation, Queue, Attempt, Host, Header, Message, Slot, Place, Table, Arrived, Outcome}
-use Rattle.one_copy.specs.Runs.{written}
-use Rattle.rules.specs.Chunks.{withWaiting, answering, silent, isOutOfOrder, entryOf, waits, arrived, decides, atChunk}
-use Rattle.rules.specs.Events.{chunkTakes, hostTakes, takes}
-use Rattle.rules.specs.Hosts.{front, suits, counts, answeredBy, heard, atHost}
+use borrow.Author.Tests.{ltb-true, ltb-false, eqb-true}
+use Rattle.one_copy.specs.Types.{Timestamp, Epoch, Kind, Entry, Queue, Host, Header, Message, Slot, Place, Table, Arrived, Outcome}
+use Rattle.rules.specs.Chunks.{withWaiting, silent, isOutOfOrder, entryOf, waits, arrived, decides, atChunk}
+use Rattle.rules.specs.Events.{hostTakes, takes}
+use Rattle.rules.specs.Hosts.{front, counts, answeredBy, heard, atHost}
 use Rattle.rules.specs.Kinds.{isNormal, isReading, headerOf, isForChunk}
-use Rattle.rules.specs.Limits.{hostLimit, chunkLimit, blockLimit, placeLimit, waitingLimit}
+use Rattle.rules.specs.Limits.{chunkLimit, blockLimit, placeLimit, waitingLimit}
 use Rattle.rules.specs.Network.{removed, sent, replied}
-use Rattle.rules.specs.Tables.{isBlock, hostOf, chunkOf, recordOf, slotOf, withPlaces, withHost, withRecord}
+use Rattle.rules.specs.Tables.{isBlock, hostOf, chunkOf, recordOf, slotOf, withPlaces, withRecord}
 use Rattle.rules.specs.Timestamps.{_is_, _below_}
-use Rattle.rules.specs.Waiting.{inOrder, insert, inserted, mark, marked}
+use Rattle.rules.specs.Waiting.{inserted, marked}
 use Rattle.rules.specs.Zero.{_among_, zeroOperation}
-use Rattle.rules.proofs.Formed.{Formed, FormedMessage, FormedChunk, host-place, chunk-place, block-place, chunk-of, chunk-facts, waiting-of, message-facts}
-use Rattle.rules.proofs.Lists.{both, three, walk}
+use Rattle.rules.proofs.Formed.{Formed, FormedMessage, host-place, chunk-place, block-place, chunk-of, chunk-facts, waiting-of, message-facts}
+use Rattle.rules.proofs.Lists.{three, walk}
 use Rattle.one_copy.proofs.Tests.{at, at-id, eq-or-ne, not-both}
 use Rattle.one_copy.proofs.Abs.{cmt, abt}
-use Rattle.one_copy.proofs.Lists.{Any}
 use Rattle.one_copy.proofs.Net.{ofRead, ofPre, ofCommit, ofAbort, ofValue, ofAck, ofBoth, Sent, sent-one, sent-taken, sent-at}
 use Rattle.one_copy.proofs.Queue.{markOf, inserted-order, marked-order}
-use Rattle.one_copy.proofs.View.{Hist, Part, partWith, partOf, Seat, seatOf, seatsOf, HasW, HasR, NetLe, Foreign, net-less, far-message, plain-order, plain-mismatch, plain-error, plain-busy, CInv, Quiet, quiet}
+use Rattle.one_copy.proofs.View.{Hist, Part, partOf, seatOf, seatsOf, NetLe, net-less, far-message, plain-order, plain-mismatch, plain-error, plain-busy, CInv, Quiet, quiet}
 use Rattle.one_copy.proofs.Chunks.{withQueue, net-only, takes-read, takes-write, marks}
 use Rattle.one_copy.proofs.Shapes.{Shape}
-use Rattle.one_copy.proofs.Homes.{HostAt, Homes}
+use Rattle.one_copy.proofs.Homes.{Homes}
 use Rattle.one_copy.proofs.Arrivals.{Passed, arrived-walk, decides-walk, heard-keeps}
 use Rattle.one_copy.proofs.Good.{In, Good, good-host, good-record, good-far, Next, quietly}
 use Rattle.one_copy.proofs.EvHost.{front-same, same-host, sour-host}

@@ -1,12 +1,12 @@
 -- Moves that change what hosts and the network hold.
-use mathlib.Core.Path.{_≡_, refl, sym, subst, _∙_, ap}
+use mathlib.Core.Path.{_≡_, refl, sym, _∙_, ap}
 use mathlib.Core.Logic.{_⊎_, inl, inr}
-use mathlib.Core.Bool.{Bool, true, false, true≢false}
-use Prim.Native.Nat.{ℕ, zero, suc, _+_, _≤_, _<_}
+use mathlib.Core.Bool.{false}
+use Prim.Native.Nat.{ℕ, _≤_, _<_}
 use native.Mathlib.Omega.{arith}
-use Rattle.one_copy.proofs.Tests.{at, at-all, at-same, at-other, eq-or-ne, le-or-lt, not-both, true-or-false}
-use Rattle.one_copy.proofs.Abs.{Began, Mark, und, cmt, abt, idle, readK, writeK, Cell, Book, Flow, Live, IsLive, Promise, Wrote, Last, Waits, EntryOk, Pre, cmt≢abt, und≢cmt, und≢abt, readK≢writeK, idle≢readK, idle≢writeK, CellOk, GlobOk, Seen, Inv}
-use Rattle.one_copy.proofs.Cells.{one-cell, requeue, was, not-read}
+use Rattle.one_copy.proofs.Tests.{at, at-all, at-same, not-both}
+use Rattle.one_copy.proofs.Abs.{Mark, und, readK, writeK, Cell, Book, Flow, Promise, Last, EntryOk, Pre, und≢cmt, und≢abt, readK≢writeK, idle≢readK, CellOk, GlobOk, Inv}
+use Rattle.one_copy.proofs.Cells.{requeue, was, not-read}
 
 pub record Sub (F′ F : Flow) : Type 0 where
   pub cur : (t : ℕ) → F′ .cur t → F .cur t

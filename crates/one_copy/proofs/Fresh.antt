@@ -1,12 +1,12 @@
 -- The fresh store is good
-use Prim.Native.Nat.{ℕ, zero, suc, _+_, _*_, _≤_, _<_}
-use mathlib.Core.Path.{_≡_, refl, subst, subst⁻¹, ap}
-use mathlib.Core.Logic.{_⊎_, inl, inr}
+use Prim.Native.Nat.{ℕ, zero, suc, _+_, _*_, _≤_}
+use mathlib.Core.Path.{_≡_, refl, subst, subst⁻¹}
+use mathlib.Core.Logic.{inl, inr}
 use mathlib.Core.Bool.{Bool, true, false, cond}
-use mathlib.Core.List.{List, [], _∷_}
+use mathlib.Core.List.{[]}
 use native.Mathlib.Omega.{arith}
 use lib.ListN.{getD, replicate, List·getD-eq-default}
-use Rattle.one_copy.specs.Types.{Creation, Entry, Record, Chunk, Host, Message, Place, Table}
+use Rattle.one_copy.specs.Types.{Creation, Entry, Record, Chunk, Host, Message}
 use Rattle.rules.specs.Creation.{freshHost, freshChunk, fresh}
 use Rattle.rules.specs.Limits.{hostLimit, chunkLimit, blockLimit, placeLimit}
 use Rattle.rules.specs.Tables.{isHost, isChunk, hostOf, chunkOf, recordOf}
@@ -18,7 +18,7 @@ use Rattle.one_copy.proofs.Tests.{le-or-lt}
 use Rattle.one_copy.proofs.Abs.{idle, idle≢writeK}
 use Rattle.one_copy.proofs.Lists.{Any}
 use Rattle.one_copy.proofs.Net.{Sent, ofRead, ofPre, ofCommit, ofAbort, ofValue, ofAck, ofBoth}
-use Rattle.one_copy.proofs.View.{Hist, seatOf, seatsOf, HasW, HasR}
+use Rattle.one_copy.proofs.View.{Hist, seatsOf, HasW, HasR}
 use Rattle.one_copy.proofs.Homes.{Homes}
 use Rattle.one_copy.proofs.Good.{Good}
 

@@ -1,25 +1,25 @@
 -- A table and its history are good; reading a table with one part changed
-use Prim.Native.Nat.{ℕ, _+_, _*_, _≤_, _<_}
+use Prim.Native.Nat.{ℕ, _+_, _*_, _<_}
 use mathlib.Core.Path.{_≡_, refl, sym, subst⁻¹, _∙_, ap, fun-ext}
-use mathlib.Core.Logic.{_⊎_, inl, inr}
-use mathlib.Core.Bool.{Bool, true, false, cond, not, _&&_}
-use mathlib.Core.List.{List, [], _∷_, _++_}
+use mathlib.Core.Logic.{inl, inr}
+use mathlib.Core.Bool.{Bool, true, false, cond, not}
+use mathlib.Core.List.{List, [], _++_}
 use native.Mathlib.Omega.{arith}
 use lib.Dec.{eqb}
-use lib.ListN.{length, getD, set, List·getD-eq-default}
+use lib.ListN.{getD, set}
 use lib.Seq.{getD-set-same, getD-set-other}
 use borrow.Author.Tests.{eqb-true, not-true, not-false}
 use Rattle.one_copy.specs.Types.{Creation, Record, Chunk, Host, Place, Table, Outcome}
 use Rattle.one_copy.specs.Runs.{Write, timestampAt}
 use Rattle.rules.specs.Chunks.{emptied}
-use Rattle.rules.specs.Creation.{ofStore, isSetOf}
+use Rattle.rules.specs.Creation.{ofStore}
 use Rattle.rules.specs.Limits.{hostLimit, chunkLimit, blockLimit}
-use Rattle.rules.specs.Tables.{isHost, isChunk, isBlock, setOf, hostOf, chunkOf, recordOf, recordsBy, withPlaces, withHost, withChunk, withRecord, withRecords}
+use Rattle.rules.specs.Tables.{isChunk, isBlock, setOf, hostOf, chunkOf, recordOf, recordsBy, withPlaces, withHost, withChunk, withRecord, withRecords}
 use Rattle.rules.specs.Words.{some, numbers}
 use Rattle.rules.specs.Zero.{_among_, isEmpty, noHost, noChunk, noRecord}
 use Rattle.rules.proofs.Formed.{Formed, creation-facts, chunk-place, block-place, of-store}
 use Rattle.rules.proofs.Lists.{both, some-number, grid-at}
-use Rattle.one_copy.proofs.Tests.{at, at-id, at-map, at-same, at-other, at-with, eq-or-ne, le-or-lt}
+use Rattle.one_copy.proofs.Tests.{at, at-map, at-same, at-other, at-with, eq-or-ne, le-or-lt}
 use Rattle.one_copy.proofs.Lists.{Any, getD-set}
 use Rattle.one_copy.proofs.Shapes.{Shape, records-beyond, beyond}
 use Rattle.one_copy.proofs.View.{Hist, Part, partWith, partOf, Seat, seatOf, seatsOf, isIt, CInv}

@@ -2,9 +2,9 @@
 use Prim.Native.Nat.{ℕ}
 use mathlib.Core.Path.{_≡_, refl, sym, subst, subst⁻¹, _∙_, ap}
 use mathlib.Core.Logic.{_⊎_, inl, inr}
-use mathlib.Core.Bool.{Bool, true}
+use mathlib.Core.Bool.{true}
 use mathlib.Core.List.{List, [], _∷_, _++_, append-assoc}
-use Rattle.one_copy.specs.Types.{Creation, Table, Event, Answer}
+use Rattle.one_copy.specs.Types.{Creation, Table, Event}
 use Rattle.one_copy.specs.Runs.{Write, after, listedAt, listed}
 use Rattle.rules.specs.Events.{step}
 use Rattle.rules.specs.Tables.{isBlock}

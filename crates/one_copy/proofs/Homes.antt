@@ -1,34 +1,25 @@
 -- A timestamp belongs to one block: what mentions (timestamp, block), and that no event but a start mentions anything new
-use Prim.Native.Nat.{ℕ, suc, _+_, _*_, _≤_, _<_}
-use mathlib.Core.Path.{_≡_, refl, sym, subst, subst⁻¹, _∙_, ap}
+use Prim.Native.Nat.{ℕ, _+_, _*_, _≤_, _<_}
+use mathlib.Core.Path.{_≡_, sym, subst, subst⁻¹, _∙_, ap}
 use mathlib.Core.Logic.{_⊎_, inl, inr}
-use mathlib.Core.Bool.{Bool, true, false, cond, not, _||_, _&&_, true≢false}
-use mathlib.Core.List.{List, [], _∷_, _++_}
+use mathlib.Core.List.{List}
 use native.Mathlib.Omega.{arith}
-use lib.Dec.{eqb, ltb, leb}
-use lib.ListN.{length, getD, set, drop}
+use lib.ListN.{length, getD, set}
 use lib.Seq.{getD-set-same}
-use borrow.Author.Tests.{ltb-true, leb-false, not-true, not-false}
-use Rattle.one_copy.specs.Types.{Timestamp, Epoch, Set, Kind, Entry, Waiting, Record, Chunk, Action, Operation, Host, Header, Message, Slot, Place, Table, Arrived}
-use Rattle.rules.specs.Chunks.{withWaiting, emptied, failed, answering, silent, isOutOfOrder, entryOf, waits, arrived, decides, atChunk, runs, ran}
-use Rattle.rules.specs.Hosts.{front, operationsOf, queueOf, appended, started, opening, closing, answeredBy, heard, counts, atHost, finished, ended, withQueue, goesBack}
-use Rattle.rules.specs.Kinds.{isWrite, headerOf, headed, isForChunk, isNormal}
-use Rattle.rules.specs.Limits.{hostLimit, chunkLimit, blockLimit, operationLimit, waitingLimit}
-use Rattle.rules.specs.Network.{removed, sent, sentToEach, replied}
-use Rattle.rules.specs.Tables.{isHost, hostOf, chunkOf, recordOf, recordsBy, slotOf, withPlaces, withHost, withChunk, withRecord, withRecords}
-use Rattle.rules.specs.Timestamps.{stamp, _same_, _below_}
-use Rattle.rules.specs.Waiting.{inOrder, head, holding, insert, inserted, headRemoved, mark, marked}
-use Rattle.rules.specs.Words.{each}
-use Rattle.rules.specs.Zero.{zeroEntry, noHost, noRecord}
-use Rattle.rules.proofs.Formed.{Formed, FormedWaiting}
-use Rattle.rules.proofs.Lists.{get-set, walk, or-right}
-use Rattle.rules.proofs.Order.{mark-timestamps}
+use Rattle.one_copy.specs.Types.{Timestamp, Set, Entry, Record, Chunk, Operation, Host, Message, Place, Table}
+use Rattle.rules.specs.Hosts.{front}
+use Rattle.rules.specs.Limits.{hostLimit, blockLimit, operationLimit, waitingLimit}
+use Rattle.rules.specs.Network.{sent, sentToEach}
+use Rattle.rules.specs.Tables.{hostOf, recordOf, withPlaces, withHost, withChunk, withRecord}
+use Rattle.rules.specs.Timestamps.{stamp}
+use Rattle.rules.specs.Waiting.{inOrder}
+use Rattle.rules.specs.Zero.{noHost, noRecord}
+use Rattle.rules.proofs.Lists.{get-set}
 use Rattle.one_copy.proofs.Tests.{at, at-same, at-other}
-use Rattle.one_copy.proofs.Lists.{Any, any-map, any-each, each-any}
-use Rattle.one_copy.proofs.Net.{ofBoth, Sent, sent-one, sent-each, sent-taken, sent-at}
-use Rattle.one_copy.proofs.View.{Seat, seatOf, seatsOf, Drawn}
-use Rattle.one_copy.proofs.Queue.{insert-to, inserted-order, marked-order, removed-order}
-use Rattle.one_copy.proofs.Shapes.{Shape, holding-length, queue-length, shape-host, shape-chunk, shape-record, shape-places}
+use Rattle.one_copy.proofs.Lists.{Any}
+use Rattle.one_copy.proofs.Net.{ofBoth, Sent, sent-one, sent-each}
+use Rattle.one_copy.proofs.View.{seatsOf, Drawn}
+use Rattle.one_copy.proofs.Shapes.{Shape, shape-host, shape-chunk, shape-record, shape-places}
 
 -- an entry under a timestamp
 abbrev pub atTs : ℕ → Entry → Type 0
@@ -111,11 +102,14 @@ module _ (t : Table) where
 
   -- a host that keeps its timestamp and its front operation, or has none
   pub kept : (j : ℕ) (y : Host) → (0 < y .attempt .timestamp .0 → front y ≡ front (hostOf t j)) → y .attempt .timestamp ≡ hostOf t j .attempt .timestamp → (u d : ℕ) → HostAt y u d → Mention t u d
-  kept j y eo et u d z = inl (j, record {
-    stamp = sym (ap (λ (a : Timestamp). a .0) et) ∙ z .stamp;
-    pos = z .pos;
-    block = sym (ap (λ (o : Operation). o .block) (eo (omega (arith, z .stamp, z .pos)))) ∙ z .block;
-  })
+  kept j y eo et u d z = inl (
+    j,
+    record {
+      stamp = sym (ap (λ (a : Timestamp). a .0) et) ∙ z .stamp;
+      pos = z .pos;
+      block = sym (ap (λ (o : Operation). o .block) (eo (omega (arith, z .stamp, z .pos)))) ∙ z .block;
+    },
+  )
 
   pub rested : (y : Host) → y .attempt .timestamp .0 ≡ 0 → (u d : ℕ) → HostAt y u d → Mention t u d
   rested y e u d z = absurd (omega (arith, e, z .stamp, z .pos))

@@ -1,22 +1,20 @@
 -- A host starts and finishes an attempt on block b
-use Prim.Native.Nat.{ℕ, _+_, _*_, _≤_, _<_}
+use Prim.Native.Nat.{ℕ, _+_, _≤_, _<_}
 use mathlib.Core.Path.{_≡_, refl, sym, _∙_, ap}
 use mathlib.Core.Logic.{_⊎_, inl, inr}
-use mathlib.Core.Bool.{Bool, true, false, not}
+use mathlib.Core.Bool.{true, false}
 use mathlib.Core.List.{List, [], _∷_, _++_}
 use native.Mathlib.Omega.{arith}
-use borrow.Author.Tests.{not-true}
-use Rattle.one_copy.specs.Types.{Timestamp, Epoch, Set, Message, Place}
+use Rattle.one_copy.specs.Types.{Timestamp, Epoch, Message, Place}
 use Rattle.one_copy.specs.Runs.{Write}
 use Rattle.rules.specs.Kinds.{headed}
 use Rattle.rules.specs.Limits.{chunkLimit}
 use Rattle.rules.specs.Timestamps.{stamp}
-use Rattle.rules.specs.Words.{some, numbers}
 use Rattle.rules.specs.Zero.{_among_, isEmpty}
-use Rattle.rules.proofs.Lists.{none-number}
+use Rattle.rules.proofs.Formed.{empty-none}
 use Rattle.one_copy.proofs.Tests.{at, at-all, at-same, at-other, at-split, eq-or-ne, not-both}
-use Rattle.one_copy.proofs.Abs.{Began, idle, readK, writeK, idle≢writeK, Inv}
-use Rattle.one_copy.proofs.Flows.{Sub, shrink}
+use Rattle.one_copy.proofs.Abs.{Began, idle, readK, writeK, idle≢writeK}
+use Rattle.one_copy.proofs.Flows.{shrink}
 use Rattle.one_copy.proofs.Decide.{writing, reading, committed, aborted, start-write, start-read, commit, abort}
 use Rattle.one_copy.proofs.Decide as Decide
 use Rattle.one_copy.proofs.Refine.{relist}
@@ -35,10 +33,6 @@ answers h w = record { kind = h .kind; value = h .value; ae = h .ae; listed = h 
 
 pub ofIt : (t v : ℕ) (l : List Write) → Any (isIt t v) l → Any (isTs t) l
 ofIt t v l q = any-map (isIt t v) (isTs t) (λ w z. z .0) l q
-
--- nothing outstanding
-pub none-out : (l : Set) (c : ℕ) → c < chunkLimit → isEmpty l ≡ true → c among l ≡ false
-none-out l c k e = none-number (λ c. c among l) chunkLimit (not-true (some (λ c. c among l) (numbers chunkLimit)) e) c k
 
 module _ (S : ℕ → Type 0) (inside : (c : ℕ) → S c → c < chunkLimit) (b : ℕ) (h : Hist) (ep : ℕ) (hs : ℕ → Seat) (ps : ℕ → Part) (n : List Place) (i : CInv S b h ep hs ps n) where
   -- two hosts are never at one timestamp
@@ -178,7 +172,7 @@ module _ (S : ℕ → Type 0) (inside : (c : ℕ) → S c → c < chunkLimit) (b
               seen = λ t x. elim [
                 | inl q ↦ elim (adds (ofValue b t x) q) [ inl r ↦ inl r | inr r ↦ absurd r ]
                 | inr z ↦ elim z [
-                  | inl a ↦ elim (at-split (λ y. HasR b y t x) j y hs (a .0) (a .1)) [ inl p ↦ absurd (not-both (c among y .out) yo (none-out (y .out) c (inside c sm) (p .1 .none))) | inr p ↦ inr (inl (a .0, p .1)) ]
+                  | inl a ↦ elim (at-split (λ y. HasR b y t x) j y hs (a .0) (a .1)) [ inl p ↦ absurd (not-both (c among y .out) yo (empty-none (y .out) (p .1 .none) c (inside c sm))) | inr p ↦ inr (inl (a .0, p .1)) ]
                   | inr a ↦ inr (inr a)
                 ]
               ];
@@ -243,7 +237,7 @@ module _ (S : ℕ → Type 0) (inside : (c : ℕ) → S c → c < chunkLimit) (b
     end-commit n′ t e hw ok out adds = record {
       inv = shrink S (book h′ ep) (committed (flow S b h hs n) (t .0)) (λ c. cellOf (ps c))
           (relist S (Decide.listed (book h ep) (t .0)) (committed (flow S b h hs n) (t .0)) (λ c. cellOf (ps c)) ((book h′ ep) .L)
-          (commit S (book h ep) (flow S b h hs n) (λ c. cellOf (ps c)) (i .inv) (t .0) (λ z. z) (j, hw, ok) (λ c m. inr (j, hw, ok, none-out ((hs j) .out) c (inside c m) out, m)))
+          (commit S (book h ep) (flow S b h hs n) (λ c. cellOf (ps c)) (i .inv) (t .0) (λ z. z) (j, hw, ok) (λ c m. inr (j, hw, ok, empty-none ((hs j) .out) out c (inside c m), m)))
           (λ u. elim [ inl q ↦ inr (sym q) | inr q ↦ inl q ]) (λ u. elim [ inl q ↦ inr q | inr q ↦ inl (sym q) ]))
           (flow S b h′ (at j y hs) n′) (record {
             cur = λ u z. let r = restW u z in ((r .0, r .1), λ q. r .2 (other (r .0) u (r .1) q));

@@ -1,14 +1,13 @@
 -- `Any P l`: some element of l has P. It computes on the list, and each list function of the rules has one law for it
 use Prim.Native.Nat.{ℕ, zero, suc, _+_, _≤_, _<_}
-use mathlib.Core.Path.{_≡_, refl, sym, ap, _∙_}
+use mathlib.Core.Path.{_≡_, refl}
 use mathlib.Core.Logic.{_⊎_, inl, inr}
-use mathlib.Core.Bool.{Bool, true, false, cond, _||_, true≢false, false≢true}
+use mathlib.Core.Bool.{Bool, true, false, cond, _||_, false≢true}
 use mathlib.Core.List.{List, [], _∷_, _++_}
 use native.Mathlib.Omega.{arith}
 use lib.ListN.{length, getD, set}
 use lib.Seq.{getD-set-same, getD-set-other}
-use Rattle.rules.specs.Words.{those, each, joined, every, some, from, numbers}
-use Rattle.rules.proofs.Lists.{both}
+use Rattle.rules.specs.Words.{those, each, joined, some, from, numbers}
 use Rattle.one_copy.proofs.Tests.{at, at-same, at-other, eq-or-ne}
 
 module _ {A : Type 0} where
@@ -94,13 +93,6 @@ module _ {A : Type 0} where
       go true z = refl
       go false z = z
 
-  -- what every element passes, one that has P passes too
-  pub every-any : (p : A → Bool) (P : A → Type 0) (l : List A) → every p l ≡ true → Any P l → (x : A) × P x × (p x ≡ true)
-  unfolding every
-  every-any p P [] h a = absurd a
-  every-any p P (x ∷ xs) h (inl a) = (x, a, both (p x) (every p xs) h .0)
-  every-any p P (x ∷ xs) h (inr a) = every-any p P xs (both (p x) (every p xs) h .1) a
-
   -- reading a list that was written to is reading a function that was written to
   pub getD-set : (l : List A) (i : ℕ) (a d : A) → i < length l → (j : ℕ) → getD (set l i a) j d ≡ at i a (λ k. getD l k d) j
   getD-set l i a d h j = elim (eq-or-ne j i) [
@@ -129,11 +121,6 @@ module _ {A B : Type 0} where
   any-out P (e ∷ l) (inr h) = let z = any-out P l h in (z .0, inr (z .1))
 
 -- the lists one after the other
-pub any-joined : {A : Type 0} (P : A → Type 0) (ls : List (List A)) → Any P (joined ls) → Any (Any P) ls
-unfolding joined
-any-joined P [] h = h
-any-joined P (l ∷ ls) h = elim (any-append P l (joined ls) h) [ inl q ↦ inl q | inr q ↦ inr (any-joined P ls q) ]
-
 pub joined-any : {A : Type 0} (P : A → Type 0) (ls : List (List A)) → Any (Any P) ls → Any P (joined ls)
 unfolding joined
 joined-any P [] h = h

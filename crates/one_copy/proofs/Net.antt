@@ -1,16 +1,15 @@
 -- What the network holds, as predicates that compute on a message
 use Prim.Native.Nat.{ℕ, _<_}
-use mathlib.Core.Path.{_≡_, refl, sym, ap, _∙_}
+use mathlib.Core.Path.{_≡_}
 use mathlib.Core.Logic.{_⊎_, inl, inr}
-use mathlib.Core.Bool.{Bool, true, false, cond}
+use mathlib.Core.Bool.{true}
 use mathlib.Core.List.{List, [], _∷_}
-use lib.ListN.{getD, set}
-use Rattle.one_copy.specs.Types.{Set, Header, Message, Slot, Place}
+use Rattle.one_copy.specs.Types.{Set, Message, Slot, Place}
 use Rattle.rules.specs.Kinds.{headerOf}
 use Rattle.rules.specs.Limits.{chunkLimit}
 use Rattle.rules.specs.Network.{isFree, chunksOf, removed, sent, sentToEach}
 use Rattle.rules.specs.Tables.{slotOf}
-use Rattle.rules.specs.Words.{those, each, fold, place, numbers}
+use Rattle.rules.specs.Words.{each, fold, place, numbers}
 use Rattle.rules.specs.Zero.{_among_, zeroPlace}
 use Rattle.one_copy.proofs.Lists.{Any, any-set, any-getD, any-those, any-numbers}
 

@@ -5,7 +5,7 @@ use mathlib.Core.Logic.{_⊎_, inl, inr}
 use mathlib.Core.Bool.{Bool, true, false, cond}
 use mathlib.Core.List.{List, [], _∷_}
 use native.Mathlib.Omega.{arith}
-use lib.ListN.{length, getD, set, take, drop, length-take, length-drop, length-set}
+use lib.ListN.{length, getD, set, drop, length-drop, length-set}
 use borrow.Author.Tests.{eqb-true}
 use Rattle.one_copy.specs.Types.{Timestamp, Creation, Kind, Entry, Waiting}
 use Rattle.rules.specs.Limits.{waitingLimit}
@@ -133,14 +133,6 @@ marked-order w commit t h = holding-order (mark commit t (inOrder w)) (omega (ar
 pub removed-order : (w : Waiting) → w .count ≤ waitingLimit → inOrder (headRemoved w) ≡ drop 1 (inOrder w)
 unfolding headRemoved
 removed-order w h = holding-order (drop 1 (inOrder w)) (omega (arith, length-drop 1 (inOrder w), take-short (w .count) (w .entries)))
-
--- a count above 0 and an array that is long enough: there is a head
-pub head-exists : (w : Waiting) → 0 < w .count → w .count ≤ length (w .entries) → (e : Entry) × (q : List Entry) × (inOrder w ≡ e ∷ q)
-head-exists w h k = go (inOrder w) refl
-  where
-    go : (l : List Entry) → inOrder w ≡ l → (e : Entry) × (q : List Entry) × (inOrder w ≡ e ∷ q)
-    go [] e = absurd (let z : length (inOrder w) ≡ 0 = ap length e in omega (arith, length-take (w .count) (w .entries)))
-    go (x ∷ xs) e = (x, xs, e)
 
 -- ---- the head of a list in order is least
 

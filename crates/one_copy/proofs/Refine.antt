@@ -1,11 +1,11 @@
 -- The same facts under another reading of cells and of the list.
-use mathlib.Core.Path.{_≡_, refl, sym, subst, _∙_, ap}
-use mathlib.Core.Logic.{_⊎_, inl, inr, _↔_}
-use mathlib.Core.Bool.{Bool, true, false, true≢false}
-use Prim.Native.Nat.{ℕ, zero, suc, _+_, _≤_, _<_}
+use mathlib.Core.Path.{_≡_, refl}
+use mathlib.Core.Logic.{_⊎_, inl, inr}
+use mathlib.Core.Bool.{Bool}
+use Prim.Native.Nat.{ℕ}
 use native.Mathlib.Omega.{arith}
-use Rattle.one_copy.proofs.Tests.{not-both, at, at-both}
-use Rattle.one_copy.proofs.Abs.{Began, Mark, und, cmt, abt, idle, readK, writeK, Cell, Book, Flow, Live, IsLive, Promise, Wrote, Last, Waits, EntryOk, Pre, CellOk, GlobOk, Seen, Inv}
+use Rattle.one_copy.proofs.Tests.{at, at-both}
+use Rattle.one_copy.proofs.Abs.{Mark, cmt, abt, Cell, Book, Flow, CellOk, Inv}
 
 pub record Same (k′ k : Cell) : Type 0 where
   pub wr : k′ .wr ≡ k .wr

@@ -1,12 +1,12 @@
 -- The epoch change of one block.
-use mathlib.Core.Path.{_≡_, refl, sym, subst, _∙_, ap}
+use mathlib.Core.Path.{_≡_, sym, _∙_, ap}
 use mathlib.Core.Logic.{_⊎_, inl, inr}
-use mathlib.Core.Bool.{Bool, true, false, true≢false}
-use Prim.Native.Nat.{ℕ, zero, suc, _+_, _≤_, _<_}
+use mathlib.Core.Bool.{true, false, true≢false}
+use Prim.Native.Nat.{ℕ, suc, _≤_, _<_}
 use native.Mathlib.Omega.{arith}
-use Rattle.one_copy.proofs.Tests.{at, at-all, at-same, at-other, eq-or-ne, le-or-lt, not-both, true-or-false}
-use Rattle.one_copy.proofs.Abs.{Began, Mark, und, cmt, abt, idle, readK, writeK, Cell, Book, Flow, Live, IsLive, Promise, Wrote, Last, Waits, EntryOk, Pre, cmt≢abt, und≢cmt, und≢abt, readK≢writeK, idle≢readK, idle≢writeK, CellOk, GlobOk, Seen, Inv}
-use Rattle.one_copy.proofs.Flows.{reflow}
+use Rattle.rules.proofs.Lists.{true-or-false}
+use Rattle.one_copy.proofs.Tests.{le-or-lt, not-both}
+use Rattle.one_copy.proofs.Abs.{Mark, abt, writeK, Cell, Book, Flow, Promise, Wrote, idle≢writeK, GlobOk, Inv}
 use Rattle.one_copy.proofs.Decide.{agreed}
 
 -- what makes a write timestamp above W committed by an epoch change

@@ -1,13 +1,13 @@
 -- The arrays of a table have their lengths. No rule tests that, and every event keeps it
 use Prim.Native.Nat.{ℕ, _+_, _*_, _≤_, _<_}
-use mathlib.Core.Path.{_≡_, refl, sym, _∙_, ap}
-use mathlib.Core.Logic.{_⊎_, inl, inr}
+use mathlib.Core.Path.{_≡_, refl, _∙_, ap}
+use mathlib.Core.Logic.{inl, inr}
 use mathlib.Core.Bool.{Bool, true, false, cond}
 use mathlib.Core.List.{List, [], _∷_, _++_}
 use native.Mathlib.Omega.{arith}
 use borrow.Author.Tests.{lt-ltb}
-use lib.ListN.{length, getD, set, take, replicate, length-append, length-take, length-replicate, length-set, getD-replicate, List·getD-eq-default}
-use Rattle.one_copy.specs.Types.{Epoch, Creation, Entry, Waiting, Record, Chunk, Operation, Queue, Host, Place, Table}
+use lib.ListN.{length, getD, replicate, length-append, length-take, length-replicate, length-set, getD-replicate, List·getD-eq-default}
+use Rattle.one_copy.specs.Types.{Epoch, Creation, Entry, Record, Chunk, Operation, Host, Place, Table}
 use Rattle.rules.specs.Creation.{freshHost, freshChunk, fresh}
 use Rattle.rules.specs.Hosts.{operationsOf, queueOf, front, appended}
 use Rattle.rules.specs.Limits.{hostLimit, chunkLimit, blockLimit, operationLimit, waitingLimit}

@@ -1,25 +1,23 @@
 -- Every event, granted or refused, keeps a table good
-use Prim.Native.Nat.{ℕ, _≤_, _<_}
+use Prim.Native.Nat.{ℕ, _<_}
 use mathlib.Core.Path.{_≡_, refl, sym, subst⁻¹, _∙_, ap}
-use mathlib.Core.Logic.{_⊎_, inl, inr}
 use mathlib.Core.Bool.{Bool, true, false, cond, not, _&&_, false≢true}
-use mathlib.Core.List.{List, [], _∷_, _++_, append-nil}
+use mathlib.Core.List.{List, [], append-nil}
 use native.Mathlib.Omega.{arith}
-use lib.Dec.{eqb, ltb}
-use lib.ListN.{length, length-take}
+use lib.Dec.{eqb}
+use lib.ListN.{length-take}
 use borrow.Author.Tests.{ltb-true, eqb-true, not-false}
 use Rattle.one_copy.specs.Types.{Action, Operation, Message, Slot, Table, Event, Outcome, Answer}
-use Rattle.one_copy.specs.Runs.{Write, byHost, byChange, isChange, listedAt}
+use Rattle.one_copy.specs.Runs.{Write, byHost, isChange, listedAt}
 use Rattle.rules.specs.Codes.{codeOf}
-use Rattle.rules.specs.Events.{Effect, Rule, quietly, done, refused, unused, isPlace, holdersOf, readRule, writeRule, startRule, deliverRule, dropRule, finishRule, timeoutRule, refreshRule, runRule, stopRule, failRule, recoverRule, takeLeaseRule, giveLeaseRule, epochRule, overdueRule, unknownRule, ruleOf, rows, answered, step, takes, epochChanged, epochRefusals}
+use Rattle.rules.specs.Events.{Rule, quietly, done, refused, unused, isPlace, holdersOf, readRule, writeRule, startRule, deliverRule, dropRule, finishRule, timeoutRule, refreshRule, runRule, stopRule, failRule, recoverRule, takeLeaseRule, giveLeaseRule, epochRule, overdueRule, unknownRule, ruleOf, rows, answered, step, takes, epochChanged, epochRefusals}
 use Rattle.rules.specs.Formed.{wellFormed}
 use Rattle.rules.specs.Hosts.{front, openingTo, closingTo}
 use Rattle.rules.specs.Kinds.{isNormal, headerOf, isForChunk}
-use Rattle.rules.specs.Limits.{greatestClock, placeLimit, blockLimit, chunkLimit, oneTo, upTo}
+use Rattle.rules.specs.Limits.{greatestClock, placeLimit, oneTo, upTo}
 use Rattle.rules.specs.Network.{freePlaces, howMany, removed}
 use Rattle.rules.specs.Tables.{isHost, isChunk, isBlock, hostOf, chunkOf, recordOf, slotOf, withPlaces}
 use Rattle.rules.specs.Timestamps.{stamp}
-use Rattle.rules.specs.Words.{every}
 use Rattle.rules.proofs.Events.{answered-granted, step-code}
 use Rattle.rules.proofs.Formed.{Formed, formed, chunk-place, block-place, waiting-of}
 use Rattle.rules.proofs.KeepsParts.{passed, passed-second}

@@ -1,11 +1,10 @@
 -- The store as one block sees it, with its history: from tables to `Inv`
-use Prim.Native.Nat.{ℕ, _+_, _*_, _≤_, _<_}
-use mathlib.Core.Path.{_≡_, refl, sym, _∙_}
+use Prim.Native.Nat.{ℕ, _≤_, _<_}
+use mathlib.Core.Path.{_≡_, sym, _∙_}
 use mathlib.Core.Logic.{_⊎_, inl, inr}
 use mathlib.Core.Bool.{Bool, true, false, not}
-use mathlib.Core.List.{List, [], _∷_}
+use mathlib.Core.List.{List}
 use native.Mathlib.Omega.{arith}
-use lib.ListN.{getD}
 use Rattle.one_copy.specs.Types.{Set, Kind, Entry, Record, State, Chunk, Host, Header, Message, Place, Table}
 use Rattle.one_copy.specs.Runs.{Write, written}
 use Rattle.rules.specs.Hosts.{front}
@@ -16,7 +15,7 @@ use Rattle.rules.specs.Waiting.{inOrder}
 use Rattle.rules.specs.Zero.{_among_, isEmpty}
 use Rattle.one_copy.proofs.Tests.{at, at-all, at-split}
 use Rattle.one_copy.proofs.Abs.{Began, Mark, und, cmt, abt, idle, Cell, Book, Flow, Inv}
-use Rattle.one_copy.proofs.Flows.{Sub, shrink}
+use Rattle.one_copy.proofs.Flows.{shrink}
 use Rattle.one_copy.proofs.Lists.{Any}
 use Rattle.one_copy.proofs.Net.{Sent, ofRead, ofPre, ofCommit, ofAbort, ofValue, ofAck}
 

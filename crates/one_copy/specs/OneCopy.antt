@@ -27,18 +27,14 @@ module _ (k : Creation) (b : ℕ) where
     -- "Every read answered as done carries the value of the last listed write before its last attempt's timestamp, or zero"
     pub reads : (es : List Event) (e : Event) (later : List Event) (h v : ℕ) → answer es e .outcome ≡ Outcome.ReadDone h b v
         → v ≡ lastBefore (timestampAt (at es) h) (list (es ++ e ∷ later)) .value
-
     -- that timestamp is no listed write's
     pub apart : (es : List Event) (e : Event) (later : List Event) (h v : ℕ) → answer es e .outcome ≡ Outcome.ReadDone h b v
         → mentions (list (es ++ e ∷ later)) (timestampAt (at es) h) ≡ false
-
     -- "Every write answered as done is listed under its last attempt's timestamp", with its value
     pub writes : (es : List Event) (e : Event) (later : List Event) (h : ℕ) → answer es e .outcome ≡ Outcome.WriteDone h b
         → lists (list (es ++ e ∷ later)) (attemptAt (at es) h) ≡ true
-
     -- "Right after a granted epoch change, every copy of a block holds the last write listed so far, or zero"
     pub copies : (es : List Event) (e : Event) → isChange e (answer es e) ≡ true → (c : ℕ) → isChunk k c ≡ true → c among setOf k b ≡ true
         → heldBy (recordOf (answer es e .table) c b) ≡ last (list (es ++ e ∷ []))
-
     -- the list has one value a timestamp
     pub once : (es : List Event) (u : Timestamp) (v w : ℕ) → lists (list es) (write u v) ≡ true → lists (list es) (write u w) ≡ true → v ≡ w
