@@ -13,7 +13,7 @@ use Rattle.rules.specs.Network.{freePlaces, sent, howMany, sentToEach, replied}
 use Rattle.rules.specs.Settlement.{W, besideW, agreed, committed, writes, commits, latest, writtenWith, settledRecord, settled, allLost}
 use Rattle.rules.specs.Waiting.{holding, insert, inserted, headRemoved, firstWith, mark, marked}
 use Rattle.rules.specs.Words.{those, each, joined, every, some, place, fold, from}
-use Rattle.one_copy.specs.Runs.{Write, listedAt, listed}
+use Rattle.one_copy.specs.Runs.{Write, listedAt, listed, lastBefore}
 use Rattle.one_copy.specs.Sessions.{creation, session, fault, passed, retried, Line, account, granted, refused, told, wrote}
 
 -- the list of a run is what its events list, one after the other
@@ -29,9 +29,15 @@ session-account : account 0 (fresh creation) session
 unfolding account step answered rows ruleOf readRule writeRule startRule finishRule timeoutRule refreshRule stopRule deliverRule dropRule runRule failRule recoverRule takeLeaseRule giveLeaseRule overdueRule epochRule codeOf fresh isCreation wellFormed atChunk arrived decides ran queueOf appended atHost finishOutcome finished freePlaces sent howMany sentToEach replied W besideW agreed committed writes commits latest writtenWith settledRecord settled allLost holding insert inserted headRemoved firstWith mark marked those each joined every some place fold from
 session-account = refl
 
+-- its list: the write by its host
 pub session-list : listed 0 (fresh creation) session ≡ wrote 40 77 ∷ []
 unfolding joined each
 session-list = account-listed 0 (fresh creation) session ∙ ap (λ (l : List Line). joined (each (λ (x : Line). x .listed) l)) session-account
+
+-- and the read, under clock 6 of host 1, is what the statement says
+pub session-read : lastBefore (record { 0 = 49 }) (listed 0 (fresh creation) session) .value ≡ 77
+unfolding those fold
+session-read = rw session-list refl
 
 -- the fault session: the lease is refused, the write that was answered as done is settled, and the read from the chunk that had failed
 -- gives it
@@ -47,6 +53,11 @@ pub fault-list : listed 0 (fresh creation) fault ≡ wrote 40 77 ∷ wrote 40 77
 unfolding joined each
 fault-list = account-listed 0 (fresh creation) fault ∙ ap (λ (l : List Line). joined (each (λ (x : Line). x .listed) l)) fault-account
 
+-- and the read, under clock 6 of host 1, is what the statement says
+pub fault-read : lastBefore (record { 0 = 49 }) (listed 0 (fresh creation) fault) .value ≡ 77
+unfolding those fold
+fault-read = rw fault-list refl
+
 -- a write that a read has passed is not settled: both reads give 0
 passed-account : account 0 (fresh creation) passed
     ≡ granted ∷ granted ∷ granted ∷ granted ∷ granted ∷ granted ∷ granted ∷ granted ∷ granted ∷ granted ∷ granted ∷ granted ∷ told (Outcome.ReadDone 1 0 0) []
@@ -54,9 +65,15 @@ passed-account : account 0 (fresh creation) passed
 unfolding account step answered rows ruleOf readRule writeRule startRule finishRule timeoutRule refreshRule stopRule deliverRule dropRule runRule failRule recoverRule takeLeaseRule giveLeaseRule overdueRule epochRule codeOf fresh isCreation wellFormed atChunk arrived decides ran queueOf appended atHost finishOutcome finished freePlaces sent howMany sentToEach replied W besideW agreed committed writes commits latest writtenWith settledRecord settled allLost holding insert inserted headRemoved firstWith mark marked those each joined every some place fold from
 passed-account = refl
 
+-- its list: nothing
 pub passed-list : listed 0 (fresh creation) passed ≡ []
 unfolding joined each
 passed-list = account-listed 0 (fresh creation) passed ∙ ap (λ (l : List Line). joined (each (λ (x : Line). x .listed) l)) passed-account
+
+-- and the read, under clock 6 of host 1, is what the statement says
+pub passed-read : lastBefore (record { 0 = 49 }) (listed 0 (fresh creation) passed) .value ≡ 0
+unfolding those fold
+passed-read = rw passed-list refl
 
 -- a retried write is refused its old number and done under a new one
 retried-account : account 0 (fresh creation) retried
@@ -65,6 +82,7 @@ retried-account : account 0 (fresh creation) retried
 unfolding account step answered rows ruleOf readRule writeRule startRule finishRule timeoutRule refreshRule stopRule deliverRule dropRule runRule failRule recoverRule takeLeaseRule giveLeaseRule overdueRule epochRule codeOf fresh isCreation wellFormed atChunk arrived decides ran queueOf appended atHost finishOutcome finished freePlaces sent howMany sentToEach replied W besideW agreed committed writes commits latest writtenWith settledRecord settled allLost holding insert inserted headRemoved firstWith mark marked those each joined every some place fold from
 retried-account = refl
 
+-- its list: the attempt that was done
 pub retried-list : listed 0 (fresh creation) retried ≡ wrote 48 77 ∷ []
 unfolding joined each
 retried-list = account-listed 0 (fresh creation) retried ∙ ap (λ (l : List Line). joined (each (λ (x : Line). x .listed) l)) retried-account
