@@ -46,6 +46,7 @@ pub record Flow : Type 1 where
   pub abtm : ℕ → Type 0  -- an abort in flight
   pub seen : ℕ → ℕ → Type 0  -- (t, x): a read's answer, in flight, at the host, or given to the user
 
+-- t waits and is not aborted
 abbrev pub Live : Cell → ℕ → Type 0
 Live k t = (v : ℕ) × (m : Mark) × k .w t v m × IsLive m
 
@@ -78,6 +79,7 @@ pub record EntryOk (B : Book) (F : Flow) (k : Cell) (t v : ℕ) (m : Mark) : Typ
   pub dead : m ≡ abt → (F .act t → ⊥) × (B .L t → ⊥)
   pub kept : k .lost ≡ false
 
+-- marks and kinds differ
 pub cmt≢abt : cmt ≡ abt → ⊥
 cmt≢abt e = subst IsLive e tt
 

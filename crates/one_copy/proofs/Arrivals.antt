@@ -50,9 +50,11 @@ pub record Hears (x y : Host) : Type 0 where
   pub epoch : y .epoch ≡ x .epoch
   pub clock : y .clock ≡ x .clock
 
+-- a host that hears nothing
 hears-self : (x : Host) → Hears x x
 hears-self x = record { queue = refl; timestamp = refl; epoch = refl; clock = refl }
 
+-- what is heard, kind by kind
 pub heard-keeps : (x : Host) (c : ℕ) (m : Message) → Hears x (heard x (answeredBy (x .attempt) c) m)
 heard-keeps x c (Message.Mismatch hd) = record { queue = refl; timestamp = refl; epoch = refl; clock = refl }
 heard-keeps x c (Message.OutOfOrder hd) = record { queue = refl; timestamp = refl; epoch = refl; clock = refl }
@@ -65,6 +67,7 @@ heard-keeps x c (Message.Prewrite hd e v) = hears-self x
 heard-keeps x c (Message.Commit hd e) = hears-self x
 heard-keeps x c (Message.Abort hd e) = hears-self x
 
+-- an answer that counts or not
 pub at-host-keeps : (x : Host) (m : Message) → Hears x (atHost x m)
 unfolding atHost
 at-host-keeps x m = walk (Hears x) (counts x m) _ _ (λ _. heard-keeps x (headerOf m .chunk) m) (λ _. hears-self x)

@@ -86,6 +86,7 @@ module _ (S : ℕ → Type 0) where
     pub was : (u x : ℕ) (m : Mark) → k .lost ≡ false → k .w u x m → EntryOk B F k u x m
     was u x m l h = record { fits = i .waits u x m h; done = λ e. i .done u x (rw e at h); dead = λ e. i .dead u x (rw e at h); kept = l }
 
+    -- a commit arrives at an undecided write
     pub mark-cmt : (t v : ℕ) (w′ : ℕ → ℕ → Mark → Type 0) (r′ : ℕ → Type 0) → ((u : ℕ) → r′ u → k .r u) → k .lost ≡ false → F .comm t → k .w t v und
         → ((u x : ℕ) (m : Mark) → w′ u x m → k .w u x m ⊎ ((u ≡ t) × (x ≡ v) × (m ≡ cmt)))
         → ((u x : ℕ) (m : Mark) → k .w u x m → w′ u x m ⊎ (u ≡ t)) → w′ t v cmt
@@ -98,6 +99,7 @@ module _ (S : ℕ → Type 0) where
         (λ u q. inl (elim (keep u (q .0) (q .1) (q .2)) [ inl e ↦ (q .0, q .1, e, q .3) | inr e ↦ (v, cmt, rw e new, tt) ]))
         (λ u e. i .reads u (rs u e))
 
+    -- an abort arrives at an undecided write
     pub mark-abt : (t v : ℕ) (w′ : ℕ → ℕ → Mark → Type 0) (r′ : ℕ → Type 0) → ((u : ℕ) → r′ u → k .r u) → k .lost ≡ false → F .abtm t → k .w t v und
         → ((u x : ℕ) (m : Mark) → w′ u x m → k .w u x m ⊎ ((u ≡ t) × (x ≡ v) × (m ≡ abt)))
         → ((u x : ℕ) (m : Mark) → k .w u x m → w′ u x m ⊎ (u ≡ t))
@@ -122,6 +124,7 @@ module _ (S : ℕ → Type 0) where
         (λ u q. inl (elim (keep u (q .0) (q .1) (q .2)) [ inl e ↦ (q .0, q .1, e, q .3) | inr e ↦ absurd (rw e at (q .3)) ]))
         (λ u e. i .reads u (rs u e))
 
+    -- the chunk fails: nothing waits, what persists stays, the promises become those of a lost chunk
     pub fail : CellOk B F c (record { wr = k .wr; rd = k .rd; val = k .val; lost = true; w = λ _ _ _. ⊥; r = λ _. ⊥ })
     fail = record {
       held = i .held;

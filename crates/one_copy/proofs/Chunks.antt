@@ -40,6 +40,7 @@ abbrev pub fallen : Part → Part
 fallen p = record { mode = State.Failed; lost = true; val = p .val; rd = p .rd; wr = p .wr; queue = [] }
 
 module _ (S : ℕ → Type 0) (b : ℕ) (h : Hist) (ep : ℕ) (hs : ℕ → Seat) (ps : ℕ → Part) (n : List Place) (i : CInv S b h ep hs ps n) where
+  -- fewer messages are a smaller flow
   less : (n′ : List Place) → NetLe b n′ n → Sub (flow S b h hs n′) (flow S b h hs n)
   less n′ sub = record {
     cur = λ t z. z;
@@ -64,6 +65,7 @@ module _ (S : ℕ → Type 0) (b : ℕ) (h : Hist) (ep : ℕ) (hs : ℕ → Seat
     sane = at-all (λ d x. isNormal (x .mode) ≡ true → x .lost ≡ false) c p ps ok (λ d _. i .sane d);
   }
 
+  -- messages alone go
   pub net-only : (n′ : List Place) → NetLe b n′ n → CInv S b h ep hs ps n′
   net-only n′ sub = record {
     inv = shrink S (book h ep) (flow S b h hs n) (λ d. cellOf (ps d)) (i .inv) (flow S b h hs n′) (less n′ sub);
@@ -85,14 +87,17 @@ module _ (S : ℕ → Type 0) (b : ℕ) (h : Hist) (ep : ℕ) (hs : ℕ → Seat
   pub mode-only : (c : ℕ) (m : State) (n′ : List Place) → NetLe b n′ n → (isNormal m ≡ true → (ps c) .lost ≡ false) → CInv S b h ep hs (at c (inMode (ps c) m) ps) n′
   mode-only c m n′ sub ok = one-part c (inMode (ps c) m) n′ sub (i .inv .cells c) (omega arith) (i .inv .home c) ok
 
+  -- the chunk fails
   pub falls : (c : ℕ) (n′ : List Place) → NetLe b n′ n → CInv S b h ep hs (at c (fallen (ps c)) ps) n′
   falls c n′ sub = one-part c (fallen (ps c)) n′ sub (λ m. fail S (book h ep) (flow S b h hs n) c (cellOf (ps c)) (i .inv .glob) (i .inv .cells c m)) (omega arith) (λ t z. absurd z) (λ e. absurd (false≢true e))
 
   -- a normal chunk
   module _ (c : ℕ) (nm : isNormal ((ps c) .mode) ≡ true) where
+    -- it is not lost
     l : (ps c) .lost ≡ false
     l = i .sane c nm
 
+    -- a read arrives and waits
     pub takes-read : (hd : Header) (k : Epoch) (n′ : List Place) → NetLe b n′ n → Sent n (ofRead b c (hd .timestamp .0))
         → CInv S b h ep hs (at c (withQueue (ps c) (insert (entryOf hd k Kind.Read) ((ps c) .queue))) ps) n′
     takes-read hd k n′ sub msg = one-part c (withQueue (ps c) (insert e ((ps c) .queue))) n′ sub
@@ -107,6 +112,7 @@ module _ (S : ℕ → Type 0) (b : ℕ) (h : Hist) (ep : ℕ) (hs : ℕ → Seat
         e : Entry
         e = entryOf hd k Kind.Read
 
+    -- a prewrite of the chunk's epoch arrives, waits and is answered
     pub takes-write : (hd : Header) (k : Epoch) (v : ℕ) (n′ : List Place) → hd .chunk ≡ c → ((P : Message → Type 0) → Sent n′ P → Sent n P ⊎ P (Message.PrewriteReply hd)) → Sent n (ofPre b c (hd .timestamp .0) (k .0) v)
         → k .0 ≡ ep → (ps c) .wr ≤ hd .timestamp .0 → (ps c) .rd ≤ hd .timestamp .0
         → CInv S b h ep hs (at c (withQueue (ps c) (insert (entryOf hd k (Kind.Undecided v)) ((ps c) .queue))) ps) n′
@@ -168,12 +174,14 @@ module _ (S : ℕ → Type 0) (b : ℕ) (h : Hist) (ep : ℕ) (hs : ℕ → Seat
       front : (u x : ℕ) (a : Mark) → isW u x a e ⊎ Any (isW u x a) q → e .timestamp .0 ≤ u
       front u x a z = let y = low (isW u x a) z in omega (arith, y .2, y .1 .0)
 
+      -- what waits is the head or behind it
       inq : (P : Entry → Type 0) → Any P ((ps c) .queue) → P e ⊎ Any P q
       inq P z = rw qe at z
 
       outq : (P : Entry → Type 0) → P e ⊎ Any P q → Any P ((ps c) .queue)
       outq P z = rw qe z
 
+      -- a committed write is carried out; m is the later of the last write and it
       pub runs-cmt : (v m : ℕ) (n′ : List Place) → NetLe b n′ n → e .kind ≡ Kind.Committed v → ((ps c) .wr ≤ e .timestamp .0 → m ≡ e .timestamp .0) → CInv S b h ep hs (at c (wrote (ps c) v m q) ps) n′
       runs-cmt v m n′ sub w top = one-part c (wrote (ps c) v m q) n′ sub
           (λ z. let o = i .inv .cells c z in

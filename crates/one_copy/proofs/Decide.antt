@@ -7,21 +7,27 @@ use Rattle.one_copy.proofs.Tests.{at, at-same, at-other, eq-or-ne, le-o
 use Rattle.one_copy.proofs.Abs.{Began, abt, idle, readK, writeK, Cell, Book, Flow, Promise, Wrote, readK≢writeK, idle≢readK, idle≢writeK, CellOk, GlobOk, Seen, Inv}
 use Rattle.one_copy.proofs.Flows.{reflow}
 
+-- t is listed
 abbrev pub listed : Book → ℕ → Book
 listed B t = record { era = B .era; kind = B .kind; value = B .value; ae = B .ae; L = λ u. B .L u ⊎ (u ≡ t); void = B .void }
 
+-- t is its host's no more, and commits are in flight
 abbrev pub committed : Flow → ℕ → Flow
 committed F t = record { cur = λ u. F .cur u × (u ≡ t → ⊥); act = λ u. F .act u × (u ≡ t → ⊥); ack = F .ack; pre = F .pre; rdm = F .rdm; comm = λ u. F .comm u ⊎ (u ≡ t); abtm = F .abtm; seen = F .seen }
 
+-- t is its host's no more, and aborts are in flight
 abbrev pub aborted : Flow → ℕ → Flow
 aborted F t = record { cur = λ u. F .cur u × (u ≡ t → ⊥); act = F .act; ack = F .ack; pre = F .pre; rdm = F .rdm; comm = F .comm; abtm = λ u. F .abtm u ⊎ (u ≡ t); seen = F .seen }
 
+-- K is begun under t, with value v in era e
 abbrev pub begun : Book → ℕ → Began → ℕ → ℕ → Book
 begun B t K v e = record { era = B .era; kind = at t K (B .kind); value = at t v (B .value); ae = at t e (B .ae); L = B .L; void = B .void }
 
+-- a write begins: its host is at work, prewrites are in flight
 abbrev pub writing : Flow → ℕ → ℕ → ℕ → Flow
 writing F t v e = record { cur = λ u. F .cur u ⊎ (u ≡ t); act = λ u. F .act u ⊎ (u ≡ t); ack = F .ack; pre = λ c u e′ x. F .pre c u e′ x ⊎ ((u ≡ t) × (e′ ≡ e) × (x ≡ v)); rdm = F .rdm; comm = F .comm; abtm = F .abtm; seen = F .seen }
 
+-- a read begins: it is in flight to chunk c
 abbrev pub reading : Flow → ℕ → ℕ → Flow
 reading F t c = record { cur = F .cur; act = F .act; ack = F .ack; pre = F .pre; rdm = λ d u. F .rdm d u ⊎ ((u ≡ t) × (d ≡ c)); comm = F .comm; abtm = F .abtm; seen = F .seen }
 
@@ -97,6 +103,7 @@ module _ (S : ℕ → Type 0) (B : Book) (F : Flow) (cell : ℕ → Cell) (i : I
       ok : B .L t ⊎ ((c : ℕ) → S c → Promise (cell c) t)
       ok = elim (agreed t a all) [ inl p ↦ elim p [ inl q ↦ inl q | inr q ↦ absurd (nv q) ] | inr p ↦ inr p ]
 
+  -- a host gives a write up
   pub abort : (t : ℕ) → F .cur t → (F .act t → ⊥) → Inv S B (aborted F t) cell
   abort t a n = let g = i .glob in record {
     glob = record {
@@ -123,12 +130,14 @@ module _ (S : ℕ → Type 0) (B : Book) (F : Flow) (cell : ℕ → Cell) (i : I
   -- a timestamp is drawn that was never drawn
   module _ (t : ℕ) (K : Began) (v e : ℕ) (F′ : Flow) (f : B .kind t ≡ idle) (nv : B .void t → ⊥) (pos : t ≡ 0 → ⊥)
       (acts : (u : ℕ) → (u ≡ t → ⊥) → F′ .act u → F .act u) (acks : (u c : ℕ) → F′ .ack u c → F .ack u c) where
+    -- no attempt has the new timestamp
     isW≢ : (u : ℕ) → B .kind u ≡ writeK → u ≡ t → ⊥
     isW≢ u h q = idle≢writeK (sym f ∙ ap (B .kind) (sym q) ∙ h)
 
     isR≢ : (u : ℕ) → B .kind u ≡ readK → u ≡ t → ⊥
     isR≢ u h q = idle≢readK (sym f ∙ ap (B .kind) (sym q) ∙ h)
 
+    -- what was begun before stays
     sameK : (u : ℕ) → (u ≡ t → ⊥) → (begun B t K v e) .kind u ≡ B .kind u
     sameK u n = at-other t K (B .kind) u n
 
@@ -138,6 +147,7 @@ module _ (S : ℕ → Type 0) (B : Book) (F : Flow) (cell : ℕ → Cell) (i : I
     sameE : (u : ℕ) → (u ≡ t → ⊥) → (begun B t K v e) .ae u ≡ B .ae u
     sameE u n = at-other t e (B .ae) u n
 
+    -- and so do its kind and what was written
     keepW : (u : ℕ) → B .kind u ≡ writeK → (begun B t K v e) .kind u ≡ writeK
     keepW u h = sameK u (isW≢ u h) ∙ h
 
@@ -147,6 +157,7 @@ module _ (S : ℕ → Type 0) (B : Book) (F : Flow) (cell : ℕ → Cell) (i : I
     keepWrote : (u x : ℕ) → Wrote B u x → Wrote (begun B t K v e) u x
     keepWrote u x = elim [ inl p ↦ inl p | inr p ↦ inr (p .0, sameV u (isW≢ u (i .glob .listK u (p .0))) ∙ p .1) ]
 
+    -- no cell changes
     pub begin-cells : (c : ℕ) → S c → CellOk (begun B t K v e) F′ c (cell c)
     begin-cells c m = let o = i .cells c m in let g = i .glob in record {
       held = keepWrote ((cell c) .wr) ((cell c) .val) (o .held);
@@ -161,6 +172,7 @@ module _ (S : ℕ → Type 0) (B : Book) (F : Flow) (cell : ℕ → Cell) (i : I
       promise = λ u a b q. let n = isW≢ u (g .ackK u c (acks u c b)) in o .promise u (acts u n a) (acks u c b) (sym (sameE u n) ∙ q);
     }
 
+    -- no answer changes
     pub begin-seen : (r x : ℕ) → F .seen r x → Seen S (begun B t K v e) cell r x
     begin-seen r x h = let o = i .seen r x h in let p = o .last in record {
       isR = keepR r (o .isR);
@@ -192,6 +204,7 @@ module _ (S : ℕ → Type 0) (B : Book) (F : Flow) (cell : ℕ → Cell) (i : I
       stale = λ u z. elim (eq-or-ne u t) [ inl q ↦ absurd (nv (rw q at z)) | inr n ↦ rw (sameE u n) (g .stale u z) ];
     }
 
+  -- a read starts at a copy
   pub start-read : (t c v e : ℕ) → S c → B .kind t ≡ idle → (B .void t → ⊥) → (t ≡ 0 → ⊥) → Inv S (begun B t readK v e) (reading F t c) cell
   start-read t c v e m f nv pos = let g = begin-glob t readK v e F f nv pos (λ u _ a. a) (λ u c a. a) (at-same t readK (B .kind)) (λ q. absurd (readK≢writeK q)) in record {
     glob = record {
@@ -215,6 +228,7 @@ module _ (S : ℕ → Type 0) (B : Book) (F : Flow) (cell : ℕ → Cell) (i : I
     seen = begin-seen t readK v e F f nv pos (λ u _ a. a) (λ u c a. a);
   }
 
+  -- a write starts
   pub start-write : (t v e : ℕ) → B .kind t ≡ idle → (B .void t → ⊥) → (t ≡ 0 → ⊥) → e ≤ B .era → (s : ℕ) → S s → Inv S (begun B t writeK v e) (writing F t v e) cell
   start-write t v e f nv pos le s sm =
       let g = begin-glob t writeK v e F f nv pos (λ u _ a. a) (λ u c a. a) (at-same t writeK (B .kind)) (λ _. le) in

@@ -45,6 +45,7 @@ any-lists : (l : List Write) (u : Timestamp) (v : ℕ) → Any (isIt (u .0) v) l
 any-lists l u v h = any-some (λ w. w .timestamp is u && eqb (w .value) v) l (any-map (isIt (u .0) v) (λ w. w .timestamp is u && eqb (w .value) v ≡ true)
     (λ w z. and-true (w .timestamp is u) (eqb (w .value) v) (eq-eqb (w .timestamp .0) (u .0) (z .0)) (eq-eqb (w .value) v (z .1))) l h)
 
+-- a timestamp that no write has
 not-mentioned : (l : List Write) (u : Timestamp) → (Any (isTs (u .0)) l → ⊥) → mentions l u ≡ false
 not-mentioned l u n = go (mentions l u) refl
   where
@@ -83,6 +84,7 @@ module _ (k : Creation) (b : ℕ) (lb : isBlock k b ≡ true) where
   base : Whole b noHist (λ _. 0) (fresh k)
   base = record { good = fresh-good k b; homes = fresh-homes k; shape = fresh-shape k }
 
+  -- b is a block of the fresh store
   base-block : isBlock (fresh k .creation) b ≡ true
   unfolding fresh
   base-block = lb
@@ -93,12 +95,14 @@ module _ (k : Creation) (b : ℕ) (lb : isBlock k b ≡ true) where
     abbrev all : List Write
     all = listed b (fresh k) fs
 
+    -- the computed list and the history have the same writes
     from : (u v : ℕ) → Any (isIt u v) all → Any (isIt u v) (H .listed)
     from u v z = r .from u v (inr z)
 
     to : (u v : ℕ) → Any (isIt u v) (H .listed) → Any (isIt u v) all
     to u v z = elim (r .to u v z) [ inl y ↦ absurd y | inr y ↦ y ]
 
+    -- and the same timestamps
     from-ts : (u : ℕ) → Any (isTs u) all → Any (isTs u) (H .listed)
     from-ts u z = let w = with-value u all z in ofIt u (w .0) (H .listed) (from u (w .0) (w .1))
 
@@ -109,11 +113,13 @@ module _ (k : Creation) (b : ℕ) (lb : isBlock k b ≡ true) where
     valued : (u v : ℕ) → Any (isIt u v) all → H .value u ≡ v
     valued u v z = r .whole .good .vals u v (from u v z)
 
+    -- none is listed under 0
     no-zero : Any (isTs 0) all → ⊥
     no-zero z = idle≢writeK (sym (r .whole .good .inv .glob .zeroK) ∙ r .whole .good .inv .glob .listK 0 (from-ts 0 z))
 
     -- a read that was answered
     module _ (u : Timestamp) (v : ℕ) (z : Any (isIt (u .0) v) (H .reads)) where
+      -- it carries the value of the last write listed below it
       read-value : v ≡ lastBefore u all .value
       read-value =
           let p = r .whole .good .inv .seen (u .0) v (inr (inr z)) .last in
@@ -124,28 +130,35 @@ module _ (k : Creation) (b : ℕ) (lb : isBlock k b ≡ true) where
           (λ w x q. valued w x (any-map _ (isIt w x) (λ y c. c .1) all (any-those (λ w. w .timestamp below u) (isIt w x) all q)))
           (λ q. no-zero (any-map _ (isTs 0) (λ y c. c .1) all (any-those (λ w. w .timestamp below u) (isTs 0) all q))) .1
 
+      -- its timestamp is no write's
       read-apart : mentions all u ≡ false
       read-apart = not-mentioned all u (λ q. readK≢writeK (sym (r .whole .good .inv .seen (u .0) v (inr (inr z)) .isR) ∙ r .whole .good .inv .glob .listK (u .0) (from-ts (u .0) q)))
 
   -- ---- events es, then e, then those later
 
   module _ (es : List Event) (e : Event) where
+    -- the table that e finds
     abbrev t : Table
     t = after (fresh k) es
 
+    -- the run that leads there
     before : (hist : Hist) × Run b noHist (fresh k) es hist
     before = run b es noHist (λ _. 0) (fresh k) base-block base
 
+    -- b is a block still
     here : isBlock (t .creation) b ≡ true
     here = subst⁻¹ (λ (k : Creation). isBlock k b ≡ true) (before .1 .creation) base-block
 
+    -- what e leaves
     stepped : Stepped b (before .0) t e (step t e)
     stepped = step-kept b (before .0) (before .1 .blk) t here (before .1 .whole) e
 
     module _ (later : List Event) where
+      -- the run of those later
       rest : (hist : Hist) × Run b (stepped .next .hist) (step t e .table) later hist
       rest = run b later (stepped .next .hist) (stepped .blk) (step t e .table) (block-after b (before .0) t e here stepped) (whole-after b (before .0) t e stepped)
 
+      -- the whole run
       sequence : Run b noHist (fresh k) (es ++ e ∷ later) (rest .0)
       sequence = appended b noHist (fresh k) es (e ∷ later) (before .0) (rest .0) (before .1) (goes-on b (before .0) t e later stepped (rest .0) (rest .1))
 
@@ -164,14 +177,17 @@ module _ (k : Creation) (b : ℕ) (lb : isBlock k b ≡ true) where
 
     -- right after e, a granted epoch change
     module _ (g : isChange e (step t e) ≡ true) where
+      -- the run up to e
       so-far : Run b noHist (fresh k) (es ++ e ∷ []) (stepped .next .hist)
       so-far = appended b noHist (fresh k) es (e ∷ []) (before .0) (stepped .next .hist) (before .1)
           (goes-on b (before .0) t e [] stepped (stepped .next .hist) (ends b (stepped .next .hist) (stepped .blk) (step t e .table) (whole-after b (before .0) t e stepped)))
 
+      -- the creation is k still
       same-creation : t .creation ≡ k
       unfolding fresh
       same-creation = before .1 .creation
 
+      -- a copy of the set holds the last write listed so far
       copy-last : (c : ℕ) → isChunk k c ≡ true → c among setOf k b ≡ true → heldBy (recordOf (step t e .table) c b) ≡ last (listed b (fresh k) (es ++ e ∷ []))
       copy-last c lc m =
           let x = changed t e g in
@@ -192,6 +208,7 @@ module _ (k : Creation) (b : ℕ) (lb : isBlock k b ≡ true) where
 
   -- ---- the five clauses
 
+  -- for a fresh store of any creation
   mirrors : OneCopy k b
   mirrors = record {
     reads = λ es e later h v q. read-value (es ++ e ∷ later) (rest es e later .0) (sequence es e later) (timestampAt (after (fresh k) es) h) v (answered es e later h v q);

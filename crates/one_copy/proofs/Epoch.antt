@@ -30,6 +30,7 @@ use Rattle.one_copy.proofs.Good.{In, inside, holder}
 
 -- ---- an entry as a write
 
+-- an entry that is a write with u has a mark
 is-write : (u : Timestamp) (e : Entry) → writeWith u e ≡ true → (m : Mark) × isW (u .0) (valueOf (e .kind)) m e
 is-write u e h = go (e .kind) (both (e .timestamp is u) (isWrite (e .kind)) h .1)
   where
@@ -42,6 +43,7 @@ is-write u e h = go (e .kind) (both (e .timestamp is u) (isWrite (e .kind)) h .1
     go (Kind.Committed v) z = (cmt, (at, (refl, refl)))
     go (Kind.Aborted v) z = (abt, (at, (refl, refl)))
 
+-- and the way back
 write-is : (u : Timestamp) (v : ℕ) (m : Mark) (e : Entry) → isW (u .0) v m e → writeWith u e ≡ true
 write-is u v m e h = and-true (e .timestamp is u) (isWrite (e .kind)) (eq-eqb (e .timestamp .0) (u .0) (h .0)) (go (e .kind) (h .1))
   where
@@ -51,6 +53,7 @@ write-is u v m e h = and-true (e .timestamp is u) (isWrite (e .kind)) (eq-eqb (e
     go (Kind.Committed x) z = refl
     go (Kind.Aborted x) z = refl
 
+-- an entry that is an aborted write
 is-aborted : (u : Timestamp) (e : Entry) → abortedWith u e ≡ true → (v : ℕ) × isW (u .0) v abt e
 is-aborted u e h = go (e .kind) (both (e .timestamp is u) (isAborted (e .kind)) h .1)
   where
@@ -63,6 +66,7 @@ is-aborted u e h = go (e .kind) (both (e .timestamp is u) (isAborted (e .kind)) 
     go (Kind.Committed v) z = absurd (false≢true z)
     go (Kind.Aborted v) z = (v, (at, (refl, refl)))
 
+-- and the way back
 aborted-is : (u : Timestamp) (v : ℕ) (e : Entry) → isW (u .0) v abt e → abortedWith u e ≡ true
 aborted-is u v e h = and-true (e .timestamp is u) (isAborted (e .kind)) (eq-eqb (e .timestamp .0) (u .0) (h .0)) (go (e .kind) (h .1))
   where
@@ -80,35 +84,43 @@ aborted-is u v e h = and-true (e .timestamp is u) (isAborted (e .kind)) (eq-eqb 
 
 -- ---- the settled copy of a chunk
 
+-- a copy of the set is settled, any other is emptied
 pub settled-at : (t : Table) (b c : ℕ) → c < chunkLimit → getD (settled (copiesOf t b)) c noCopy .block ≡ cond (c among setOf (t .creation) b) (settledRecord (copiesOf t b)) (emptied (recordOf t c b))
 unfolding settled
 settled-at t b c l = ap (λ (x : Copy). x .block)
     (each-each-number (λ (x : Copy). record { member = x .member; lost = x .lost; block = cond (inSet x) (settledRecord (copiesOf t b)) (emptied (x .block)) }) (copyOf t b) chunkLimit c noCopy l)
 
 module _ (t : Table) (f : Formed t) (b : ℕ) (lb : isBlock (t .creation) b ≡ true) where
+  -- the chunks of the set
   abbrev S : ℕ → Type 0
   S = In (t .creation) b
 
+  -- the block's copies, as settlement has them
   abbrev copies : List Copy
   copies = copiesOf t b
 
   abbrev copy : ℕ → Copy
   copy c = copyOf t b c
 
+  -- and as the view has them
   abbrev cell : ℕ → Cell
   cell c = cellOf (partOf t b c)
 
   -- ---- the copies, by chunk
 
+  -- a member is one of the store's chunks
   member-in : (c : ℕ) → c < chunkLimit → c among setOf (t .creation) b ≡ true → S c
   member-in c l e = (of-store (t .creation) (setOf (t .creation) b) (set-of-store (t .creation) b (f .creation) lb) c l e, e)
 
+  -- the copy of chunk c stands at c
   copy-at : (c : ℕ) → c < chunkLimit → getD copies c noCopy ≡ copy c
   copy-at c l = each-number copy chunkLimit c noCopy l
 
+  -- there are eight
   copies-length : length copies ≡ chunkLimit
   copies-length = each-length copy (numbers chunkLimit) ∙ numbers-length chunkLimit
 
+  -- some copy is a chunk's, and the way back
   any-copies : (P : Copy → Type 0) → Any P copies → (c : ℕ) × (c < chunkLimit) × P (copy c)
   any-copies P h = any-numbers (λ c. P (copy c)) chunkLimit (any-each copy P (numbers chunkLimit) h)
 
@@ -119,20 +131,24 @@ module _ (t : Table) (f : Formed t) (b : ℕ) (lb : isBlock (t .creation) b ≡ 
   those-copies : (q p : Copy → Bool) → every q (those p copies) ≡ true → (c : ℕ) → c < chunkLimit → p (copy c) ≡ true → q (copy c) ≡ true
   those-copies q p h c l e = rw (copy-at c l) at (those-at q p copies c noCopy h (omega (arith, copies-length)) (rw (copy-at c l) e))
 
+  -- and the way back
   copies-those : (q p : Copy → Bool) → ((c : ℕ) → c < chunkLimit → p (copy c) ≡ true → q (copy c) ≡ true) → every q (those p copies) ≡ true
   copies-those q p h = those-of q p copies noCopy (λ i k e. let l : i < chunkLimit = omega (arith, copies-length) in rw (copy-at i l) (h i l (rw (copy-at i l) at e)))
 
   -- ---- the greatest over the set
 
   module _ (g : Copy → Timestamp) where
+    -- the greatest of a timestamp over the set
     abbrev peak : Timestamp
     peak = greatest (each g (those inSet copies))
 
+    -- none is above it
     peak-top : (c : ℕ) → S c → g (copy c) .0 ≤ peak .0
     peak-top c m = top-all (λ (u : Timestamp). u .0) never (each g (those inSet copies)) (g (copy c) .0)
         (each-any g (λ (u : Timestamp). u .0 ≡ g (copy c) .0) (those inSet copies) (those-any inSet (λ x. g x .0 ≡ g (copy c) .0) copies
         (copies-any (λ x. (inSet x ≡ true) × (g x .0 ≡ g (copy c) .0)) c (inside t f b lb c m) (m .1, refl))))
 
+    -- one has it
     peak-at : (c : ℕ) × S c × (g (copy c) .0 ≡ peak .0)
     peak-at = elim (top-is (λ (u : Timestamp). u .0) never (each g (those inSet copies))) [
       | inl e ↦ (let c = holder t f b lb in let z : peak .0 ≡ 0 = ap (λ (u : Timestamp). u .0) e in (c .0, c .1, omega (arith, peak-top (c .0) (c .1))))
@@ -142,17 +158,21 @@ module _ (t : Table) (f : Formed t) (b : ℕ) (lb : isBlock (t .creation) b ≡ 
 
   -- ---- W, and the value beside it
 
+  -- no last write is above W
   W-top : (c : ℕ) → S c → recordOf t c b .write .0 ≤ W copies .0
   unfolding W
   W-top c m = peak-top lastWrite c m
 
+  -- one is W
   W-at : (c : ℕ) × S c × (recordOf t c b .write .0 ≡ W copies .0)
   unfolding W
   W-at = peak-at lastWrite
 
+  -- the lowest chunk with W
   abbrev atW : ℕ
   atW = place (λ c. inSet c && lastWrite c is W copies) copies
 
+  -- it is a member and has W
   W-place : (atW < chunkLimit) × (inSet (copy atW) && lastWrite (copy atW) is W copies ≡ true)
   W-place =
       let w = W-at in
@@ -160,18 +180,22 @@ module _ (t : Table) (f : Formed t) (b : ℕ) (lb : isBlock (t .creation) b ≡ 
       let l : atW < chunkLimit = omega (arith, r .0, copies-length) in
       (l, rw (copy-at atW l) at (r .1))
 
+  -- it is of the set
   W-in : S atW
   W-in = let r = W-place in member-in atW (r .0) (both (inSet (copy atW)) (lastWrite (copy atW) is W copies) (r .1) .0)
 
+  -- its last write is W
   W-is : recordOf t atW b .write .0 ≡ W copies .0
   W-is = let r = W-place in eqb-true (recordOf t atW b .write .0) (W copies .0) (both (inSet (copy atW)) (lastWrite (copy atW) is W copies) (r .1) .1)
 
+  -- its value is the one beside W
   W-value : recordOf t atW b .value ≡ besideW copies
   unfolding besideW
   W-value = ap (λ (x : Copy). x .block .value) (sym (copy-at atW (W-place .0)))
 
   -- ---- what is committed, as a test and as a fact
 
+  -- a test that passes says what the view asks
   pub chosen-to : (u : Timestamp) → committed copies u ≡ true → Chosen S cell (W copies .0) (u .0)
   unfolding committed agreed
   chosen-to u h =
@@ -193,6 +217,7 @@ module _ (t : Table) (f : Formed t) (b : ℕ) (lb : isBlock (t .creation) b ≡ 
         unread = λ c m l. ltb-true (recordOf t c b .read .0) (u .0) (those-copies (λ c. u above lastRead c) isLost (a .2) c (inside t f b lb c m) (rw (m .1, l) refl));
       }
 
+  -- and the way back
   pub chosen-from : (u : Timestamp) → Chosen S cell (W copies .0) (u .0) → committed copies u ≡ true
   unfolding committed agreed
   chosen-from u h = and-true _ _ (lt-ltb (W copies .0) (u .0) (h .above)) (and-true _ _ (and-true _ _
@@ -214,6 +239,7 @@ module _ (t : Table) (f : Formed t) (b : ℕ) (lb : isBlock (t .creation) b ≡ 
 
   -- ---- the list of what is committed
 
+  -- a timestamp as a number
   abbrev isStamp : ℕ → Timestamp → Type 0
   isStamp u x = x .0 ≡ u
 
@@ -309,6 +335,7 @@ module _ (t : Table) (f : Formed t) (b : ℕ) (lb : isBlock (t .creation) b ≡ 
           | inr q ↦ commits-in (latest copies .0) (any-map (λ x. x ≡ latest copies) (isStamp (latest copies .0)) (λ x z. ap (λ (x : Timestamp). x .0) z) (commits copies) q)
         ]
 
+    -- the rules' settlement is the view's
     pub settling : Settling S cell (W copies .0) (besideW copies) (settledRecord copies .write .0) (settledRecord copies .value) (settledRecord copies .read .0)
     unfolding settledRecord
     settling = record {

@@ -35,6 +35,7 @@ use Rattle.one_copy.proofs.EvHost.{net-same}
 
 -- ---- the later of two timestamps
 
+-- the later one is the second where it is not below
 later-up : (t u : Timestamp) → t .0 ≤ u .0 → later t u .0 ≡ u .0
 later-up t u h = go (ltb (t .0) (u .0)) refl
   where
@@ -42,6 +43,7 @@ later-up t u h = go (ltb (t .0) (u .0)) refl
     go true e = refl
     go false e = let z = ltb-false (t .0) (u .0) e in omega arith
 
+-- it is one of the two, and neither is above it
 later-one : (t u : Timestamp) → ((later t u .0 ≡ u .0) × (t .0 ≤ later t u .0)) ⊎ ((later t u .0 ≡ t .0) × (u .0 ≤ later t u .0))
 later-one t u = go (ltb (t .0) (u .0)) refl
   where
@@ -51,10 +53,12 @@ later-one t u = go (ltb (t .0) (u .0)) refl
 
 -- ---- a reply that says nothing of block b
 
+-- nothing, or a message that says nothing of block b
 abbrev pub Plain : (b : ℕ) → Slot → Type 0
 Plain b Slot.Empty = Unit {0}
 Plain b (Slot.Full m) = Foreign b m
 
+-- such a reply adds nothing
 pub net-replied : (b : ℕ) (n n₀ : List Place) → ((P : Message → Type 0) → Sent n P → Sent n₀ P) → (reply : Slot) → Plain b reply → NetLe b (replied n reply) n₀
 unfolding replied
 net-replied b n n₀ sub Slot.Empty p = net-less b n n₀ sub
@@ -66,38 +70,48 @@ head-first [] h = absurd (omega arith)
 head-first (x ∷ xs) h = refl
 
 module _ (b : ℕ) (h : Hist) (t : Table) (f : Formed t) (s : Shape t) (lb : isBlock (t .creation) b ≡ true) (i : Good b h t) (c : ℕ) (lc : isChunk (t .creation) c ≡ true) where
+  -- the chunks of the set
   abbrev S : ℕ → Type 0
   S = In (t .creation) b
 
+  -- the chunk's place
   place-c : c < chunkLimit
   place-c = chunk-place (t .creation) c lc (f .creation)
 
+  -- this block's place
   place-b : b < blockLimit
   place-b = block-place (t .creation) b lb (f .creation)
 
   -- ---- run
 
   module _ (d : ℕ) (ld : isBlock (t .creation) d ≡ true) (free : ℕ) (e : codeOf (runRefusals (chunkOf t c .state) (recordOf t c d .waiting) free) ≡ 0) where
+    -- the record
     abbrev r : Record
     r = recordOf t c d
 
+    -- the block's place
     place-d : d < blockLimit
     place-d = block-place (t .creation) d ld (f .creation)
 
+    -- the chunk is normal
     normal : isNormal (chunkOf t c .state) ≡ true
     unfolding every
     normal = not-false (isNormal (chunkOf t c .state)) (granted-exactly (runRefusals (chunkOf t c .state) (r .waiting) free) refl .0 e 0 (omega arith))
 
+    -- the head is decided
     decided : isUndecided (head (r .waiting) .kind) ≡ false
     unfolding every
     decided = granted-exactly (runRefusals (chunkOf t c .state) (r .waiting) free) refl .0 e 2 (omega arith)
 
+    -- the waiting list is formed
     formedW : FormedWaiting (t .creation) (r .waiting)
     formedW = waiting-of t f c d place-c place-d
 
+    -- there is a head
     first : inOrder (r .waiting) ≡ head (r .waiting) ∷ drop 1 (inOrder (r .waiting))
     first = head-first (inOrder (r .waiting)) (omega (arith, run-head (chunkOf t c .state) (r .waiting) free e, formedW .count, s .entries c d place-c place-d, length-take (r .waiting .count) (r .waiting .entries)))
 
+    -- what a run leaves is good
     abbrev Ran : Arrived → Type 0
     Ran a = Good b h (withPlaces (withRecord t c d (a .block)) (replied (t .places) (a .reply)))
 
@@ -106,6 +120,7 @@ module _ (b : ℕ) (h : Hist) (t : Table) (f : Formed t) (s : Shape t) (lb : isB
     run-far far a p = good-far b h t s c d (a .block) _ place-b place-d far
         (net-only S b h (t .epoch .0) (seatsOf t) (partOf t b) (t .places) i _ (net-replied b (t .places) (t .places) (λ P z. z) (a .reply) p))
 
+    -- the head of another block, by its kind
     far-as : (d ≡ b → ⊥) → (k : Kind) → Ran (runs c d (withWaiting r (headRemoved (r .waiting))) (head (r .waiting)) k)
     far-as far (Kind.Aborted v) = run-far far _ tt
     far-as far (Kind.Committed v) = run-far far _ tt
@@ -116,12 +131,15 @@ module _ (b : ℕ) (h : Hist) (t : Table) (f : Formed t) (s : Shape t) (lb : isB
 
   -- at this block
   module _ (free : ℕ) (e : codeOf (runRefusals (chunkOf t c .state) (recordOf t c b .waiting) free) ≡ 0) where
+    -- the waiting list
     abbrev w : Waiting
     w = recordOf t c b .waiting
 
+    -- the list without its head
     rest : inOrder (headRemoved w) ≡ drop 1 (inOrder w)
     rest = removed-order w (formedW b lb free e .count)
 
+    -- nothing that waits is below the head
     low : (P : Entry → Type 0) → Any P (head w ∷ drop 1 (inOrder w)) → (x : Entry) × P x × (head w .timestamp .0 ≤ x .timestamp .0)
     low = least (t .creation) w (formedW b lb free e) (head w) (drop 1 (inOrder w)) (first b lb free e)
 
@@ -129,6 +147,7 @@ module _ (b : ℕ) (h : Hist) (t : Table) (f : Formed t) (s : Shape t) (lb : isB
     put : (g : List Entry → Part) (n : List Place) → CInv S b h (t .epoch .0) (seatsOf t) (at c (g (drop 1 (inOrder w))) (partOf t b)) n → CInv S b h (t .epoch .0) (seatsOf t) (at c (g (inOrder (headRemoved w))) (partOf t b)) n
     put g n v = subst⁻¹ (λ (q : List Entry). CInv S b h (t .epoch .0) (seatsOf t) (at c (g q) (partOf t b)) n) rest v
 
+    -- the head of this block, by its kind
     here-as : (k : Kind) → head w .kind ≡ k → isUndecided k ≡ false → Ran b lb free e (runs c b (withWaiting (recordOf t c b) (headRemoved w)) (head w) k)
     unfolding replied
     here-as (Kind.Undecided v) ek u = absurd (true≢false u)
@@ -148,6 +167,7 @@ module _ (b : ℕ) (h : Hist) (t : Table) (f : Formed t) (s : Shape t) (lb : isB
         hd : Header
         hd = headed (head w .sender) c b (head w .timestamp)
 
+  -- a run, at this block or another
   pub ev-run : (d : ℕ) → isBlock (t .creation) d ≡ true → (free : ℕ) → codeOf (runRefusals (chunkOf t c .state) (recordOf t c d .waiting) free) ≡ 0
       → Next b h t [] Outcome.None (withPlaces (withRecord t c d (ran c d (recordOf t c d) .block)) (replied (t .places) (ran c d (recordOf t c d) .reply)))
   unfolding ran
@@ -167,9 +187,11 @@ module _ (b : ℕ) (h : Hist) (t : Table) (f : Formed t) (s : Shape t) (lb : isB
       (subst⁻¹ (λ (l : Bool). CInv S b h (t .epoch .0) (seatsOf t) (at c (partWith (record { state = x .state; lost = l; epoch = x .epoch; reconcile = x .reconcile }) (recordOf t c b)) (partOf t b)) (t .places)) e
       (mode-only S b h (t .epoch .0) (seatsOf t) (partOf t b) (t .places) i c (x .state) (t .places) (net-same b (t .places)) ok)))
 
+  -- recover
   pub ev-recover : Next b h t [] Outcome.None (withChunk t c (recovered (chunkOf t c)))
   ev-recover = mode (recovered (chunkOf t c)) refl (λ e. absurd (false≢true e))
 
+  -- take lease
   pub ev-take : Next b h t [] Outcome.None (withChunk t c (leaseTaken (chunkOf t c)))
   ev-take = mode (leaseTaken (chunkOf t c)) refl (λ e. absurd (false≢true e))
 
@@ -178,9 +200,11 @@ module _ (b : ℕ) (h : Hist) (t : Table) (f : Formed t) (s : Shape t) (lb : isB
   unfolding every
   ev-give e = mode (leaseGiven (chunkOf t c)) refl (λ _. granted-exactly (giveLeaseRefusals (chunkOf t c .state) (chunkOf t c .lost)) refl .0 e 1 (omega arith))
 
+  -- overdue: no part of the view changes
   pub ev-overdue : (d : ℕ) → Next b h t [] Outcome.None (withChunk t c (overdue (chunkOf t c) d))
   ev-overdue d = mode (overdue (chunkOf t c) d) refl (i .sane c)
 
+  -- fail
   pub ev-fail : Next b h t [] Outcome.None (withRecords (withChunk t c (failed (chunkOf t c))) (recordsBy (λ d b. cond (eqb d c) (emptied (recordOf t d b)) (recordOf t d b))))
   ev-fail = quietly b h t _ (good-records b h (withChunk t c x) (shape-chunk t s c x) (recordsBy (λ d b. cond (eqb d c) (emptied (recordOf t d b)) (recordOf t d b))) (at c (emptied (recordOf t c b)) (λ a. recordOf t a b))
       (emptied-at b h t s c place-c place-b) (t .places)

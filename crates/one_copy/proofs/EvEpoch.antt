@@ -54,6 +54,7 @@ module _ (t : Table) where
   renewed-sane true c k e f h = e
   renewed-sane false c k e f h = f h
 
+  -- so it is after the change
   pub changed-sane : ((c : ℕ) → isNormal (chunkOf t c .state) ≡ true → chunkOf t c .lost ≡ false) → (c : ℕ) → isNormal (chunkOf (epochChanged t) c .state) ≡ true → chunkOf (epochChanged t) c .lost ≡ false
   changed-sane f c = elim (le-or-lt chunkLimit c) [
     | inl q ↦ λ _. ap (λ (x : Chunk). x .lost) (List·getD-eq-default (each (renewed t) (numbers chunkLimit)) noChunk (omega (arith, each-length (renewed t) (numbers chunkLimit), numbers-length chunkLimit)))
@@ -61,9 +62,11 @@ module _ (t : Table) where
   ]
 
 module _ (b : ℕ) (h : Hist) (t : Table) (f : Formed t) (lb : isBlock (t .creation) b ≡ true) (i : Good b h t) (e : codeOf (epochRefusals t) ≡ 0) where
+  -- the chunks of the set
   abbrev S : ℕ → Type 0
   S = In (t .creation) b
 
+  -- the settled record
   abbrev r : Record
   r = settledRecord (copiesOf t b)
 
@@ -80,21 +83,26 @@ module _ (b : ℕ) (h : Hist) (t : Table) (f : Formed t) (lb : isBlock (t .creat
   abbrev pub committedBy : List Write
   committedBy = each (λ u. record { timestamp = u; value = writtenWith (copiesOf t b) u }) (commits (copiesOf t b))
 
+  -- the cells before
   abbrev cells : ℕ → Cell
   cells c = cellOf (partOf t b c)
 
+  -- a write that the change commits
   abbrev isChosen : ℕ → Type 0
   isChosen u = Chosen S cells (W (copiesOf t b) .0) u
 
+  -- it settles
   st : Settling S cells (W (copiesOf t b) .0) (besideW (copiesOf t b)) (r .write .0) (r .value) (r .read .0)
   st = settling t f b lb (epoch-holder t e b (small t f b lb) lb)
 
+  -- what is listed after was listed or is committed
   to : (u : ℕ) → Any (isTs u) (committedBy ++ h .listed) → Any (isTs u) (h .listed) ⊎ isChosen u
   to u z = elim (any-append (isTs u) committedBy (h .listed) z) [
     | inl y ↦ inr (commits-in t f b lb u (any-each (λ u. record { timestamp = u; value = writtenWith (copiesOf t b) u }) (isTs u) (commits (copiesOf t b)) y))
     | inr y ↦ inl y
   ]
 
+  -- and the way back
   from : (u : ℕ) → Any (isTs u) (h .listed) ⊎ isChosen u → Any (isTs u) (committedBy ++ h .listed)
   from u = elim [
     | inl y ↦ any-right (isTs u) committedBy (h .listed) y
@@ -111,6 +119,7 @@ module _ (b : ℕ) (h : Hist) (t : Table) (f : Formed t) (lb : isBlock (t .creat
       let w = written t f b lb (epoch-holder t e b (small t f b lb) lb) x k in
       ap (h .value) (sym (q .2 .0)) ∙ (i .inv .cells (w .0) (w .2)) .waits (x .0) _ (w .1) (w .3) .vals ∙ q .2 .1
 
+  -- the changed table is good
   epoch-good : Good b (lists h committedBy) (epochChanged t)
   epoch-good = subst⁻¹ (λ (ep : ℕ). CInv S b (lists h committedBy) ep (seatsOf t) (partOf (epochChanged t) b) (t .places)) grown (record {
     inv = recell S (book (lists h committedBy) (suc (t .epoch .0))) (flow S b h (seatsOf t) (t .places)) (settledCell (r .write .0) (r .value) (r .read .0)) (λ c. cellOf (partOf (epochChanged t) b c))
@@ -130,6 +139,7 @@ module _ (b : ℕ) (h : Hist) (t : Table) (f : Formed t) (lb : isBlock (t .creat
       grown : t .epoch .0 + 1 ≡ suc (t .epoch .0)
       grown = omega arith
 
+  -- the epoch change
   pub ev-epoch : Next b h t committedBy Outcome.None (epochChanged t)
   ev-epoch = record { hist = lists h committedBy; good = epoch-good; listed = refl; kept = λ u v z. z; done = λ j v q. absurd (none-done j b v q) }
 

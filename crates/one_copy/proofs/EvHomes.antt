@@ -35,10 +35,12 @@ use Rattle.one_copy.proofs.Homes.{atTs, Mention, Less, NetOk, same-net,
 
 -- ---- the waiting list
 
+-- marking changes no timestamp
 mark-ts : (commit : Bool) (t : Timestamp) (q : List Entry) (u : ℕ) → Any (atTs u) (mark commit t q) → Any (atTs u) q
 mark-ts commit t q u z = any-each (λ (e : Entry). e .timestamp) (λ (a : Timestamp). a .0 ≡ u) q
     (subst (Any (λ (a : Timestamp). a .0 ≡ u)) (mark-timestamps commit t q) (each-any (λ (e : Entry). e .timestamp) (λ (a : Timestamp). a .0 ≡ u) (mark commit t q) z))
 
+-- what is behind the head waits
 drop-any : (P : Entry → Type 0) (l : List Entry) → Any P (drop 1 l) → Any P l
 drop-any P [] z = z
 drop-any P (x ∷ xs) z = inr z
@@ -46,9 +48,11 @@ drop-any P (x ∷ xs) z = inr z
 -- ---- hosts
 
 module _ (t : Table) (f : Formed t) (j : ℕ) (lj : isHost (t .creation) j ≡ true) where
+  -- the host
   abbrev x : Host
   x = hostOf t j
 
+  -- the host's place
   place-j : j < hostLimit
   place-j = host-place (t .creation) j lj (f .creation)
 
@@ -57,26 +61,32 @@ module _ (t : Table) (f : Formed t) (j : ℕ) (lj : isHost (t .creation) j ≡ t
   tame y eq et ec = less-host t j y (t .places) (kept t j y (λ _. ap (λ (q : Queue). getD (take (q .count) (q .operations)) 0 zeroOperation) eq) et) (omega arith)
       (λ s. ap (λ (q : Queue). length (q .operations)) eq ∙ s .queues j place-j) (same-net t)
 
+  -- timeout
   pub timeout-less : Less (withHost t j (timedOut x)) t
   timeout-less = tame (timedOut x) refl refl refl
 
+  -- refresh
   pub refresh-less : Less (withHost t j (refreshed x (t .epoch))) t
   refresh-less = tame (refreshed x (t .epoch)) refl refl refl
 
+  -- stop
   pub stop-less : Less (withHost t j (stopped x)) t
   stop-less = tame (stopped x) refl refl refl
 
+  -- intake
   pub intake-less : Shape t → (o : Operation) → x .queue .count < operationLimit → Less (withHost t j (appended x o)) t
   unfolding appended
   intake-less s o k = less-host t j (appended x o) (t .places) (kept t j (appended x o) (λ p. front-kept x o (at-front t f s j lj p) k) refl) (omega arith)
       (λ _. queue-length _) (same-net t)
 
+  -- a finish leaves no timestamp, the clock, and a queue of its length
   finished-as : (g : Bool) → Shape t → (cond g (ended x) (withQueue (ended x) (queueOf (drop 1 (operationsOf x)))) .attempt .timestamp .0 ≡ 0)
       × (cond g (ended x) (withQueue (ended x) (queueOf (drop 1 (operationsOf x)))) .clock ≡ x .clock)
       × (length (cond g (ended x) (withQueue (ended x) (queueOf (drop 1 (operationsOf x)))) .queue .operations) ≡ operationLimit)
   finished-as true s = (refl, refl, s .queues j place-j)
   finished-as false s = (refl, refl, queue-length (drop 1 (operationsOf x)))
 
+  -- finish: the messages are under the host's own timestamp
   pub finish-less : Shape t → (free messages : ℕ) → codeOf (finishRefusals x free messages) ≡ 0
       → Less (withPlaces (withHost t j (finished x)) (sentToEach (t .places) (closingTo (front x .action) (holdersOf t x)) (λ c. closing (x .attempt .okay) (headed j c (front x .block) (x .attempt .timestamp)) (x .epoch)))) t
   unfolding every finished
@@ -105,18 +115,22 @@ module _ (t : Table) (f : Formed t) (j : ℕ) (lj : isHost (t .creation) j ≡ t
       own Action.Read c u d z = z
       own (Action.Write v) c u d z = z
 
+  -- a start keeps the shape
   pub start-shape : Shape t → (a : Timestamp) (clock : ℕ) (to : Set) (n : List Place) → Shape (withPlaces (withHost t j (started x a clock to)) n)
   start-shape s a clock to n = shape-places (withHost t j (started x a clock to)) (shape-host t s j (started x a clock to) (s .queues j place-j)) n
 
 -- ---- a chunk's run
 
 module _ (t : Table) (f : Formed t) (c d : ℕ) (lc : c < chunkLimit) (ld : d < blockLimit) where
+  -- the record
   abbrev r : Record
   r = recordOf t c d
 
+  -- its waiting list is formed
   formedW : FormedWaiting (t .creation) (r .waiting)
   formedW = waiting-of t f c d lc ld
 
+  -- a run mentions nothing new
   abbrev Ran : Arrived → Type 0
   Ran a = Less (withPlaces (withRecord t c d (a .block)) (replied (t .places) (a .reply))) t
 
@@ -124,9 +138,11 @@ module _ (t : Table) (f : Formed t) (c d : ℕ) (lc : c < chunkLimit) (ld : d < 
   waits-here : (u : ℕ) → Any (atTs u) (inOrder (r .waiting)) → Mention t u d
   waits-here u z = inr (inr (c, ld, z))
 
+  -- nor does what is left behind the head
   rest : (u : ℕ) → Any (atTs u) (inOrder (headRemoved (r .waiting))) → Mention t u d
   rest u z = waits-here u (drop-any (atTs u) (inOrder (r .waiting)) (subst (Any (atTs u)) (removed-order (r .waiting) (formedW .count)) z))
 
+  -- its array has its length
   rest-length : length (headRemoved (r .waiting) .entries) ≡ waitingLimit
   unfolding headRemoved
   rest-length = holding-length (drop 1 (inOrder (r .waiting)))
@@ -139,6 +155,7 @@ module _ (t : Table) (f : Formed t) (c d : ℕ) (lc : c < chunkLimit) (ld : d < 
       go [] l e = absurd (omega arith)
       go (x ∷ q) l e = inl e
 
+  -- the head, by its kind
   ran-as : 0 < length (inOrder (r .waiting)) → (k : Kind) → Ran (runs c d (withWaiting r (headRemoved (r .waiting))) (head (r .waiting)) k)
   unfolding replied
   ran-as l (Kind.Aborted v) = less-record t c d _ (t .places) ld rest (λ _. rest-length) (same-net t)
@@ -148,6 +165,7 @@ module _ (t : Table) (f : Formed t) (c d : ℕ) (lc : c < chunkLimit) (ld : d < 
       (λ _. less-record t c d _ _ ld rest (λ _. rest-length) (one-ok t _ (t .places) (same-net t) (its l)))
       (λ _. less-record t c d _ _ ld rest (λ _. rest-length) (one-ok t _ (t .places) (same-net t) (its l)))
 
+  -- run
   pub run-less : 0 < length (inOrder (r .waiting)) → Ran (ran c d r)
   unfolding ran
   run-less l = ran-as l (head (r .waiting) .kind)
@@ -155,34 +173,44 @@ module _ (t : Table) (f : Formed t) (c d : ℕ) (lc : c < chunkLimit) (ld : d < 
 -- ---- a message that arrives
 
 module _ (t : Table) (f : Formed t) (p : ℕ) (lp : p < placeLimit) where
+  -- the network without the message
   abbrev n1 : List Place
   n1 = removed (t .places) p
 
+  -- it mentions nothing new
   ok1 : NetOk t n1
   ok1 u d z = inr (inl (sent-taken (ofBoth d u) (t .places) p z))
 
+  -- drop
   pub drop-less : Less (withPlaces t n1) t
   drop-less = less-places t n1 ok1
 
   module _ (m : Message) (e : slotOf (t .places) p ≡ Slot.Full m) where
+    -- the message is formed
     facts : FormedMessage (t .creation) m
     facts = message-facts (t .creation) m (rw e at (f .places p lp))
 
+    -- its chunk
     abbrev c : ℕ
     c = headerOf m .chunk
 
+    -- its block
     abbrev d : ℕ
     d = headerOf m .block
 
+    -- the chunk's place
     place-c : c < chunkLimit
     place-c = chunk-place (t .creation) c (facts .header .chunk) (f .creation)
 
+    -- the block's place
     place-d : d < blockLimit
     place-d = ltb-true d blockLimit (facts .header .block)
 
+    -- what it mentions was mentioned
     its-own : (u a : ℕ) → ofBoth a u m → Mention t u a
     its-own u a z = inr (inl (sent-at (ofBoth a u) (t .places) p m e z))
 
+    -- an arrival mentions nothing new
     abbrev Took : Arrived → Type 0
     Took a = Less (withPlaces (withRecord t c d (a .block)) (replied n1 (a .reply))) t
 
@@ -192,35 +220,42 @@ module _ (t : Table) (f : Formed t) (p : ℕ) (lp : p < placeLimit) where
     answer q eh = less-record t c d _ _ place-d (λ u z. inr (inr (c, place-d, z))) (λ s. s .entries c d place-c place-d)
         (one-ok t q n1 ok1 (λ u a z. its-own u a (sym (ap (λ (h : Header). h .block) eh) ∙ z .0, sym (ap (λ (h : Header). h .timestamp .0) eh) ∙ z .1)))
 
+    -- what waits then waited, or is the message's
     inserts : (k : Epoch) (kind : Kind) → recordOf t c d .waiting .count < waitingLimit → (u : ℕ) → Any (atTs u) (inOrder (inserted (recordOf t c d .waiting) (entryOf (headerOf m) k kind))) → Mention t u d
     inserts k kind room u z = elim (insert-to (atTs u) (entryOf (headerOf m) k kind) (inOrder (recordOf t c d .waiting)) (subst (Any (atTs u)) (inserted-order (recordOf t c d .waiting) (entryOf (headerOf m) k kind) room) z)) [
       | inl q ↦ inr (inr (c, place-d, q))
       | inr q ↦ its-own u d (refl, q)
     ]
 
+    -- the array has its length
     inserted-length : (w : Waiting) (x : Entry) → length (inserted w x .entries) ≡ waitingLimit
     unfolding inserted
     inserted-length w x = holding-length (insert x (inOrder w))
 
+    -- it waits
     took-waits : (k : Epoch) (kind : Kind) → recordOf t c d .waiting .count < waitingLimit → Took (waits (recordOf t c d) (headerOf m) k kind)
     unfolding replied
     took-waits k kind room = walk Took (isWrite kind) _ _
         (λ _. less-record t c d _ _ place-d (inserts k kind room) (λ _. inserted-length (recordOf t c d .waiting) (entryOf (headerOf m) k kind)) (one-ok t _ n1 ok1 (λ u a z. its-own u a z)))
         (λ _. less-record t c d _ _ place-d (inserts k kind room) (λ _. inserted-length (recordOf t c d .waiting) (entryOf (headerOf m) k kind)) ok1)
 
+    -- a read or a prewrite
     took-arrived : (blocks : ℕ) (current k : Epoch) (kind : Kind) → Took (arrived blocks current (recordOf t c d) (headerOf m) k kind)
     took-arrived blocks current k kind = arrived-walk Took blocks current (recordOf t c d) (headerOf m) k kind
         (answer (Message.Mismatch (headerOf m)) refl) (answer (Message.Error (headerOf m)) refl) (answer (Message.OutOfOrder (headerOf m)) refl) (answer (Message.Busy (headerOf m)) refl)
         (λ z. took-waits k kind (z .room))
 
+    -- nothing happens
     same : Took (silent (recordOf t c d))
     unfolding replied
     same = less-record t c d _ n1 place-d (λ u z. inr (inr (c, place-d, z))) (λ s. s .entries c d place-c place-d) ok1
 
+    -- a marked list has its length
     marked-length : (commit : Bool) (a : Timestamp) (w : Waiting) → length (marked commit a w .entries) ≡ waitingLimit
     unfolding marked
     marked-length commit a w = holding-length (mark commit a (inOrder w))
 
+    -- a commit or an abort
     took-decides : (blocks : ℕ) (commit : Bool) → Took (decides blocks (recordOf t c d) (headerOf m) commit)
     unfolding replied
     took-decides blocks commit = decides-walk Took blocks (recordOf t c d) (headerOf m) commit
@@ -229,6 +264,7 @@ module _ (t : Table) (f : Formed t) (p : ℕ) (lp : p < placeLimit) where
         (λ _. marked-length commit (headerOf m .timestamp) (recordOf t c d .waiting)) ok1)
         same
 
+    -- a reply at a host
     host-takes : Less (hostTakes (withPlaces t n1) (headerOf m) m) t
     host-takes = walk (λ (x : Table). Less x t) (hostOf t (headerOf m .host) .working) _ _ (λ _. go (at-host-keeps (hostOf t (headerOf m .host)) m)) (λ _. drop-less)
       where
@@ -236,6 +272,7 @@ module _ (t : Table) (f : Formed t) (p : ℕ) (lp : p < placeLimit) where
         go k = less-host t (headerOf m .host) _ n1 (kept t (headerOf m .host) _ (λ _. ap (λ (q : Queue). getD (take (q .count) (q .operations)) 0 zeroOperation) (k .queue)) (k .timestamp)) (let z = k .clock in omega arith)
             (λ s. ap (λ (q : Queue). length (q .operations)) (k .queue) ∙ s .queues (headerOf m .host) (host-place (t .creation) (headerOf m .host) (facts .header .host) (f .creation))) ok1
 
+  -- a message at a chunk, by its kind
   took-at : (m : Message) (e : slotOf (t .places) p ≡ Slot.Full m) (blocks : ℕ) (current : Epoch) → Took m e (atChunk blocks current (recordOf t (headerOf m .chunk) (headerOf m .block)) m)
   unfolding atChunk
   took-at (Message.Read hd k) e blocks current = took-arrived (Message.Read hd k) e blocks current k Kind.Read
@@ -249,6 +286,7 @@ module _ (t : Table) (f : Formed t) (p : ℕ) (lp : p < placeLimit) where
   took-at (Message.ReadReply hd v) e blocks current = same (Message.ReadReply hd v) e
   took-at (Message.PrewriteReply hd) e blocks current = same (Message.PrewriteReply hd) e
 
+  -- deliver
   pub deliver-less : (m : Message) → slotOf (t .places) p ≡ Slot.Full m → Less (takes (withPlaces t n1) (Slot.Full m)) t
   deliver-less m e = walk (λ (x : Table). Less x t) (isForChunk m) _ _
       (λ _. walk (λ (x : Table). Less x t) (isNormal (chunkOf t (headerOf m .chunk) .state)) _ _ (λ _. took-at m e (t .creation .blocks) (chunkOf t (headerOf m .chunk) .epoch)) (λ _. drop-less))
@@ -256,6 +294,7 @@ module _ (t : Table) (f : Formed t) (p : ℕ) (lp : p < placeLimit) where
 
 -- ---- a failure: what waits at other chunks stays
 
+-- fail
 pub fail-less : (t : Table) (c : ℕ) → Less (withRecords (withChunk t c (failed (chunkOf t c))) (recordsBy (λ a b. cond (eqb a c) (emptied (recordOf t a b)) (recordOf t a b)))) t
 fail-less t c = record {
   ment = λ u d. elim [

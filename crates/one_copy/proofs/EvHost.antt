@@ -38,9 +38,11 @@ pub record SameOp (x y : Seat) : Type 0 where
   pub value : 0 < y .ts → y .value ≡ x .value
 
 module _ (S : ℕ → Type 0) (b : ℕ) (n : List Place) (ep : ℕ) (x y : Seat) (so : SameOp x y) (et : y .ts ≡ x .ts) (ec : y .clock ≡ x .clock) (kn : y .known ≤ ep) where
+  -- a host with a timestamp is at work
   at-work : (t : ℕ) → y .ts ≡ t → 0 < t → 0 < y .ts
   at-work t e p = omega arith
 
+  -- its write is the same
   sameW : (t : ℕ) → HasW b y t → HasW b x t
   sameW t z = let p = at-work t (z .stamp) (z .pos) in record { stamp = sym et ∙ z .stamp; pos = z .pos; write = sym (so .write p) ∙ z .write; block = sym (so .block p) ∙ z .block }
 
@@ -78,15 +80,18 @@ front-same x y e = record {
   value = λ _. ap (λ (o : Operation). written (o .action)) e;
 }
 
+-- the same messages
 pub net-same : (b : ℕ) (n : List Place) → NetLe b n n
 net-same b n = net-less b n n (λ P z. z)
 
 -- ---- where a finish leaves the host
 
+-- no timestamp, the clock and the epoch known as they were
 ended-seat : (x : Host) (t : Bool) → (seatOf (cond t (ended x) (withQueue (ended x) (queueOf (drop 1 (operationsOf x))))) .ts ≡ 0) × (seatOf (cond t (ended x) (withQueue (ended x) (queueOf (drop 1 (operationsOf x))))) .clock ≡ x .clock) × (seatOf (cond t (ended x) (withQueue (ended x) (queueOf (drop 1 (operationsOf x))))) .known ≡ x .epoch .0)
 ended-seat x true = (refl, refl, refl)
 ended-seat x false = (refl, refl, refl)
 
+-- so after a finish
 finished-seat : (x : Host) → (seatOf (finished x) .ts ≡ 0) × (seatOf (finished x) .clock ≡ x .clock) × (seatOf (finished x) .known ≡ x .epoch .0)
 unfolding finished
 finished-seat x = ended-seat x (goesBack (x .attempt))
@@ -101,12 +106,15 @@ only-at : (c d : ℕ) → d < chunkLimit → d among only c ≡ eqb c d
 only-at c d l = each-number (eqb c) chunkLimit d false l
 
 module _ (b : ℕ) (h : Hist) (t : Table) (f : Formed t) (s : Shape t) (lb : isBlock (t .creation) b ≡ true) (i : Good b h t) (j : ℕ) (lj : isHost (t .creation) j ≡ true) where
+  -- the host
   abbrev x : Host
   x = hostOf t j
 
+  -- the chunks of the set
   abbrev S : ℕ → Type 0
   S = In (t .creation) b
 
+  -- the host's place
   small : j < hostLimit
   small = host-place (t .creation) j lj (f .creation)
 
@@ -124,25 +132,31 @@ module _ (b : ℕ) (h : Hist) (t : Table) (f : Formed t) (s : Shape t) (lb : isB
     value = λ p. ap (λ (o : Operation). written (o .action)) (front-kept x o (at-front t f s j lj p) k);
   }) refl refl (i .known j) refl refl refl)
 
+  -- timeout
   pub ev-timeout : Next b h t [] Outcome.None (withHost t j (timedOut x))
   ev-timeout = host-quiet (timedOut x) (sour-host S b (t .places) (t .epoch .0) (seatsOf t j) (seatOf (timedOut x)) (front-same x (timedOut x) refl) refl refl (i .known j) refl)
 
+  -- refresh
   pub ev-refresh : Next b h t [] Outcome.None (withHost t j (refreshed x (t .epoch)))
   ev-refresh = host-quiet (refreshed x (t .epoch)) (same-host S b (t .places) (t .epoch .0) (seatsOf t j) (seatOf (refreshed x (t .epoch))) (front-same x (refreshed x (t .epoch)) refl) refl refl (omega arith) refl refl refl)
 
+  -- stop
   pub ev-stop : Next b h t [] Outcome.None (withHost t j (stopped x))
   ev-stop = host-quiet (stopped x) (same-host S b (t .places) (t .epoch .0) (seatsOf t j) (seatOf (stopped x)) (front-same x (stopped x) refl) refl refl (i .known j) refl refl refl)
 
   -- ---- start
 
   module _ (clock copy : ℕ) (lc : isChunk (t .creation) copy ≡ true) where
+    -- where the messages go
     abbrev to : Action → Set
     to a = openingTo a copy (holdersOf t x)
 
+    -- the table after the start
     abbrev after : Action → Table
     after a = withPlaces (withHost t j (started x (stamp clock j) clock (to a)))
         (sentToEach (t .places) (to a) (λ c. opening (headed j c (front x .block) (stamp clock j)) (x .epoch) a))
 
+    -- by the operation, and by its block: this one or another
     start-as : x .clock < clock → (a : Action) → front x .action ≡ a → isReading a && not (copy among holdersOf t x) ≡ false → (front x .block ≡ b) ⊎ (front x .block ≡ b → ⊥)
         → Next b h t [] Outcome.None (after a)
     start-as lt (Action.Write v) ea ok (inl eb) = record {
@@ -211,6 +225,7 @@ module _ (b : ℕ) (h : Hist) (t : Table) (f : Formed t) (s : Shape t) (lb : isB
         far-opening Action.Read c = far
         far-opening (Action.Write v) c = far
 
+    -- start
     pub ev-start : (free messages : ℕ) → codeOf (startRefusals x clock copy (holdersOf t x) free messages) ≡ 0 → Next b h t [] Outcome.None (after (front x .action))
     unfolding every
     ev-start free messages e =
@@ -219,9 +234,11 @@ module _ (b : ℕ) (h : Hist) (t : Table) (f : Formed t) (s : Shape t) (lb : isB
 
   -- ---- finish
 
+  -- the outcome of a finish
   abbrev outcomeOf : Action → Bool → Outcome
   outcomeOf a o = cond o (doneAs j (front x) a (x .attempt .result)) (cond (x .attempt .restart) Outcome.None (failedAs j (front x) a))
 
+  -- the table after it
   abbrev closed : Action → Bool → Table
   closed a o = withPlaces (withHost t j (finished x))
       (sentToEach (t .places) (closingTo a (holdersOf t x)) (λ c. closing o (headed j c (front x .block) (x .attempt .timestamp)) (x .epoch)))
@@ -231,22 +248,27 @@ module _ (b : ℕ) (h : Hist) (t : Table) (f : Formed t) (s : Shape t) (lb : isB
     pub lists : byHost b t o ≡ []
     pub reads : (k v : ℕ) → o ≡ Outcome.ReadDone k b v → ⊥
 
+  -- a restart and a failure
   failing : (r : Bool) (a : Action) → Idle (cond r Outcome.None (failedAs j (front x) a))
   failing true a = record { lists = refl; reads = λ k v q. none-done k b v q }
   failing false Action.Read = record { lists = refl; reads = λ k v q. let z : _≡_ {A = ℕ} 0 1 = cc in omega arith }
   failing false (Action.Write w) = record { lists = refl; reads = λ k v q. let z : _≡_ {A = ℕ} 0 1 = cc in omega arith }
 
+  -- done, at another block
   far-done : (a : Action) → (front x .block ≡ b → ⊥) → Idle (doneAs j (front x) a (x .attempt .result))
   far-done Action.Read far = record { lists = refl; reads = λ k v q. far cc }
   far-done (Action.Write w) far = record { lists = rw (ne-eqb (front x .block) b far) refl; reads = λ k v q. let z : _≡_ {A = ℕ} 0 1 = cc in omega arith }
 
+  -- such an outcome with a good table
   idly : (o : Outcome) (t′ : Table) → Idle o → Good b h t′ → Next b h t (byHost b t o) o t′
   idly o t′ e g = record { hist = h; good = g; listed = rw (e .lists) refl; kept = λ u v z. z; done = λ k v q. absurd (e .reads k v q) }
 
   module _ (pos : 0 < x .attempt .timestamp .0) (out : isEmpty (x .attempt .outstanding) ≡ true) where
+    -- where the host is left
     left : (seatOf (finished x) .ts ≡ 0) × (seatOf (finished x) .clock ≡ x .clock) × (seatOf (finished x) .known ≡ x .epoch .0)
     left = finished-seat x
 
+    -- what it knows
     knows : seatOf (finished x) .known ≤ t .epoch .0
     knows = let z = i .known j in omega (arith, left .2)
 
@@ -271,9 +293,11 @@ module _ (b : ℕ) (h : Hist) (t : Table) (f : Formed t) (s : Shape t) (lb : isB
         far-closing true c = far
         far-closing false c = far
 
+    -- it is at a write of block b
     hasW : (v : ℕ) → front x .action ≡ Action.Write v → front x .block ≡ b → HasW b (seatsOf t j) (x .attempt .timestamp .0)
     hasW v ea eb = record { stamp = refl; pos = pos; write = rw ea refl; block = eb }
 
+    -- by the operation, whether it is okay, and its block
     finish-as : (a : Action) → front x .action ≡ a → (o : Bool) → x .attempt .okay ≡ o → (front x .block ≡ b) ⊎ (front x .block ≡ b → ⊥)
         → Next b h t (byHost b t (outcomeOf a o)) (outcomeOf a o) (closed a o)
     finish-as (Action.Write v) ea true eo (inl eb) = record {
@@ -309,6 +333,7 @@ module _ (b : ℕ) (h : Hist) (t : Table) (f : Formed t) (s : Shape t) (lb : isB
     finish-as Action.Read ea true eo (inr far) = idly (outcomeOf Action.Read true) _ (far-done Action.Read far) (finish-other Action.Read true (read-net true))
     finish-as Action.Read ea false eo d = idly (outcomeOf Action.Read false) _ (failing (x .attempt .restart) Action.Read) (finish-other Action.Read false (read-net false))
 
+  -- finish
   pub ev-finish : (free messages : ℕ) → codeOf (finishRefusals x free messages) ≡ 0 → Next b h t (byHost b t (finishOutcome j x)) (finishOutcome j x) (closed (front x .action) (x .attempt .okay))
   unfolding every finishOutcome
   ev-finish free messages e =

@@ -34,23 +34,29 @@ use Rattle.one_copy.proofs.Good.{In, Good, good-host, good-record, good
 use Rattle.one_copy.proofs.EvHost.{front-same, same-host, sour-host}
 use Rattle.one_copy.proofs.EvChunk.{Plain, net-replied}
 
+-- neither is
 or-false : (a b : Bool) → a || b ≡ false → (a ≡ false) × (b ≡ false)
 or-false true b e = absurd (true≢false e)
 or-false false b e = (refl, e)
 
 module _ (b : ℕ) (h : Hist) (t : Table) (f : Formed t) (s : Shape t) (lb : isBlock (t .creation) b ≡ true) (i : Good b h t) (p : ℕ) (lp : p < placeLimit) where
+  -- the network without the message
   abbrev n1 : List Place
   n1 = removed (t .places) p
 
+  -- the chunks of the set
   abbrev S : ℕ → Type 0
   S = In (t .creation) b
 
+  -- this block's place
   place-b : b < blockLimit
   place-b = block-place (t .creation) b lb (f .creation)
 
+  -- what is in flight then was
   taken : (P : Message → Type 0) → Sent n1 P → Sent (t .places) P
   taken P z = sent-taken P (t .places) p z
 
+  -- of block b too
   less1 : NetLe b n1 (t .places)
   less1 = net-less b n1 (t .places) taken
 
@@ -61,21 +67,27 @@ module _ (b : ℕ) (h : Hist) (t : Table) (f : Formed t) (s : Shape t) (lb : isB
   -- ---- at a chunk
 
   module _ (m : Message) (e : slotOf (t .places) p ≡ Slot.Full m) where
+    -- the message is formed
     facts : FormedMessage (t .creation) m
     facts = message-facts (t .creation) m (rw e at (f .places p lp))
 
+    -- its header
     abbrev hd : Header
     hd = headerOf m
 
+    -- its chunk
     abbrev c : ℕ
     c = hd .chunk
 
+    -- the chunk's place
     place-c : c < chunkLimit
     place-c = chunk-place (t .creation) c (facts .header .chunk) (f .creation)
 
+    -- its block's place
     place-d : hd .block < blockLimit
     place-d = ltb-true (hd .block) blockLimit (facts .header .block)
 
+    -- what the arrival leaves is good
     abbrev Took : Arrived → Type 0
     Took a = Good b h (withPlaces (withRecord t c (hd .block) (a .block)) (replied n1 (a .reply)))
 
@@ -84,6 +96,7 @@ module _ (b : ℕ) (h : Hist) (t : Table) (f : Formed t) (s : Shape t) (lb : isB
     far a q n = good-far b h t s c (hd .block) (a .block) _ place-b place-d n
         (net-only S b h (t .epoch .0) (seatsOf t) (partOf t b) (t .places) i _ (net-replied b n1 (t .places) taken (a .reply) q))
 
+    -- the record as it was
     as-was : (reply : Slot) → Plain b reply → Took (record { block = recordOf t c (hd .block); reply = reply })
     as-was reply q = elim (eq-or-ne (hd .block) b) [
       | inl db ↦ subst⁻¹ (λ (d : ℕ). Good b h (withPlaces (withRecord t c d (recordOf t c d)) (replied n1 reply))) db
@@ -112,9 +125,11 @@ module _ (b : ℕ) (h : Hist) (t : Table) (f : Formed t) (s : Shape t) (lb : isB
     took-arrived k kind g = arrived-walk Took (t .creation .blocks) (chunkOf t c .epoch) (recordOf t c (hd .block)) hd k kind
         (as-was (Slot.Full (Message.Mismatch hd)) (plain-mismatch b hd)) (as-was (Slot.Full (Message.Error hd)) (plain-error b hd)) (as-was (Slot.Full (Message.OutOfOrder hd)) (plain-order b hd)) (as-was (Slot.Full (Message.Busy hd)) (plain-busy b hd)) g
 
+    -- the chunk's epoch is the store's
     one-epoch : chunkOf t c .epoch .0 ≡ t .epoch .0
     one-epoch = eqb-true (chunkOf t c .epoch .0) (t .epoch .0) (chunk-facts (t .creation) (t .epoch) (chunkOf t c) (chunk-of t f c (facts .header .chunk)) .epoch)
 
+    -- a read waits
     read-waits : (k : Epoch) → isNormal (chunkOf t c .state) ≡ true → (hd .block ≡ b → Sent (t .places) (ofRead b c (hd .timestamp .0)))
         → Passed (t .creation .blocks) (chunkOf t c .epoch) (recordOf t c (hd .block)) hd k Kind.Read → Took (waits (recordOf t c (hd .block)) hd k Kind.Read)
     unfolding replied
@@ -126,6 +141,7 @@ module _ (b : ℕ) (h : Hist) (t : Table) (f : Formed t) (s : Shape t) (lb : isB
       | inr n ↦ far (waits (recordOf t c (hd .block)) hd k Kind.Read) tt n
     ]
 
+    -- a prewrite waits and is answered
     write-waits : (k : Epoch) (v : ℕ) → isNormal (chunkOf t c .state) ≡ true → (hd .block ≡ b → Sent (t .places) (ofPre b c (hd .timestamp .0) (k .0) v))
         → Passed (t .creation .blocks) (chunkOf t c .epoch) (recordOf t c (hd .block)) hd k (Kind.Undecided v) → Took (waits (recordOf t c (hd .block)) hd k (Kind.Undecided v))
     unfolding replied
@@ -141,6 +157,7 @@ module _ (b : ℕ) (h : Hist) (t : Table) (f : Formed t) (s : Shape t) (lb : isB
       | inr n ↦ far (waits (recordOf t c (hd .block)) hd k (Kind.Undecided v)) (far-message b (Message.PrewriteReply hd) n) n
     ]
 
+  -- a message at a chunk, by its kind
   took-at : (m : Message) (e : slotOf (t .places) p ≡ Slot.Full m) → isNormal (chunkOf t (headerOf m .chunk) .state) ≡ true
       → Took m e (atChunk (t .creation .blocks) (chunkOf t (headerOf m .chunk) .epoch) (recordOf t (headerOf m .chunk) (headerOf m .block)) m)
   unfolding atChunk
@@ -165,6 +182,7 @@ module _ (b : ℕ) (h : Hist) (t : Table) (f : Formed t) (s : Shape t) (lb : isB
         sym ((hm u (front (hostOf t j) .block) (inl (j, record { stamp = refl; pos = pos; block = refl }))) .1)
         ∙ (hm u (headerOf m .block) (inr (inl (sent-at (ofBoth (headerOf m .block) u) (t .places) p m e (refl, et))))) .1
 
+    -- a host's change that says nothing new
     abbrev QuietTo : ℕ → Host → Type 0
     QuietTo j y = Quiet S b (t .places) (t .epoch .0) (seatsOf t j) (seatOf y)
 
@@ -225,6 +243,7 @@ module _ (b : ℕ) (h : Hist) (t : Table) (f : Formed t) (s : Shape t) (lb : isB
           known = i .known j;
         }
 
+    -- a reply at a host
     host-takes : (m : Message) → slotOf (t .places) p ≡ Slot.Full m → Good b h (hostTakes (withPlaces t n1) (headerOf m) m)
     unfolding atHost
     host-takes m e = walk (Good b h) (hostOf t j .working) _ _
@@ -235,10 +254,12 @@ module _ (b : ℕ) (h : Hist) (t : Table) (f : Formed t) (s : Shape t) (lb : isB
         j : ℕ
         j = headerOf m .host
 
+    -- deliver
     pub ev-deliver : (m : Message) → slotOf (t .places) p ≡ Slot.Full m → Next b h t [] Outcome.None (takes (withPlaces t n1) (Slot.Full m))
     ev-deliver m e = quietly b h t _ (walk (Good b h) (isForChunk m) _ _
         (λ _. walk (Good b h) (isNormal (chunkOf t (headerOf m .chunk) .state)) _ _ (took-at m e) (λ _. gone))
         (λ _. host-takes m e))
 
+  -- drop
   pub ev-drop : Next b h t [] Outcome.None (withPlaces t n1)
   ev-drop = quietly b h t _ gone

@@ -18,15 +18,19 @@ pub record Sub (F′ F : Flow) : Type 0 where
   pub abtm : (t : ℕ) → F′ .abtm t → F .abtm t
   pub seen : (t x : ℕ) → F′ .seen t x → F .seen t x
 
+-- chunk c has answered t
 abbrev pub acked : Flow → ℕ → ℕ → Flow
 acked F t c = record { cur = F .cur; act = F .act; ack = λ u d. F .ack u d ⊎ ((u ≡ t) × (d ≡ c)); pre = F .pre; rdm = F .rdm; comm = F .comm; abtm = F .abtm; seen = F .seen }
 
+-- t waits, undecided
 abbrev pub queued : Cell → ℕ → ℕ → Cell
 queued k t v = record { wr = k .wr; rd = k .rd; val = k .val; lost = k .lost; w = λ u x m. k .w u x m ⊎ ((u ≡ t) × (x ≡ v) × (m ≡ und)); r = k .r }
 
+-- read t got x
 abbrev pub answered : Flow → ℕ → ℕ → Flow
 answered F t x = record { cur = F .cur; act = F .act; ack = F .ack; pre = F .pre; rdm = F .rdm; comm = F .comm; abtm = F .abtm; seen = λ u y. F .seen u y ⊎ ((u ≡ t) × (y ≡ x)) }
 
+-- the last read is raised, a read has gone
 abbrev pub readAt : Cell → ℕ → (ℕ → Type 0) → Cell
 readAt k rd′ r′ = record { wr = k .wr; rd = rd′; val = k .val; lost = k .lost; w = k .w; r = r′ }
 
@@ -47,6 +51,7 @@ reflow B F F′ c k i sub p = record {
 }
 
 module _ (S : ℕ → Type 0) (B : Book) (F : Flow) (cell : ℕ → Cell) (i : Inv S B F cell) where
+  -- what hosts and the network hold becomes less
   pub shrink : (F′ : Flow) → Sub F′ F → Inv S B F′ cell
   shrink F′ s = let g = i .glob in record {
     glob = record {

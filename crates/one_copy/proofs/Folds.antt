@@ -15,9 +15,11 @@ use Rattle.one_copy.proofs.Lists.{Any}
 -- ---- the one with the greatest key, from s on
 
 module _ {A : Type 0} (key : A → ℕ) where
+  -- the second where its key is greater
   abbrev pub upper : A → A → A
   upper x y = cond (ltb (key x) (key y)) y x
 
+  -- it is not below the first
   upper-left : (x y : A) → key x ≤ key (upper x y)
   upper-left x y = go (ltb (key x) (key y)) refl
     where
@@ -25,6 +27,7 @@ module _ {A : Type 0} (key : A → ℕ) where
       go true e = let z = ltb-true (key x) (key y) e in omega arith
       go false e = omega arith
 
+  -- nor below the second
   upper-right : (x y : A) → key y ≤ key (upper x y)
   upper-right x y = go (ltb (key x) (key y)) refl
     where
@@ -32,6 +35,7 @@ module _ {A : Type 0} (key : A → ℕ) where
       go true e = omega arith
       go false e = ltb-false (key x) (key y) e
 
+  -- and is one of them
   upper-one : (x y : A) → (upper x y ≡ x) ⊎ (upper x y ≡ y)
   upper-one x y = go (ltb (key x) (key y))
     where
@@ -39,17 +43,20 @@ module _ {A : Type 0} (key : A → ℕ) where
       go true = inr refl
       go false = inl refl
 
+  -- the greatest is not below s
   pub top-up : (s : A) (l : List A) → key s ≤ key (fold upper s l)
   unfolding fold
   top-up s [] = omega arith
   top-up s (x ∷ xs) = let z = top-up (upper s x) xs in let y = upper-left s x in omega arith
 
+  -- nor below any of the list
   pub top-all : (s : A) (l : List A) (k : ℕ) → Any (λ x. key x ≡ k) l → k ≤ key (fold upper s l)
   unfolding fold
   top-all s [] k h = absurd h
   top-all s (x ∷ xs) k (inl h) = let z = top-up (upper s x) xs in let y = upper-right s x in omega arith
   top-all s (x ∷ xs) k (inr h) = top-all (upper s x) xs k h
 
+  -- and is s or one of the list
   pub top-is : (s : A) (l : List A) → (fold upper s l ≡ s) ⊎ Any (λ x. x ≡ fold upper s l) l
   unfolding fold
   top-is s [] = inl refl
@@ -57,6 +64,7 @@ module _ {A : Type 0} (key : A → ℕ) where
 
 -- ---- the first that is p
 
+-- where one is p, the first is, and it is in the list
 pub place-at : {A : Type 0} (p : A → Bool) (l : List A) (d : A) → Any (λ x. p x ≡ true) l → (place p l < length l) × (p (getD l (place p l) d) ≡ true)
 unfolding place
 place-at p [] d h = absurd h
@@ -71,6 +79,7 @@ place-at p (x ∷ xs) d h = go (p x) refl h (place-at p xs d)
 -- ---- every of those
 
 module _ {A : Type 0} (q p : A → Bool) where
+  -- one of those is q
   pub those-at : (l : List A) (i : ℕ) (d : A) → every q (those p l) ≡ true → i < length l → p (getD l i d) ≡ true → q (getD l i d) ≡ true
   unfolding every those
   those-at [] i d h k e = absurd (omega arith)
@@ -81,6 +90,7 @@ module _ {A : Type 0} (q p : A → Bool) where
       go true z g = g (both (q x) (every q (those p xs)) z .1)
       go false z g = g z
 
+  -- the way back
   pub those-of : (l : List A) (d : A) → ((i : ℕ) → i < length l → p (getD l i d) ≡ true → q (getD l i d) ≡ true) → every q (those p l) ≡ true
   unfolding every those
   those-of [] d h = refl
@@ -90,6 +100,7 @@ module _ {A : Type 0} (q p : A → Bool) where
       go true g z = and-true (q x) (every q (those p xs)) (g refl) z
       go false g z = z
 
+  -- where not every one is q, one of those is not
   pub those-not : (l : List A) (d : A) → every q (those p l) ≡ false → (i : ℕ) × (i < length l) × (p (getD l i d) ≡ true) × (q (getD l i d) ≡ false)
   unfolding every those
   those-not [] d h = absurd (true≢false h)

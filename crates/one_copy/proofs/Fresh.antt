@@ -28,6 +28,7 @@ noHist = record { kind = λ _. idle; value = λ _. 0; ae = λ _. 0; listed = [];
 
 -- ---- what holds of the parts of a kind holds of each
 
+-- an array of a and z
 filled-by : {A : Type 0} (P : A → Type 0) (x : ℕ → Bool) (a z d : A) (n : ℕ) → P a → P z → P d → (j : ℕ) → P (getD (each (λ j. cond (x j) a z) (numbers n)) j d)
 filled-by P x a z d n pa pz pd j = elim (le-or-lt n j) [
   | inl l ↦ subst⁻¹ P (List·getD-eq-default (each (λ j. cond (x j) a z) (numbers n)) d (omega (arith, each-length (λ j. cond (x j) a z) (numbers n), numbers-length n))) pd
@@ -38,45 +39,56 @@ filled-by P x a z d n pa pz pd j = elim (le-or-lt n j) [
     go true = pa
     go false = pz
 
+-- an array of one element
 replicated : {A : Type 0} (P : A → Type 0) (n : ℕ) (a d : A) → P a → P d → (j : ℕ) → P (getD (replicate n a) j d)
 replicated P zero a d p q j = q
 replicated P (suc n) a d p q zero = p
 replicated P (suc n) a d p q (suc j) = replicated P n a d p q j
 
+-- an empty network
 none-sent : (n : ℕ) (P : Message → Type 0) → Sent (replicate n zeroPlace) P → ⊥
 none-sent zero P h = h
 none-sent (suc n) P h = elim h [ inl z ↦ z | inr z ↦ none-sent n P z ]
 
 module _ (k : Creation) where
+  -- a host is a fresh one, zero, or beyond the array
   hosts-are : (P : Host → Type 0) → P freshHost → P zeroHost → P noHost → (j : ℕ) → P (hostOf (fresh k) j)
   unfolding fresh
   hosts-are P p q r = filled-by P (isHost k) freshHost zeroHost noHost hostLimit p q r
 
+  -- a chunk
   chunks-are : (P : Chunk → Type 0) → P freshChunk → P zeroChunk → P noChunk → (c : ℕ) → P (chunkOf (fresh k) c)
   unfolding fresh
   chunks-are P p q r = filled-by P (isChunk k) freshChunk zeroChunk noChunk chunkLimit p q r
 
+  -- a record
   records-are : (P : Record → Type 0) → P zeroRecord → P noRecord → (c b : ℕ) → P (recordOf (fresh k) c b)
   unfolding fresh
   records-are P p q c b = replicated P (chunkLimit * blockLimit) zeroRecord noRecord p q (c * blockLimit + b)
 
+  -- nothing is in flight
   nothing-sent : (P : Message → Type 0) → Sent (fresh k .places) P → ⊥
   unfolding fresh
   nothing-sent P z = none-sent placeLimit P z
 
+  -- no host is at work
   idle-host : (j : ℕ) → hostOf (fresh k) j .attempt .timestamp .0 ≡ 0
   idle-host = hosts-are (λ x. x .attempt .timestamp .0 ≡ 0) refl refl refl
 
+  -- nothing waits
   no-entry : (c b : ℕ) (P : Entry → Type 0) → Any P (inOrder (recordOf (fresh k) c b .waiting)) → ⊥
   no-entry c b P = records-are (λ r. Any P (inOrder (r .waiting)) → ⊥) (λ z. z) (λ z. z) c b
 
   module _ (b : ℕ) where
+    -- no write
     no-w : (j u : ℕ) → HasW b (seatsOf (fresh k) j) u → ⊥
     no-w j u z = omega (arith, z .stamp, z .pos, idle-host j)
 
+    -- no read
     no-r : (j u v : ℕ) → HasR b (seatsOf (fresh k) j) u v → ⊥
     no-r j u v z = omega (arith, z .stamp, z .pos, idle-host j)
 
+    -- the invariant holds, of nothing
     pub fresh-good : Good b noHist (fresh k)
     fresh-good = record {
       inv = record {
@@ -122,6 +134,7 @@ module _ (k : Creation) where
         early : (n : ℕ) → 0 ≤ n
         early n = omega arith
 
+  -- nothing is mentioned
   pub fresh-homes : Homes (λ _. 0) (fresh k)
   fresh-homes u d = elim [
     | inl z ↦ absurd (omega (arith, z .1 .stamp, z .1 .pos, idle-host (z .0)))

@@ -29,17 +29,21 @@ abbrev pub In : Creation → (block chunk : ℕ) → Type 0
 In k b c = (isChunk k c ≡ true) × (c among setOf k b ≡ true)
 
 module _ (b : ℕ) where
+  -- the invariant of table t with history h
   abbrev pub Good : Hist → Table → Type 0
   Good h t = CInv (In (t .creation) b) b h (t .epoch .0) (seatsOf t) (partOf t b) (t .places)
 
 -- a block's chunks are the store's, and there is one
 module _ (t : Table) (f : Formed t) (b : ℕ) (lb : isBlock (t .creation) b ≡ true) where
+  -- a chunk of the set has a place
   pub inside : (c : ℕ) → In (t .creation) b c → c < chunkLimit
   inside c m = chunk-place (t .creation) c (m .0) (f .creation)
 
+  -- a block has one
   pub small : b < blockLimit
   small = block-place (t .creation) b lb (f .creation)
 
+  -- some chunk is in the set
   pub holder : (c : ℕ) × In (t .creation) b c
   holder =
       let k = t .creation in
@@ -49,13 +53,16 @@ module _ (t : Table) (f : Formed t) (b : ℕ) (lb : isBlock (t .creation) b ≡ 
 
 -- reading an updated table
 module _ (b : ℕ) (h : Hist) (t : Table) (s : Shape t) where
+  -- the invariant with other hosts, parts and messages
   abbrev Views : (ℕ → Seat) → (ℕ → Part) → List Place → Type 0
   Views hs ps n = CInv (In (t .creation) b) b h (t .epoch .0) hs ps n
 
+  -- host j changed
   pub good-host : (j : ℕ) (x : Host) (n : List Place) → j < hostLimit → Views (at j (seatOf x) (seatsOf t)) (partOf t b) n → Good b h (withPlaces (withHost t j x) n)
   good-host j x n l i = subst⁻¹ (λ (g : ℕ → Seat). Views g (partOf t b) n)
       (fun-ext (λ a. ap seatOf (getD-set (t .hosts) j x noHost (omega (arith, s .hosts)) a)) ∙ at-map seatOf j x (hostOf t)) i
 
+  -- chunk c changed, its records as they were
   pub good-chunk : (c : ℕ) (x : Chunk) (n : List Place) → c < chunkLimit → Views (seatsOf t) (at c (partWith x (recordOf t c b)) (partOf t b)) n → Good b h (withPlaces (withChunk t c x) n)
   good-chunk c x n l i = subst⁻¹ (λ (g : ℕ → Part). Views (seatsOf t) g n)
       (fun-ext (λ a. ap (λ (y : Chunk). partWith y (recordOf t a b)) (getD-set (t .chunks) c x noChunk (omega (arith, s .chunks)) a))
@@ -63,6 +70,7 @@ module _ (b : ℕ) (h : Hist) (t : Table) (s : Shape t) where
 
   -- the records of this block, read
   module _ (f : List Record) (g : ℕ → Record) (e : (a : ℕ) → getD f (a * blockLimit + b) noRecord ≡ g a) where
+    -- with any messages
     pub good-records : (n : List Place) → Views (seatsOf t) (λ a. partWith (chunkOf t a) (g a)) n → Good b h (withPlaces (withRecords t f) n)
     good-records n i = subst⁻¹ (λ (g : ℕ → Part). Views (seatsOf t) g n) (fun-ext (λ a. ap (partWith (chunkOf t a)) (e a))) i
 

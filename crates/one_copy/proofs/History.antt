@@ -14,11 +14,13 @@ use Rattle.one_copy.proofs.Steps.{Whole, Stepped, step-kept}
 
 -- ---- one list of events after another
 
+-- the table
 after-append : (t : Table) (es fs : List Event) → after t (es ++ fs) ≡ after (after t es) fs
 unfolding after
 after-append t [] fs = refl
 after-append t (e ∷ es) fs = after-append (step t e .table) es fs
 
+-- the list
 pub listed-append : (b : ℕ) (t : Table) (es fs : List Event) → listed b t (es ++ fs) ≡ listed b t es ++ listed b (after t es) fs
 unfolding after listed
 listed-append b t [] fs = refl
@@ -73,6 +75,7 @@ module _ (b : ℕ) where
   pub block-after : (h : Hist) (t : Table) (e : Event) → isBlock (t .creation) b ≡ true → (s : Stepped b h t e (step t e)) → isBlock (step t e .table .creation) b ≡ true
   block-after h t e lb s = subst⁻¹ (λ (k : Creation). isBlock k b ≡ true) (s .creation) lb
 
+  -- every list of events
   pub run : (es : List Event) (h : Hist) (blk : ℕ → ℕ) (t : Table) → isBlock (t .creation) b ≡ true → Whole b h blk t → (hist : Hist) × Run b h t es hist
   run [] h blk t lb i = (h, ends h blk t i)
   run (e ∷ es) h blk t lb i =

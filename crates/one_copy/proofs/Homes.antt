@@ -44,12 +44,15 @@ pub record Less (t′ t : Table) : Type 0 where
 -- ---- a table with one part changed
 
 module _ (t : Table) where
+  -- n mentions nothing new
   abbrev pub NetOk : List Place → Type 0
   NetOk n = (u d : ℕ) → Sent n (ofBoth d u) → Mention t u d
 
+  -- the same messages
   pub same-net : NetOk (t .places)
   same-net u d z = inr (inl z)
 
+  -- other messages
   pub less-places : (n : List Place) → NetOk n → Less (withPlaces t n) t
   less-places n ok = record {
     ment = λ u d. elim [ inl z ↦ inl z | inr z ↦ elim z [ inl q ↦ ok u d q | inr q ↦ inr (inr q) ] ];
@@ -57,6 +60,7 @@ module _ (t : Table) where
     shape = λ s. shape-places t s n;
   }
 
+  -- host j changed
   pub less-host : (j : ℕ) (y : Host) (n : List Place) → ((u d : ℕ) → HostAt y u d → Mention t u d) → hostOf t j .clock ≤ y .clock
       → (Shape t → length (y .queue .operations) ≡ operationLimit) → NetOk n → Less (withPlaces (withHost t j y) n) t
   less-host j y n f up len ok = record {
@@ -71,9 +75,11 @@ module _ (t : Table) where
     shape = λ s. shape-places (withHost t j y) (shape-host t s j y (len s)) n;
   }
 
+  -- a chunk changed, without its records
   pub less-chunk : (c : ℕ) (x : Chunk) → Less (withChunk t c x) t
   less-chunk c x = record { ment = λ u d z. z; clocks = λ j. omega arith; shape = λ s. shape-chunk t s c x }
 
+  -- a record changed
   pub less-record : (c d : ℕ) (r : Record) (n : List Place) → d < blockLimit → ((u : ℕ) → Any (atTs u) (inOrder (r .waiting)) → Mention t u d)
       → (Shape t → length (r .waiting .entries) ≡ waitingLimit) → NetOk n → Less (withPlaces (withRecord t c d r) n) t
   less-record c d r n l f len ok = record {
@@ -95,6 +101,7 @@ module _ (t : Table) where
   pub one-ok : (m : Message) (n : List Place) → NetOk n → ((u d : ℕ) → ofBoth d u m → Mention t u d) → NetOk (sent n m)
   one-ok m n ok f u d z = elim (sent-one (ofBoth d u) m n z) [ inl q ↦ ok u d q | inr q ↦ f u d q ]
 
+  -- to each chunk of a set
   pub each-ok : (f : ℕ → Message) (to : Set) (n : List Place) → NetOk n → ((a u d : ℕ) → ofBoth d u (f a) → Mention t u d) → NetOk (sentToEach n to f)
   each-ok f to n ok g u d z = elim (sent-each (ofBoth d u) f to n z) [ inl q ↦ ok u d q | inr q ↦ g (q .0) u d (q .3) ]
 
@@ -111,26 +118,31 @@ module _ (t : Table) where
     },
   )
 
+  -- .. or is at rest
   pub rested : (y : Host) → y .attempt .timestamp .0 ≡ 0 → (u d : ℕ) → HostAt y u d → Mention t u d
   rested y e u d z = absurd (omega (arith, e, z .stamp, z .pos))
 
 -- ---- the block of each timestamp that was drawn
 
+-- each mention is of the block under which the timestamp was drawn
 abbrev pub Homes : (ℕ → ℕ) → Table → Type 0
 Homes blk t = (u d : ℕ) → Mention t u d → Drawn (seatsOf t) u × (blk u ≡ d)
 
+-- nothing new is mentioned: it holds still
 pub still : (blk : ℕ → ℕ) (t t′ : Table) → Homes blk t → Less t′ t → Homes blk t′
 still blk t t′ h l u d m = let z = h u d (l .ment u d m) in let w = z .0 in
     (record { by = w .by; clock = w .clock; isT = w .isT; small = w .small; past = (let a = l .clocks (w .by) in let b = w .past in omega arith) }, z .1)
 
 -- a start under a new timestamp
 module _ (blk : ℕ → ℕ) (t : Table) (s : Shape t) (h : Homes blk t) (j k : ℕ) (small : j < hostLimit) (later : hostOf t j .clock < k) where
+  -- the new timestamp was not drawn
   undrawn : Drawn (seatsOf t) (stamp k j .0) → ⊥
   undrawn d =
       let e : d .by ≡ j = (let z = d .isT in let y = d .small in omega arith) in
       let f : hostOf t (d .by) .clock ≡ hostOf t j .clock = ap (λ (a : ℕ). hostOf t a .clock) e in
       let z = d .isT in let y = d .past in omega arith
 
+  -- the host and its messages mention it with block b
   pub begins-home : (y : Host) (n : List Place) (b : ℕ) → y .attempt .timestamp .0 ≡ stamp k j .0 → front y .block ≡ b → y .clock ≡ k
       → ((u d : ℕ) → Sent n (ofBoth d u) → Sent (t .places) (ofBoth d u) ⊎ ((b ≡ d) × (stamp k j .0 ≡ u)))
       → Homes (at (stamp k j .0) b blk) (withPlaces (withHost t j y) n)

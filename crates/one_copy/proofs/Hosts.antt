@@ -22,15 +22,19 @@ use Rattle.one_copy.proofs.Lists.{Any, any-map}
 use Rattle.one_copy.proofs.Net.{Sent, ofRead, ofPre, ofCommit, ofAbort, ofValue, ofAck}
 use Rattle.one_copy.proofs.View.{Hist, Part, Seat, isIt, isTs, cellOf, book, HasW, HasR, flow, NetLe, Drawn, Stamped, CInv, quiet}
 
+-- K is begun under t
 abbrev pub begins : Hist → ℕ → Began → ℕ → ℕ → Hist
 begins h t K v e = record { kind = at t K (h .kind); value = at t v (h .value); ae = at t e (h .ae); listed = h .listed; reads = h .reads }
 
+-- writes are listed
 abbrev pub lists : Hist → List Write → Hist
 lists h ws = record { kind = h .kind; value = h .value; ae = h .ae; listed = ws ++ h .listed; reads = h .reads }
 
+-- a read is answered
 abbrev pub answers : Hist → Write → Hist
 answers h w = record { kind = h .kind; value = h .value; ae = h .ae; listed = h .listed; reads = w ∷ h .reads }
 
+-- a listed write is listed under its timestamp
 pub ofIt : (t v : ℕ) (l : List Write) → Any (isIt t v) l → Any (isTs t) l
 ofIt t v l q = any-map (isIt t v) (isTs t) (λ w z. z .0) l q
 
@@ -50,13 +54,16 @@ module _ (S : ℕ → Type 0) (inside : (c : ℕ) → S c → c < chunkLimit) (b
           let z = d .isT in let y = d .past in omega arith)
     ]
 
+    -- it is not 0
     pub nonzero : stamp k j .0 ≡ 0 → ⊥
     nonzero e = omega arith
 
     module _ (y : Seat) (yc : y .clock ≡ k) (yt : y .ts ≡ stamp k j .0) (yk : y .known ≤ ep) where
+      -- clocks do not fall
       up : (d a : ℕ) → d ≤ (hs a) .clock → d ≤ (at j y hs a) .clock
       up d = at-all (λ a x. d ≤ (hs a) .clock → d ≤ x .clock) j y hs (λ e. omega arith) (λ a _ e. e)
 
+      -- what is drawn is drawn
       pub draws : (K : Began) (v e : ℕ) (t : ℕ) → ((begins h (stamp k j .0) K v e) .kind t ≡ idle) ⊎ Drawn (at j y hs) t
       draws K v e t = elim (eq-or-ne t (stamp k j .0)) [
         | inl q ↦ inr (record { by = j; clock = k; isT = q; small = small; past = rw (at-same j y hs) (omega arith) })
@@ -66,9 +73,11 @@ module _ (S : ℕ → Type 0) (inside : (c : ℕ) → S c → c < chunkLimit) (b
         ]
       ]
 
+      -- each host's timestamp is its own
       pub stampsTo : (a : ℕ) → Stamped a (at j y hs a)
       stampsTo = at-all Stamped j y hs (inr (rw (yc, yt) refl, small)) (λ a _. i .stamps a)
 
+      -- no host knows a later epoch
       pub knows : (a : ℕ) → (at j y hs a) .known ≤ ep
       knows = at-all (λ a x. x .known ≤ ep) j y hs yk (λ a _. i .known a)
 
@@ -108,6 +117,7 @@ module _ (S : ℕ → Type 0) (inside : (c : ℕ) → S c → c < chunkLimit) (b
           hasW : (t : ℕ) → (a : ℕ) × HasW b (at j y hs a) t → (a : ℕ) × HasW b (hs a) t
           hasW t z = elim (at-split (λ x. HasW b x t) j y hs (z .0) (z .1)) [ inl p ↦ absurd (far (p .1 .block)) | inr p ↦ (z .0, p .1) ]
 
+      -- a write of block b starts
       pub begin-write : (n′ : List Place) (e : Epoch) → ((P : Message → Type 0) → Sent n′ P → Sent n P ⊎ ((d : ℕ) × P (Message.Prewrite (headed j d b (stamp k j)) e (y .value))))
           → e .0 ≤ ep → y .write ≡ true → y .block ≡ b → ((c : ℕ) → S c → c among y .out ≡ true) → (s : ℕ) → S s
           → CInv S b (begins h (stamp k j .0) writeK (y .value) (e .0)) ep (at j y hs) ps n′
@@ -149,6 +159,7 @@ module _ (S : ℕ → Type 0) (inside : (c : ℕ) → S c → c < chunkLimit) (b
           h′ : Hist
           h′ = begins h (stamp k j .0) writeK (y .value) (e .0)
 
+      -- a read of block b starts at a copy
       pub begin-read : (n′ : List Place) (c : ℕ) (e : Epoch) (v : ℕ) → ((P : Message → Type 0) → Sent n′ P → Sent n P ⊎ P (Message.Read (headed j c b (stamp k j)) e))
           → y .write ≡ false → c among y .out ≡ true → S c
           → CInv S b (begins h (stamp k j .0) readK v (e .0)) ep (at j y hs) ps n′
@@ -192,12 +203,15 @@ module _ (S : ℕ → Type 0) (inside : (c : ℕ) → S c → c < chunkLimit) (b
 
   -- the end of an attempt: the host is left with none
   module _ (j : ℕ) (y : Seat) (yt : y .ts ≡ 0) (yc : y .clock ≡ (hs j) .clock) (yk : y .known ≤ ep) where
+    -- it has no write
     idleW : {A : Type 0} (t : ℕ) → HasW b y t → A
     idleW t z = absurd (let p = z .stamp in let q = z .pos in omega arith)
 
+    -- and no read
     idleR : {A : Type 0} (t v : ℕ) → HasR b y t v → A
     idleR t v z = absurd (let p = z .stamp in let q = z .pos in omega arith)
 
+    -- what is drawn stays
     ends-drawn : (t : ℕ) → (h .kind t ≡ idle) ⊎ Drawn (at j y hs) t
     ends-drawn t = elim (i .drawn t) [
       | inl e ↦ inl e
@@ -210,27 +224,35 @@ module _ (S : ℕ → Type 0) (inside : (c : ℕ) → S c → c < chunkLimit) (b
       })
     ]
 
+    -- each host's timestamp is its own
     ends-stamps : (a : ℕ) → Stamped a (at j y hs a)
     ends-stamps = at-all Stamped j y hs (inl yt) (λ k _. i .stamps k)
 
+    -- a current write has its attempt's value
     ends-mine : (a t : ℕ) → HasW b (at j y hs a) t → h .value t ≡ (at j y hs a) .value
     ends-mine = at-all (λ k x. (t : ℕ) → HasW b x t → h .value t ≡ x .value) j y hs (λ t z. idleW t z) (λ k _. i .mine k)
 
+    -- no host knows a later epoch
     ends-known : (a : ℕ) → (at j y hs a) .known ≤ ep
     ends-known = at-all (λ a x. x .known ≤ ep) j y hs yk (λ a _. i .known a)
 
+    -- the writes of the others
     restW : (t : ℕ) → (a : ℕ) × HasW b (at j y hs a) t → (a : ℕ) × HasW b (hs a) t × (a ≡ j → ⊥)
     restW t z = elim (at-split (λ x. HasW b x t) j y hs (z .0) (z .1)) [ inl p ↦ idleW t (p .1) | inr p ↦ (z .0, p .1, p .0) ]
 
+    -- those that are okay
     restA : (t : ℕ) → (a : ℕ) × HasW b (at j y hs a) t × ((at j y hs a) .okay ≡ true) → (a : ℕ) × HasW b (hs a) t × ((hs a) .okay ≡ true) × (a ≡ j → ⊥)
     restA t z = elim (at-split (λ x. HasW b x t × (x .okay ≡ true)) j y hs (z .0) (z .1, z .2)) [ inl p ↦ idleW t (p .1 .0) | inr p ↦ (z .0, p .1 .0, p .1 .1, p .0) ]
 
+    -- those that chunk c has answered
     restK : (t c : ℕ) → (a : ℕ) × HasW b (at j y hs a) t × ((at j y hs a) .okay ≡ true) × (c among (at j y hs a) .out ≡ false) × S c → (a : ℕ) × HasW b (hs a) t × ((hs a) .okay ≡ true) × (c among (hs a) .out ≡ false) × S c
     restK t c z = elim (at-split (λ x. HasW b x t × (x .okay ≡ true) × (c among x .out ≡ false)) j y hs (z .0) (z .1, z .2, z .3)) [ inl p ↦ idleW t (p .1 .0) | inr p ↦ (z .0, p .1 .0, p .1 .1, p .1 .2, z .4) ]
 
+    -- the reads of the others
     restR : (t x : ℕ) → (a : ℕ) × HasR b (at j y hs a) t x → (a : ℕ) × HasR b (hs a) t x
     restR t x z = elim (at-split (λ x′. HasR b x′ t x) j y hs (z .0) (z .1)) [ inl p ↦ idleR t x (p .1) | inr p ↦ (z .0, p .1) ]
 
+    -- an okay write is committed and listed
     pub end-commit : (n′ : List Place) (t : Timestamp) (e : Epoch) → HasW b (hs j) (t .0) → (hs j) .okay ≡ true → isEmpty ((hs j) .out) ≡ true
         → ((P : Message → Type 0) → Sent n′ P → Sent n P ⊎ ((d : ℕ) × P (Message.Commit (headed j d b t) e)))
         → CInv S b (lists h (record { timestamp = t; value = (hs j) .value } ∷ [])) ep (at j y hs) ps n′
@@ -263,6 +285,7 @@ module _ (S : ℕ → Type 0) (inside : (c : ℕ) → S c → c < chunkLimit) (b
         other : (a u : ℕ) → HasW b (hs a) u → u ≡ t .0 → a ≡ j
         other a u z q = unique j a (t .0) (hw .stamp) (z .stamp ∙ q) (hw .pos)
 
+    -- a write that is not okay is aborted
     pub end-abort : (n′ : List Place) (t : Timestamp) (e : Epoch) → HasW b (hs j) (t .0) → (hs j) .okay ≡ false
         → ((P : Message → Type 0) → Sent n′ P → Sent n P ⊎ ((d : ℕ) × P (Message.Abort (headed j d b t) e)))
         → CInv S b h ep (at j y hs) ps n′

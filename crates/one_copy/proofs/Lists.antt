@@ -11,20 +11,24 @@ use Rattle.rules.specs.Words.{those, each, joined, some, from, numbers}
 use Rattle.one_copy.proofs.Tests.{at, at-same, at-other, eq-or-ne}
 
 module _ {A : Type 0} where
+  -- some element has P
   abbrev pub Any : (A → Type 0) → List A → Type 0
   Any P [] = ⊥
   Any P (x ∷ xs) = P x ⊎ Any P xs
 
+  -- what has P has Q
   pub any-map : (P Q : A → Type 0) → ((x : A) → P x → Q x) → (l : List A) → Any P l → Any Q l
   any-map P Q f [] h = h
   any-map P Q f (x ∷ xs) (inl p) = inl (f x p)
   any-map P Q f (x ∷ xs) (inr p) = inr (any-map P Q f xs p)
 
+  -- the element at an index
   pub any-getD : (P : A → Type 0) (l : List A) (i : ℕ) (d : A) → (P d → ⊥) → P (getD l i d) → Any P l
   any-getD P [] i d n h = n h
   any-getD P (x ∷ xs) zero d n h = inl h
   any-getD P (x ∷ xs) (suc i) d n h = inr (any-getD P xs i d n h)
 
+  -- a store of one element
   pub any-set : (P : A → Type 0) (l : List A) (i : ℕ) (a : A) → Any P (set l i a) → Any P l ⊎ P a
   any-set P [] i a h = absurd h
   any-set P (x ∷ xs) zero a (inl h) = inr h
@@ -32,16 +36,19 @@ module _ {A : Type 0} where
   any-set P (x ∷ xs) (suc i) a (inl h) = inl (inl h)
   any-set P (x ∷ xs) (suc i) a (inr h) = elim (any-set P xs i a h) [ inl q ↦ inl (inr q) | inr q ↦ inr q ]
 
+  -- one list after another
   pub any-append : (P : A → Type 0) (l m : List A) → Any P (l ++ m) → Any P l ⊎ Any P m
   any-append P [] m h = inr h
   any-append P (x ∷ xs) m (inl h) = inl (inl h)
   any-append P (x ∷ xs) m (inr h) = elim (any-append P xs m h) [ inl q ↦ inl (inr q) | inr q ↦ inr q ]
 
+  -- the way back, from the first
   pub any-left : (P : A → Type 0) (l m : List A) → Any P l → Any P (l ++ m)
   any-left P [] m h = absurd h
   any-left P (x ∷ xs) m (inl h) = inl h
   any-left P (x ∷ xs) m (inr h) = inr (any-left P xs m h)
 
+  -- and from the second
   pub any-right : (P : A → Type 0) (l m : List A) → Any P m → Any P (l ++ m)
   any-right P [] m h = h
   any-right P (x ∷ xs) m h = inr (any-right P xs m h)
@@ -63,6 +70,7 @@ module _ {A : Type 0} where
       go true e (inr z) f = inr (f z)
       go false e z f = inr (f z)
 
+  -- the way back
   pub those-any : (p : A → Bool) (P : A → Type 0) (l : List A) → Any (λ x. (p x ≡ true) × P x) l → Any P (those p l)
   unfolding those
   those-any p P [] h = h
@@ -83,6 +91,7 @@ module _ {A : Type 0} where
       go true e h f = inl e
       go false e h f = inr (f h)
 
+  -- the way back
   pub any-some : (p : A → Bool) (l : List A) → Any (λ x. p x ≡ true) l → some p l ≡ true
   unfolding some
   any-some p [] h = absurd h
@@ -108,6 +117,7 @@ module _ {A B : Type 0} where
   any-each f P (x ∷ xs) (inl h) = inl h
   any-each f P (x ∷ xs) (inr h) = inr (any-each f P xs h)
 
+  -- the way back
   pub each-any : (f : A → B) (P : B → Type 0) (l : List A) → Any (λ x. P (f x)) l → Any P (each f l)
   unfolding each
   each-any f P [] h = h
@@ -134,13 +144,16 @@ any-from P i zero h = absurd h
 any-from P i (suc n) (inl h) = (i, omega arith, h)
 any-from P i (suc n) (inr h) = let r = any-from P (suc i) n h in let k = r .1 in (r .0, omega arith, r .2)
 
+-- the way back
 from-any : (P : ℕ → Type 0) (i n j : ℕ) → i ≤ j → j < i + n → P j → Any P (from i n)
 unfolding from
 from-any P i zero j a l h = absurd (omega arith)
 from-any P i (suc n) j a l h = elim (eq-or-ne j i) [ inl q ↦ inl (rw q at h) | inr q ↦ inr (from-any P (suc i) n j (omega arith) (omega arith) h) ]
 
+-- a number below n that has P
 pub any-numbers : (P : ℕ → Type 0) (n : ℕ) → Any P (numbers n) → (j : ℕ) × (j < n) × P j
 any-numbers P n h = let r = any-from P 0 n h in let k = r .1 in (r .0, omega arith, r .2)
 
+-- the way back
 pub numbers-any : (P : ℕ → Type 0) (n j : ℕ) → j < n → P j → Any P (numbers n)
 numbers-any P n j l h = from-any P 0 n j (omega arith) (omega arith) h

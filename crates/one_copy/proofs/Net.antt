@@ -100,6 +100,7 @@ abbrev pub onSlot : (Message → Type 0) → Slot → Type 0
 onSlot P Slot.Empty = ⊥
 onSlot P (Slot.Full m) = P m
 
+-- some place has a message that is P
 abbrev pub Sent : List Place → (Message → Type 0) → Type 0
 Sent n P = Any (λ p. onSlot P (p .slot)) n
 
@@ -108,6 +109,7 @@ pub sent-one : (P : Message → Type 0) (m : Message) (n : List Place) → Sent 
 unfolding sent
 sent-one P m n h = any-set (λ p. onSlot P (p .slot)) n (place isFree n) (record { slot = Slot.Full m }) h
 
+-- messages one after another
 sent-list : (P : Message → Type 0) (f : ℕ → Message) (l : List ℕ) (n : List Place) → Sent (fold sent n (each f l)) P → Sent n P ⊎ Any (λ d. P (f d)) l
 unfolding fold each
 sent-list P f [] n h = inl h

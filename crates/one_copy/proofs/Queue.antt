@@ -22,6 +22,7 @@ use Rattle.one_copy.proofs.View.{isW, isR}
 
 -- ---- insertion
 
+-- what waits then waited, or is the new entry
 pub insert-to : (P : Entry → Type 0) (e : Entry) (q : List Entry) → Any P (insert e q) → Any P q ⊎ P e
 unfolding insert
 insert-to P e [] (inl h) = inr h
@@ -34,6 +35,7 @@ insert-to P e (x ∷ xs) h = go (e .timestamp below x .timestamp) h (λ z. inser
     go false (inl h) f = inl (inl h)
     go false (inr h) f = elim (f h) [ inl q ↦ inl (inr q) | inr q ↦ inr q ]
 
+-- the way back
 pub insert-from : (P : Entry → Type 0) (e : Entry) (q : List Entry) → Any P q ⊎ P e → Any P (insert e q)
 unfolding insert
 insert-from P e [] (inl h) = absurd h
@@ -46,6 +48,7 @@ insert-from P e (x ∷ xs) h = go (e .timestamp below x .timestamp) h (λ z. ins
     go false (inl h) f = elim h [ inl p ↦ inl p | inr p ↦ inr (f (inl p)) ]
     go false (inr h) f = inr (f (inr h))
 
+-- one more waits
 insert-length : (e : Entry) (q : List Entry) → length (insert e q) ≡ suc (length q)
 unfolding insert
 insert-length e [] = refl
@@ -71,9 +74,11 @@ pub record Marked (M : Mark) (t : ℕ) (q q′ : List Entry) : Type 0 where
   pub new : Any (isW t v M) q′
   pub r : (u : ℕ) → Any (isR u) q′ → Any (isR u) q
 
+-- an entry with another kind
 abbrev withKind : Entry → Kind → Entry
 withKind e k = record { timestamp = e .timestamp; sender = e .sender; epoch = e .epoch; kind = k }
 
+-- the first with the timestamp: its kind decides
 marked-here : (commit : Bool) (t : ℕ) (e : Entry) (q : List Entry) (k : Kind) → e .timestamp .0 ≡ t
     → (_≡_ {A = List Entry} (withKind e (decidedKind commit k) ∷ q) (withKind e k ∷ q)) ⊎ Marked (markOf commit) t (withKind e k ∷ q) (withKind e (decidedKind commit k) ∷ q)
 marked-here commit t e q Kind.Read h = inl refl
@@ -96,6 +101,7 @@ marked-here false t e q (Kind.Undecided v) h = inr (record {
   r = λ u. elim [ inl z ↦ absurd (z .1) | inr z ↦ inr z ];
 })
 
+-- the list
 pub mark-cases : (commit : Bool) (t : Timestamp) (q : List Entry) → (mark commit t q ≡ q) ⊎ Marked (markOf commit) (t .0) q (mark commit t q)
 unfolding mark firstWith place
 mark-cases commit t [] = inl refl
@@ -122,25 +128,30 @@ holding-order : (l : List Entry) → length l ≤ waitingLimit → inOrder (hold
 unfolding holding
 holding-order l h = filled-take zeroEntry waitingLimit l h
 
+-- so a list with room for one more
 pub inserted-order : (w : Waiting) (e : Entry) → w .count < waitingLimit → inOrder (inserted w e) ≡ insert e (inOrder w)
 unfolding inserted
 inserted-order w e h = holding-order (insert e (inOrder w)) (omega (arith, insert-length e (inOrder w), take-short (w .count) (w .entries)))
 
+-- a marked list
 pub marked-order : (w : Waiting) (commit : Bool) (t : Timestamp) → w .count ≤ waitingLimit → inOrder (marked commit t w) ≡ mark commit t (inOrder w)
 unfolding marked mark
 marked-order w commit t h = holding-order (mark commit t (inOrder w)) (omega (arith, length-set (inOrder w) (firstWith t (inOrder w)) (decided commit (getD (inOrder w) (firstWith t (inOrder w)) zeroEntry)), take-short (w .count) (w .entries)))
 
+-- a list without its head
 pub removed-order : (w : Waiting) → w .count ≤ waitingLimit → inOrder (headRemoved w) ≡ drop 1 (inOrder w)
 unfolding headRemoved
 removed-order w h = holding-order (drop 1 (inOrder w)) (omega (arith, length-drop 1 (inOrder w), take-short (w .count) (w .entries)))
 
 -- ---- the head of a list in order is least
 
+-- what waits behind n is not below it
 behind : (n : ℕ) (l : List Entry) → OrderedFrom n l → (P : Entry → Type 0) → Any P l → (x : Entry) × P x × (n ≤ x .timestamp .0)
 behind n [] o P a = absurd a
 behind n (x ∷ xs) o P (inl a) = (x, a, o .0)
 behind n (x ∷ xs) o P (inr a) = let r = behind (x .timestamp .0) xs (o .1) P a in (r .0, r .1, omega (arith, o .0, r .2))
 
+-- what waits is not below the head
 pub least : (k : Creation) (w : Waiting) → FormedWaiting k w → (e : Entry) (q : List Entry) → inOrder w ≡ e ∷ q
     → (P : Entry → Type 0) → Any P (e ∷ q) → (x : Entry) × P x × (e .timestamp .0 ≤ x .timestamp .0)
 least k w f e q h P a =

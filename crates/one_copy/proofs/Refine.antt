@@ -16,6 +16,7 @@ pub record Same (k′ k : Cell) : Type 0 where
   pub from : (t v : ℕ) (m : Mark) → k .w t v m → k′ .w t v m
   pub r : (t : ℕ) → k′ .r t → k .r t
 
+-- a cell with the same facts is as good
 same-cell : (B : Book) (F : Flow) (c : ℕ) (k : Cell) (w r d : ℕ) (l : Bool) (q : ℕ → ℕ → Mark → Type 0) (p : ℕ → Type 0)
     → w ≡ k .wr → r ≡ k .rd → d ≡ k .val → l ≡ k .lost
     → ((t v : ℕ) (m : Mark) → q t v m → k .w t v m) → ((t v : ℕ) (m : Mark) → k .w t v m → q t v m) → ((t : ℕ) → p t → k .r t)
@@ -33,6 +34,7 @@ same-cell B F c k w r d l q p ew er ed el to from rs i = rw (ew, er, ed, el) (re
   promise = λ t a b e. elim (i .promise t a b e) [ inl x ↦ inl (x .0, x .1, from t (x .0) (x .1) (x .2), x .3) | inr x ↦ inr x ];
 })
 
+-- other cells with the same facts
 pub recell : (S : ℕ → Type 0) (B : Book) (F : Flow) (cell cell′ : ℕ → Cell) → Inv S B F cell → ((c : ℕ) → S c → Same (cell′ c) (cell c)) → ((c t : ℕ) → (cell′ c) .r t → S c) → Inv S B F cell′
 recell S B F cell cell′ i s hm = record {
   glob = i .glob;
@@ -41,6 +43,7 @@ recell S B F cell cell′ i s hm = record {
   seen = λ t x h. let o = i .seen t x h in record { isR = o .isR; guard = o .guard; copy = o .copy; last = o .last; over = (let z = (s (o .guard) (o .copy)) .rd in let y = o .over in omega arith) };
 }
 
+-- another list with the same timestamps
 pub relist : (S : ℕ → Type 0) (B : Book) (F : Flow) (cell : ℕ → Cell) (L′ : ℕ → Type 0) → Inv S B F cell → ((t : ℕ) → L′ t → B .L t) → ((t : ℕ) → B .L t → L′ t)
     → Inv S (record { era = B .era; kind = B .kind; value = B .value; ae = B .ae; L = L′; void = B .void }) F cell
 relist S B F cell L′ i to from = let g = i .glob in let more : (t : ℕ) → B .L t ⊎ B .void t → L′ t ⊎ B .void t = λ t. elim [ inl p ↦ inl (from t p) | inr p ↦ inr p ] in record {
@@ -82,6 +85,7 @@ relist S B F cell L′ i to from = let g = i .glob in let more : (t : ℕ) → B
   };
 }
 
+-- a cell is as itself
 pub same-self : (k : Cell) → Same k k
 same-self k = record { wr = refl; rd = refl; val = refl; lost = refl; r = λ u q. q; to = λ u x m q. q; from = λ u x m q. q }
 

@@ -32,9 +32,11 @@ pub record Settling (S : ℕ → Type 0) (cell : ℕ → Cell) (W Y N X M : ℕ)
   pub pick : (((t : ℕ) → Chosen S cell W t → ⊥) × (N ≡ W) × (X ≡ Y))
       ⊎ (Chosen S cell W N × ((t : ℕ) → Chosen S cell W t → t ≤ N) × ((c : ℕ) × (m : Mark) × S c × (cell c) .w N X m))
 
+-- every copy after the change
 abbrev pub settledCell : ℕ → ℕ → ℕ → ℕ → Cell
 settledCell N X M c = record { wr = N; rd = M; val = X; lost = false; w = λ _ _ _. ⊥; r = λ _. ⊥ }
 
+-- the era grows, what is chosen is listed
 abbrev pub settledBook : Book → (ℕ → Type 0) → Book
 settledBook B chosen = record { era = suc (B .era); kind = B .kind; value = B .value; ae = B .ae; L = λ u. B .L u ⊎ chosen u; void = B .void }
 
@@ -74,6 +76,7 @@ module _ (S : ℕ → Type 0) (B : Book) (F : Flow) (cell : ℕ → Cell) (i : I
       g : GlobOk S B F
       g = i .glob
 
+  -- what is chosen is a write attempt
   chosenW : (t : ℕ) → Chosen S cell W t → B .kind t ≡ writeK
   chosenW t h = let z = h .holds (s .alive) (s .alive-in) (s .alive-is) in ((i .cells (s .alive) (s .alive-in)) .waits t (z .0) (z .1) (z .2)) .isW
 
@@ -91,6 +94,7 @@ module _ (S : ℕ → Type 0) (B : Book) (F : Flow) (cell : ℕ → Cell) (i : I
     | inr p ↦ inr (inr (p .0), (let z = p .2 in ((i .cells (z .0) (z .2)) .waits N X (z .1) (z .3)) .vals))
   ]
 
+  -- none listed is above it
   pub settled-most : (t : ℕ) → B .L t ⊎ Chosen S cell W t → t ≤ N
   settled-most t = elim [ inl p ↦ elim (covered t p) [ inl q ↦ le t q | inr q ↦ ch t q ] | inr q ↦ ch t q ]
     where
@@ -100,6 +104,7 @@ module _ (S : ℕ → Type 0) (B : Book) (F : Flow) (cell : ℕ → Cell) (i : I
       le : (t : ℕ) → t ≤ W → t ≤ N
       le t h = elim (s .pick) [ inl p ↦ omega (arith, p .1) | inr p ↦ (let z = p .0 .above in omega arith) ]
 
+  -- the epoch change keeps the invariant
   pub settle : Inv S (settledBook B (Chosen S cell W)) F (settledCell N X M)
   settle = record {
     home = λ c t h. absurd h;

@@ -27,17 +27,21 @@ pub record Shape (t : Table) : Type 0 where
 
 -- ---- what is filled has its length
 
+-- an array that is filled
 filled-length : {A : Type 0} (n : ℕ) (d : A) (l : List A) → length (filled n d l) ≡ n
 filled-length n d l = omega (arith, length-take n (l ++ replicate n d), length-append l (replicate n d), length-replicate n d)
 
+-- a waiting list
 pub holding-length : (l : List Entry) → length (holding l .entries) ≡ waitingLimit
 unfolding holding
 holding-length l = filled-length waitingLimit zeroEntry l
 
+-- a queue
 pub queue-length : (l : List Operation) → length (queueOf l .operations) ≡ operationLimit
 unfolding queueOf
 queue-length l = filled-length operationLimit zeroOperation l
 
+-- all records
 records-length : (f : ℕ → ℕ → Record) → length (recordsBy f) ≡ chunkLimit * blockLimit
 unfolding each joined from
 records-length f = refl
@@ -49,9 +53,11 @@ records-beyond f c b l = List·getD-eq-default (recordsBy f) noRecord (omega (ar
 -- ---- a table with one part changed
 
 module _ (t : Table) (s : Shape t) where
+  -- beyond the last chunk there is no record
   pub beyond : (c b : ℕ) → chunkLimit ≤ c → recordOf t c b ≡ noRecord
   beyond c b l = List·getD-eq-default (t .records) noRecord (omega (arith, s .records))
 
+  -- a host
   pub shape-host : (j : ℕ) (x : Host) → length (x .queue .operations) ≡ operationLimit → Shape (withHost t j x)
   shape-host j x h = record {
     hosts = length-set (t .hosts) j x ∙ s .hosts;
@@ -61,9 +67,11 @@ module _ (t : Table) (s : Shape t) where
     entries = s .entries;
   }
 
+  -- a chunk
   pub shape-chunk : (c : ℕ) (x : Chunk) → Shape (withChunk t c x)
   shape-chunk c x = record { hosts = s .hosts; chunks = length-set (t .chunks) c x ∙ s .chunks; records = s .records; queues = s .queues; entries = s .entries }
 
+  -- a record
   pub shape-record : (c b : ℕ) (x : Record) → length (x .waiting .entries) ≡ waitingLimit → Shape (withRecord t c b x)
   shape-record c b x h = record {
     hosts = s .hosts;
@@ -73,6 +81,7 @@ module _ (t : Table) (s : Shape t) where
     entries = λ d a l m. elim (get-set (t .records) (c * blockLimit + b) (d * blockLimit + a) x noRecord) [ inl e ↦ rw (e .1) h | inr e ↦ rw e (s .entries d a l m) ];
   }
 
+  -- the places
   pub shape-places : (n : List Place) → Shape (withPlaces t n)
   shape-places n = record { hosts = s .hosts; chunks = s .chunks; records = s .records; queues = s .queues; entries = s .entries }
 
@@ -92,6 +101,7 @@ module _ (t : Table) (s : Shape t) where
 
 -- ---- the fresh table
 
+-- it has its lengths
 pub fresh-shape : (k : Creation) → Shape (fresh k)
 unfolding fresh
 fresh-shape k = record {
@@ -120,6 +130,7 @@ front-kept x o h k = ap (λ (l : List Operation). getD l 0 zeroOperation) (fille
     go [] h = absurd (omega arith)
     go (p ∷ l) h = refl
 
+-- a host at work has an operation
 pub at-front : (t : Table) → Formed t → Shape t → (j : ℕ) → isHost (t .creation) j ≡ true → 0 < hostOf t j .attempt .timestamp .0 → 0 < length (operationsOf (hostOf t j))
 at-front t f s j lj p =
     let k = t .creation in

@@ -36,6 +36,7 @@ use Rattle.one_copy.proofs.EvNet.{ev-deliver, ev-drop}
 
 -- what holds of each rule at its kind holds of an event's rule
 module _ (P : Rule → Type 0) (t : Table) (e : Event) where
+  -- the sixteen kinds, and any other
   by-number : (e .kind ≡ 1 → P (readRule t (e .a) (e .b) (e .c))) → (e .kind ≡ 2 → P (writeRule t (e .a) (e .b) (e .c))) → (e .kind ≡ 3 → P (startRule t (e .a) (e .b) (e .c)))
       → (e .kind ≡ 4 → P (deliverRule t (e .a) (e .b) (e .c))) → (e .kind ≡ 5 → P (dropRule t (e .a) (e .b) (e .c))) → (e .kind ≡ 6 → P (finishRule t (e .a) (e .b) (e .c)))
       → (e .kind ≡ 7 → P (timeoutRule t (e .a) (e .b) (e .c))) → (e .kind ≡ 8 → P (refreshRule t (e .a) (e .b) (e .c))) → (e .kind ≡ 9 → P (runRule t (e .a) (e .b) (e .c)))
@@ -73,6 +74,7 @@ takes-creation t m = walk (λ (x : Table). x .creation ≡ t .creation) (isForCh
 module _ (b : ℕ) (h : Hist) (blk : ℕ → ℕ) (t : Table) (lb : isBlock (t .creation) b ≡ true) (i : Whole b h blk t) (e : Event) where
   -- ---- what is listed
 
+  -- and with what is not
   and-no : (x : Bool) → x && false ≡ false
   and-no true = refl
   and-no false = refl
@@ -81,14 +83,17 @@ module _ (b : ℕ) (h : Hist) (blk : ℕ → ℕ) (t : Table) (lb : isBlock (t .
   refused-no : (a : Answer) → eqb (a .code) 0 ≡ false → isChange e a ≡ false
   refused-no a n = ap (λ (x : Bool). eqb (e .kind) 15 && x) n ∙ and-no (eqb (e .kind) 15)
 
+  -- nor is one of another kind
   other-no : (n : ℕ) (a : Answer) → e .kind ≡ n → eqb n 15 ≡ false → isChange e a ≡ false
   other-no n a k o = ap (λ (x : Bool). x && eqb (a .code) 0) (ap (λ (m : ℕ). eqb m 15) k ∙ o)
 
+  -- without a change only a host lists
   listed-by-host : (a : Answer) → isChange e a ≡ false → listedAt b t e a ≡ byHost b t (a .outcome)
   listed-by-host a n = rw n (append-nil (byHost b t (a .outcome)))
 
   -- ---- an answer
 
+  -- a granted event that lists ws
   relist : (ws : List Write) (o : Outcome) (t′ : Table) → listedAt b t e (record { table = t′; code = 0; outcome = o }) ≡ ws → Next b h t ws o t′ → Less t′ t → t′ .creation ≡ t .creation → Stepped b h t e (record { table = t′; code = 0; outcome = o })
   relist ws o t′ l n le cr = record {
     next = subst⁻¹ (λ (ws : List Write). Next b h t ws o t′) l n;
@@ -117,6 +122,7 @@ module _ (b : ℕ) (h : Hist) (blk : ℕ → ℕ) (t : Table) (lb : isBlock (t .
   abbrev Grants : Rule → Type 0
   Grants r = Formed t → r .ranges ≡ true → codeOf (r .refusals) ≡ 0 → Stepped b h t e (done (r .effect))
 
+  -- granted or refused
   answers : (r : Rule) → Grants r → Stepped b h t e (answered t r)
   unfolding answered rows
   answers r g = walk (Stepped b h t e) (eqb (codeOf (rows t r)) 0) _ _
@@ -127,15 +133,19 @@ module _ (b : ℕ) (h : Hist) (blk : ℕ → ℕ) (t : Table) (lb : isBlock (t .
 
   -- ---- the sixteen events
 
+  -- a host, and unused operands
   host-alone : (j c d : ℕ) → isHost (t .creation) j && unused c && unused d ≡ true → isHost (t .creation) j ≡ true
   host-alone j c d r = three (isHost (t .creation) j) (unused c) (unused d) r .0
 
+  -- a chunk, and unused operands
   chunk-alone : (j c d : ℕ) → isChunk (t .creation) j && unused c && unused d ≡ true → isChunk (t .creation) j ≡ true
   chunk-alone j c d r = three (isChunk (t .creation) j) (unused c) (unused d) r .0
 
+  -- a place, and unused operands
   place-alone : (p c d : ℕ) → isPlace p && unused c && unused d ≡ true → p < placeLimit
   place-alone p c d r = ltb-true p placeLimit (three (isPlace p) (unused c) (unused d) r .0)
 
+  -- 1 read
   reads : (j d c : ℕ) → e .kind ≡ 1 → Grants (readRule t j d c)
   unfolding readRule
   reads j d c k f r x =
@@ -143,6 +153,7 @@ module _ (b : ℕ) (h : Hist) (blk : ℕ → ℕ) (t : Table) (lb : isBlock (t .
       let o : Operation = record { block = d; action = Action.Read } in
       plain 1 _ k refl (ev-intake b h t f (i .shape) lb (i .good) j lj o (intake-place (hostOf t j) x)) (intake-less t f j lj (i .shape) o (intake-place (hostOf t j) x)) refl
 
+  -- 2 write
   writes : (j d v : ℕ) → e .kind ≡ 2 → Grants (writeRule t j d v)
   unfolding writeRule
   writes j d v k f r x =
@@ -150,6 +161,7 @@ module _ (b : ℕ) (h : Hist) (blk : ℕ → ℕ) (t : Table) (lb : isBlock (t .
       let o : Operation = record { block = d; action = Action.Write v } in
       plain 2 _ k refl (ev-intake b h t f (i .shape) lb (i .good) j lj o (intake-place (hostOf t j) x)) (intake-less t f j lj (i .shape) o (intake-place (hostOf t j) x)) refl
 
+  -- 3 start
   starts : (j clock copy : ℕ) → e .kind ≡ 3 → Grants (startRule t j clock copy)
   unfolding startRule
   starts j clock copy k f r x =
@@ -165,6 +177,7 @@ module _ (b : ℕ) (h : Hist) (blk : ℕ → ℕ) (t : Table) (lb : isBlock (t .
         creation = refl;
       }
 
+  -- 4 deliver
   delivers : (p c d : ℕ) → e .kind ≡ 4 → Grants (deliverRule t p c d)
   unfolding deliverRule
   delivers p c d k f r x =
@@ -173,12 +186,14 @@ module _ (b : ℕ) (h : Hist) (blk : ℕ → ℕ) (t : Table) (lb : isBlock (t .
       subst⁻¹ (λ (s : Slot). Stepped b h t e (done (quietly (takes (withPlaces t (removed (t .places) p)) s)))) (m .1)
       (plain 4 _ k refl (ev-deliver b h t f (i .shape) lb (i .good) p l blk (i .homes) (m .0) (m .1)) (deliver-less t f p l (m .0) (m .1)) (takes-creation (withPlaces t (removed (t .places) p)) (m .0)))
 
+  -- 5 drop
   drops : (p c d : ℕ) → e .kind ≡ 5 → Grants (dropRule t p c d)
   unfolding dropRule
   drops p c d k f r x =
       let l = place-alone p c d r in
       plain 5 _ k refl (ev-drop b h t f (i .shape) lb (i .good) p l) (drop-less t f p l) refl
 
+  -- 6 finish
   finishes : (j c d : ℕ) → e .kind ≡ 6 → Grants (finishRule t j c d)
   unfolding finishRule
   finishes j c d k f r x =
@@ -188,14 +203,17 @@ module _ (b : ℕ) (h : Hist) (blk : ℕ → ℕ) (t : Table) (lb : isBlock (t .
       relist (byHost b t (rule .effect .outcome)) (rule .effect .outcome) (rule .effect .table) (listed-by-host (done (rule .effect)) (other-no 6 (done (rule .effect)) k refl))
       (ev-finish b h t f (i .shape) lb (i .good) j lj (freePlaces (t .places)) n x) (finish-less t f j lj (i .shape) (freePlaces (t .places)) n x) refl
 
+  -- 7 timeout
   times-out : (j c d : ℕ) → e .kind ≡ 7 → Grants (timeoutRule t j c d)
   unfolding timeoutRule
   times-out j c d k f r x = let lj = host-alone j c d r in plain 7 _ k refl (ev-timeout b h t f (i .shape) lb (i .good) j lj) (timeout-less t f j lj) refl
 
+  -- 8 refresh
   refreshes : (j c d : ℕ) → e .kind ≡ 8 → Grants (refreshRule t j c d)
   unfolding refreshRule
   refreshes j c d k f r x = let lj = host-alone j c d r in plain 8 _ k refl (ev-refresh b h t f (i .shape) lb (i .good) j lj) (refresh-less t f j lj) refl
 
+  -- 9 run
   runs : (c d x : ℕ) → e .kind ≡ 9 → Grants (runRule t c d x)
   unfolding runRule
   runs c d x k f r y =
@@ -206,36 +224,44 @@ module _ (b : ℕ) (h : Hist) (blk : ℕ → ℕ) (t : Table) (lb : isBlock (t .
       plain 9 _ k refl (ev-run b h t f (i .shape) lb (i .good) c (q .0) d (q .1) (freePlaces (t .places)) y)
       (run-less t f c d lc ld (omega (arith, run-head (chunkOf t c .state) w (freePlaces (t .places)) y, waiting-of t f c d lc ld .count, i .shape .entries c d lc ld, length-take (w .count) (w .entries)))) refl
 
+  -- 10 stop
   stops : (j c d : ℕ) → e .kind ≡ 10 → Grants (stopRule t j c d)
   unfolding stopRule
   stops j c d k f r x = let lj = host-alone j c d r in plain 10 _ k refl (ev-stop b h t f (i .shape) lb (i .good) j lj) (stop-less t f j lj) refl
 
+  -- 11 fail
   fails : (c a d : ℕ) → e .kind ≡ 11 → Grants (failRule t c a d)
   unfolding failRule
   fails c a d k f r x = plain 11 _ k refl (ev-fail b h t f (i .shape) lb (i .good) c (chunk-alone c a d r)) (fail-less t c) refl
 
+  -- 12 recover
   recovers : (c a d : ℕ) → e .kind ≡ 12 → Grants (recoverRule t c a d)
   unfolding recoverRule
   recovers c a d k f r x = plain 12 _ k refl (ev-recover b h t f (i .shape) lb (i .good) c (chunk-alone c a d r)) (less-chunk t c _) refl
 
+  -- 13 take lease
   leases-taken : (c a d : ℕ) → e .kind ≡ 13 → Grants (takeLeaseRule t c a d)
   unfolding takeLeaseRule
   leases-taken c a d k f r x = plain 13 _ k refl (ev-take b h t f (i .shape) lb (i .good) c (chunk-alone c a d r)) (less-chunk t c _) refl
 
+  -- 14 give lease
   leases-given : (c a d : ℕ) → e .kind ≡ 14 → Grants (giveLeaseRule t c a d)
   unfolding giveLeaseRule
   leases-given c a d k f r x = plain 14 _ k refl (ev-give b h t f (i .shape) lb (i .good) c (chunk-alone c a d r) x) (less-chunk t c _) refl
 
+  -- 15 epoch change
   changes : (x y z : ℕ) → e .kind ≡ 15 → Grants (epochRule t x y z)
   unfolding epochRule
   changes x y z k f r q = relist (committedBy b h t f lb (i .good) q) Outcome.None (epochChanged t) (rw k refl) (ev-epoch b h t f lb (i .good) q) (epoch-less t) refl
 
+  -- 16 overdue
   overdues : (c d now : ℕ) → e .kind ≡ 16 → Grants (overdueRule t c d now)
   unfolding overdueRule
   overdues c d now k f r x =
       let q = three (isChunk (t .creation) c) (isBlock (t .creation) d) (upTo greatestClock now) r in
       plain 16 _ k refl (ev-overdue b h t f (i .shape) lb (i .good) c (q .0) d) (less-chunk t c _) refl
 
+  -- every event
   pub step-kept : Stepped b h t e (step t e)
   unfolding step
   step-kept = answers (ruleOf t e) (by-number Grants t e (reads _ _ _) (writes _ _ _) (starts _ _ _) (delivers _ _ _) (drops _ _ _) (finishes _ _ _) (times-out _ _ _) (refreshes _ _ _) (runs _ _ _)
@@ -248,6 +274,7 @@ pub record Changed (t t′ : Table) : Type 0 where
   pub refusals : codeOf (epochRefusals t) ≡ 0
   pub table : t′ ≡ epochChanged t
 
+-- what its code says
 pub changed : (t : Table) (e : Event) → isChange e (step t e) ≡ true → Changed t (step t e .table)
 unfolding step ruleOf epochRule rows
 changed t e h =

@@ -36,9 +36,11 @@ pub record Part : Type 0 where
   pub wr : ℕ
   pub queue : List Entry
 
+-- from a chunk and its record
 abbrev pub partWith : Chunk → Record → Part
 partWith c r = record { mode = c .state; lost = c .lost; val = r .value; rd = r .read .0; wr = r .write .0; queue = inOrder (r .waiting) }
 
+-- of a table
 abbrev pub partOf : Table → (block chunk : ℕ) → Part
 partOf t b c = partWith (chunkOf t c) (recordOf t c b)
 
@@ -54,6 +56,7 @@ pub record Seat : Type 0 where
   pub known : ℕ
   pub clock : ℕ
 
+-- of a host
 abbrev pub seatOf : Host → Seat
 seatOf x = record {
   block = front x .block;
@@ -67,6 +70,7 @@ seatOf x = record {
   clock = x .clock;
 }
 
+-- of a table
 abbrev pub seatsOf : Table → ℕ → Seat
 seatsOf t j = seatOf (hostOf t j)
 
@@ -74,6 +78,7 @@ seatsOf t j = seatOf (hostOf t j)
 abbrev pub isTs : ℕ → Write → Type 0
 isTs t w = w .timestamp .0 ≡ t
 
+-- and with x
 abbrev pub isIt : ℕ → ℕ → Write → Type 0
 isIt t x w = (w .timestamp .0 ≡ t) × (w .value ≡ x)
 
@@ -84,18 +89,22 @@ asWrite v m (Kind.Undecided x) = (x ≡ v) × (m ≡ und)
 asWrite v m (Kind.Committed x) = (x ≡ v) × (m ≡ cmt)
 asWrite v m (Kind.Aborted x) = (x ≡ v) × (m ≡ abt)
 
+-- or a read
 abbrev pub asRead : Kind → Type 0
 asRead Kind.Read = Unit {0}
 asRead (Kind.Undecided x) = ⊥
 asRead (Kind.Committed x) = ⊥
 asRead (Kind.Aborted x) = ⊥
 
+-- an entry under t that is such a write
 abbrev pub isW : ℕ → ℕ → Mark → Entry → Type 0
 isW t v m e = (e .timestamp .0 ≡ t) × asWrite v m (e .kind)
 
+-- or a read
 abbrev pub isR : ℕ → Entry → Type 0
 isR t e = (e .timestamp .0 ≡ t) × asRead (e .kind)
 
+-- the part as a cell
 abbrev pub cellOf : Part → Cell
 cellOf p = record { wr = p .wr; rd = p .rd; val = p .val; lost = p .lost; w = λ t v m. Any (isW t v m) (p .queue); r = λ t. Any (isR t) (p .queue) }
 
@@ -120,6 +129,7 @@ pub record HasR (b : ℕ) (x : Seat) (t v : ℕ) : Type 0 where
   pub none : isEmpty (x .out) ≡ true
   pub value : x .result ≡ v
 
+-- what hosts and messages are as a flow
 abbrev pub flow : (ℕ → Type 0) → ℕ → Hist → (ℕ → Seat) → List Place → Flow
 flow S b h hs n = record {
   cur = λ t. (j : ℕ) × HasW b (hs j) t;
@@ -150,9 +160,11 @@ pub record Foreign (b : ℕ) (m : Message) : Type 0 where
   pub abtm : (t : ℕ) → ofAbort b t m → ⊥
   pub value : (t x : ℕ) → ofValue b t x m → ⊥
 
+-- fewer messages
 pub net-less : (b : ℕ) (n′ n : List Place) → ((P : Message → Type 0) → Sent n′ P → Sent n P) → NetLe b n′ n
 net-less b n′ n sub = record { ack = λ t c. sub (ofAck b t c); pre = λ c t e v. sub (ofPre b c t e v); rdm = λ c t. sub (ofRead b c t); comm = λ t. sub (ofCommit b t); abtm = λ t. sub (ofAbort b t); value = λ t x. sub (ofValue b t x) }
 
+-- more messages that say nothing of block b
 pub net-foreign : (b : ℕ) (n′ n : List Place) (D : Type 0) (f : D → Message) → ((P : Message → Type 0) → Sent n′ P → Sent n P ⊎ ((d : D) × P (f d))) → ((d : D) → Foreign b (f d)) → NetLe b n′ n
 net-foreign b n′ n D f adds none = record {
   ack = λ t c h. elim (adds (ofAck b t c) h) [ inl q ↦ q | inr q ↦ absurd ((none (q .0)) .ack t c (q .1)) ];
@@ -180,12 +192,15 @@ far-message b (Message.PrewriteReply hd) far = record { ack = λ t c z. far (z .
 pub plain-mismatch : (b : ℕ) (hd : Header) → Foreign b (Message.Mismatch hd)
 plain-mismatch b hd = record { ack = λ t c z. z; pre = λ c t e v z. z; rdm = λ c t z. z; comm = λ t z. z; abtm = λ t z. z; value = λ t x z. z }
 
+-- an error
 pub plain-error : (b : ℕ) (hd : Header) → Foreign b (Message.Error hd)
 plain-error b hd = record { ack = λ t c z. z; pre = λ c t e v z. z; rdm = λ c t z. z; comm = λ t z. z; abtm = λ t z. z; value = λ t x z. z }
 
+-- an out of order
 pub plain-order : (b : ℕ) (hd : Header) → Foreign b (Message.OutOfOrder hd)
 plain-order b hd = record { ack = λ t c z. z; pre = λ c t e v z. z; rdm = λ c t z. z; comm = λ t z. z; abtm = λ t z. z; value = λ t x z. z }
 
+-- a busy
 pub plain-busy : (b : ℕ) (hd : Header) → Foreign b (Message.Busy hd)
 plain-busy b hd = record { ack = λ t c z. z; pre = λ c t e v z. z; rdm = λ c t z. z; comm = λ t z. z; abtm = λ t z. z; value = λ t x z. z }
 
@@ -196,6 +211,7 @@ pub record Drawn (hs : ℕ → Seat) (t : ℕ) : Type 0 where
   pub small : by < 8
   pub past : clock ≤ (hs by) .clock
 
+-- a host's timestamp is 0 or its last
 abbrev pub Stamped : ℕ → Seat → Type 0
 Stamped j x = (x .ts ≡ 0) ⊎ ((x .ts ≡ stamp (x .clock) j .0) × (j < 8))
 
@@ -221,6 +237,7 @@ module _ (S : ℕ → Type 0) (b : ℕ) where
     pub known : y .known ≤ ep
 
   module _ (h : Hist) (ep : ℕ) (hs : ℕ → Seat) (ps : ℕ → Part) (n : List Place) (i : CInv h ep hs ps n) where
+    -- such a change keeps the invariant
     pub quiet : (j : ℕ) (y : Seat) (n′ : List Place) → NetLe b n′ n → Quiet n ep (hs j) y → CInv h ep (at j y hs) ps n′
     quiet j y n′ sub q = record {
       inv = shrink S (book h ep) (flow S b h hs n) (λ c. cellOf (ps c)) (i .inv) (flow S b h (at j y hs) n′) (record {
