@@ -22,7 +22,8 @@ pub record Passed (blocks : ℕ) (now : Epoch) (r : Record) (hd : Header) (epoch
 
 -- a read or a prewrite is answered with mismatch, error, out of order or busy, or it waits
 pub arrived-walk : (P : Arrived → Type 0) (blocks : ℕ) (current : Epoch) (r : Record) (hd : Header) (epoch : Epoch) (kind : Kind)
-    → P (answering r (Message.Mismatch hd)) → P (answering r (Message.Error hd)) → P (answering r (Message.OutOfOrder hd)) → P (answering r (Message.Busy hd))
+    → P (answering r (Message.Mismatch hd)) → P (answering r (Message.Error hd)) → P (answering r (Message.OutOfOrder hd))
+    → P (answering r (Message.Busy hd))
     → (Passed blocks current r hd epoch kind → P (waits r hd epoch kind)) → P (arrived blocks current r hd epoch kind)
 unfolding arrived
 arrived-walk P blocks current r hd epoch kind p1 p2 p3 p4 p5 =

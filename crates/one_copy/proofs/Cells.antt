@@ -10,7 +10,8 @@ use Rattle.one_copy.proofs.Abs.{Mark, und, cmt, abt, readK, writeK, Cel
 
 module _ (S : ℕ → Type 0) where
   -- one cell moves, its last read does not fall: only that cell is to be looked at
-  pub one-cell : (B : Book) (F : Flow) (cell : ℕ → Cell) (c : ℕ) (k : Cell) → Inv S B F cell → (S c → CellOk B F c k) → (cell c) .rd ≤ k .rd → ((t : ℕ) → k .r t → S c) → Inv S B F (at c k cell)
+  pub one-cell : (B : Book) (F : Flow) (cell : ℕ → Cell) (c : ℕ) (k : Cell) → Inv S B F cell → (S c → CellOk B F c k)
+      → (cell c) .rd ≤ k .rd → ((t : ℕ) → k .r t → S c) → Inv S B F (at c k cell)
   one-cell B F cell c k i ok up hm = record {
     home = at-all (λ j x. (t : ℕ) → x .r t → S j) c k cell hm (λ j _. i .home j);
     glob = i .glob;
@@ -44,7 +45,13 @@ module _ (S : ℕ → Type 0) where
     pop-cmt t v w′ r′ h front sub keep rs = record {
       held = inr (i .done t v h, (i .waits t v cmt h) .vals);
       readTop = i .readTop;
-      waits = λ u x m e. let o = i .waits u x m (sub u x m e) in record { isW = o .isW; vals = o .vals; now = o .now; overR = o .overR; overW = front u x m (sub u x m e) };
+      waits = λ u x m e. let o = i .waits u x m (sub u x m e) in record {
+        isW = o .isW;
+        vals = o .vals;
+        now = o .now;
+        overR = o .overR;
+        overW = front u x m (sub u x m e);
+      };
       reads = λ u e. i .reads u (rs u e);
       done = λ u x e. i .done u x (sub u x cmt e);
       dead = λ u x e. i .dead u x (sub u x abt e);
@@ -72,14 +79,25 @@ module _ (S : ℕ → Type 0) where
     requeue w′ r′ good keep rs = record {
       held = i .held;
       readTop = i .readTop;
-      waits = λ u x m e. let o = (good u x m e) .fits in record { isW = o .isW; vals = o .vals; now = o .now; overR = o .overR; overW = o .overW };
+      waits = λ u x m e. let o = (good u x m e) .fits in record {
+        isW = o .isW;
+        vals = o .vals;
+        now = o .now;
+        overR = o .overR;
+        overW =
+            o .overW;
+      };
       reads = rs;
       done = λ u x e. (good u x cmt e) .done refl;
       dead = λ u x e. (good u x abt e) .dead refl;
       live = λ l u p. elim (i .live l u p) [ inl q ↦ inl q | inr q ↦ elim (keep u q) [ inl e ↦ inr e | inr e ↦ absurd (e .1 p) ] ];
       gone = i .gone;
       empty = λ l u x m e. not-both (k .lost) l ((good u x m e) .kept);
-      promise = λ u a b e. elim (i .promise u a b e) [ inl q ↦ elim (keep u q) [ inl f ↦ inl f | inr f ↦ absurd (f .0 a) ] | inr q ↦ inr q ];
+      promise = λ u a b e. elim (i .promise u a b e) [
+        | inl q ↦ elim (keep u q) [ inl f ↦ inl f | inr f ↦ absurd (f .0 a) ]
+        | inr q ↦
+            inr q
+      ];
     }
 
     -- an entry of the old queue is good
@@ -87,27 +105,45 @@ module _ (S : ℕ → Type 0) where
     was u x m l h = record { fits = i .waits u x m h; done = λ e. i .done u x (rw e at h); dead = λ e. i .dead u x (rw e at h); kept = l }
 
     -- a commit arrives at an undecided write
-    pub mark-cmt : (t v : ℕ) (w′ : ℕ → ℕ → Mark → Type 0) (r′ : ℕ → Type 0) → ((u : ℕ) → r′ u → k .r u) → k .lost ≡ false → F .comm t → k .w t v und
+    pub mark-cmt : (t v : ℕ) (w′ : ℕ → ℕ → Mark → Type 0) (r′ : ℕ → Type 0) → ((u : ℕ) → r′ u → k .r u) → k .lost ≡ false → F .comm t
+        → k .w t v und
         → ((u x : ℕ) (m : Mark) → w′ u x m → k .w u x m ⊎ ((u ≡ t) × (x ≡ v) × (m ≡ cmt)))
         → ((u x : ℕ) (m : Mark) → k .w u x m → w′ u x m ⊎ (u ≡ t)) → w′ t v cmt
         → CellOk B F c (record { wr = k .wr; rd = k .rd; val = k .val; lost = k .lost; w = w′; r = r′ })
     mark-cmt t v w′ r′ rs l b h sub keep new = requeue w′ r′
         (λ u x m e. elim (sub u x m e) [
           | inl q ↦ was u x m l q
-          | inr q ↦ record { fits = rw (q .0, q .1) (i .waits t v und h); done = λ _. rw (q .0) (elim (g .told t b) [ inl z ↦ z | inr z ↦ absurd (let a = g .stale t z in let d = (i .waits t v und h) .now in omega arith) ]); dead = λ f. absurd (cmt≢abt (sym (q .2) ∙ f)); kept = l }
+          | inr q ↦ record {
+            fits = rw (q .0, q .1) (i .waits t v und h);
+            done =
+                λ _. rw (q .0) (elim (g .told t b) [
+                  | inl z ↦ z
+                  | inr z ↦ absurd
+                      (let a = g .stale t z in let d = (i .waits t v und h) .now in omega arith)
+                ]);
+            dead = λ f. absurd (cmt≢abt (sym (q .2) ∙ f));
+            kept = l;
+          }
         ])
         (λ u q. inl (elim (keep u (q .0) (q .1) (q .2)) [ inl e ↦ (q .0, q .1, e, q .3) | inr e ↦ (v, cmt, rw e new, tt) ]))
         (λ u e. i .reads u (rs u e))
 
     -- an abort arrives at an undecided write
-    pub mark-abt : (t v : ℕ) (w′ : ℕ → ℕ → Mark → Type 0) (r′ : ℕ → Type 0) → ((u : ℕ) → r′ u → k .r u) → k .lost ≡ false → F .abtm t → k .w t v und
+    pub mark-abt : (t v : ℕ) (w′ : ℕ → ℕ → Mark → Type 0) (r′ : ℕ → Type 0) → ((u : ℕ) → r′ u → k .r u) → k .lost ≡ false → F .abtm t
+        → k .w t v und
         → ((u x : ℕ) (m : Mark) → w′ u x m → k .w u x m ⊎ ((u ≡ t) × (x ≡ v) × (m ≡ abt)))
         → ((u x : ℕ) (m : Mark) → k .w u x m → w′ u x m ⊎ (u ≡ t))
         → CellOk B F c (record { wr = k .wr; rd = k .rd; val = k .val; lost = k .lost; w = w′; r = r′ })
     mark-abt t v w′ r′ rs l b h sub keep = requeue w′ r′
         (λ u x m e. elim (sub u x m e) [
           | inl q ↦ was u x m l q
-          | inr q ↦ record { fits = rw (q .0, q .1) (i .waits t v und h); done = λ f. absurd (cmt≢abt (sym f ∙ q .2)); dead = λ _. rw (q .0) no; kept = l }
+          | inr q ↦ record {
+            fits = rw (q .0, q .1) (i .waits t v und h);
+            done = λ f. absurd (cmt≢abt (sym f ∙ q .2));
+            dead =
+                λ _. rw (q .0) no;
+            kept = l;
+          }
         ])
         (λ u q. elim (keep u (q .0) (q .1) (q .2)) [ inl e ↦ inl (q .0, q .1, e, q .3) | inr e ↦ inr (rw e no) ])
         (λ u e. i .reads u (rs u e))

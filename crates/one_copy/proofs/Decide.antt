@@ -13,11 +13,30 @@ listed B t = record { era = B .era; kind = B .kind; value = B .value; ae = B .ae
 
 -- t is its host's no more, and commits are in flight
 abbrev pub committed : Flow → ℕ → Flow
-committed F t = record { cur = λ u. F .cur u × (u ≡ t → ⊥); act = λ u. F .act u × (u ≡ t → ⊥); ack = F .ack; pre = F .pre; rdm = F .rdm; comm = λ u. F .comm u ⊎ (u ≡ t); abtm = F .abtm; seen = F .seen }
+committed F t = record {
+  cur = λ u. F .cur u × (u ≡ t → ⊥);
+  act = λ u. F .act u × (u ≡ t → ⊥);
+  ack = F .ack;
+  pre = F .pre;
+  rdm = F .rdm;
+  comm = λ u. F .comm u ⊎ (u ≡ t);
+  abtm = F .abtm;
+  seen = F .seen;
+}
 
 -- t is its host's no more, and aborts are in flight
 abbrev pub aborted : Flow → ℕ → Flow
-aborted F t = record { cur = λ u. F .cur u × (u ≡ t → ⊥); act = F .act; ack = F .ack; pre = F .pre; rdm = F .rdm; comm = F .comm; abtm = λ u. F .abtm u ⊎ (u ≡ t); seen = F .seen }
+aborted F t = record {
+  cur = λ u. F .cur u × (u ≡ t → ⊥);
+  act = F .act;
+  ack = F .ack;
+  pre = F .pre;
+  rdm = F .rdm;
+  comm = F .comm;
+  abtm =
+      λ u. F .abtm u ⊎ (u ≡ t);
+  seen = F .seen;
+}
 
 -- K is begun under t, with value v in era e
 abbrev pub begun : Book → ℕ → Began → ℕ → ℕ → Book
@@ -25,11 +44,31 @@ begun B t K v e = record { era = B .era; kind = at t K (B .kind); value = at t v
 
 -- a write begins: its host is at work, prewrites are in flight
 abbrev pub writing : Flow → ℕ → ℕ → ℕ → Flow
-writing F t v e = record { cur = λ u. F .cur u ⊎ (u ≡ t); act = λ u. F .act u ⊎ (u ≡ t); ack = F .ack; pre = λ c u e′ x. F .pre c u e′ x ⊎ ((u ≡ t) × (e′ ≡ e) × (x ≡ v)); rdm = F .rdm; comm = F .comm; abtm = F .abtm; seen = F .seen }
+writing F t v e = record {
+  cur = λ u. F .cur u ⊎ (u ≡ t);
+  act = λ u. F .act u ⊎ (u ≡ t);
+  ack = F .ack;
+  pre =
+      λ c u e′ x. F .pre c u e′ x ⊎ ((u ≡ t) × (e′ ≡ e) × (x ≡ v));
+  rdm = F .rdm;
+  comm = F .comm;
+  abtm = F .abtm;
+  seen = F .seen;
+}
 
 -- a read begins: it is in flight to chunk c
 abbrev pub reading : Flow → ℕ → ℕ → Flow
-reading F t c = record { cur = F .cur; act = F .act; ack = F .ack; pre = F .pre; rdm = λ d u. F .rdm d u ⊎ ((u ≡ t) × (d ≡ c)); comm = F .comm; abtm = F .abtm; seen = F .seen }
+reading F t c = record {
+  cur = F .cur;
+  act = F .act;
+  ack = F .ack;
+  pre = F .pre;
+  rdm = λ d u. F .rdm d u ⊎ ((u ≡ t) × (d ≡ c));
+  comm =
+      F .comm;
+  abtm = F .abtm;
+  seen = F .seen;
+}
 
 module _ (S : ℕ → Type 0) (B : Book) (F : Flow) (cell : ℕ → Cell) (i : Inv S B F cell) where
   -- what all answers to a write amount to
@@ -54,7 +93,14 @@ module _ (S : ℕ → Type 0) (B : Book) (F : Flow) (cell : ℕ → Cell) (i : I
       curK = λ u h. g .curK u (h .0);
       actCur = λ u h. (g .actCur u (h .0), h .1);
       own = λ u h. elim [ inl p ↦ g .own u (h .0) p | inr q ↦ absurd (h .1 q) ];
-      dead = λ u h. (λ c. (g .dead u h) .0 (c .0), elim [ inl p ↦ (g .dead u h) .1 p | inr q ↦ absurd ((g .dead u h) .0 (rw q (g .actCur t a))) ]);
+      dead = λ u h. (
+        λ c. (g .dead u h) .0 (c .0),
+        elim [
+          | inl p ↦ (g .dead u h) .1 p
+          | inr q ↦
+              absurd ((g .dead u h) .0 (rw q (g .actCur t a)))
+        ],
+      );
       told = λ u. elim [ inl p ↦ more u (g .told u p) | inr q ↦ inl (inr q) ];
       old = λ u b o r. more u (g .old u (b .0) o r);
       stale = g .stale;
@@ -62,12 +108,41 @@ module _ (S : ℕ → Type 0) (B : Book) (F : Flow) (cell : ℕ → Cell) (i : I
     cells = λ c m. let o = i .cells c m in record {
       held = elim (o .held) [ inl p ↦ inl p | inr p ↦ inr (inl (p .0), p .1) ];
       readTop = o .readTop;
-      waits = λ u x b h. let z = o .waits u x b h in record { isW = z .isW; vals = z .vals; now = z .now; overW = z .overW; overR = z .overR };
+      waits = λ u x b h. let z = o .waits u x b h in record {
+        isW = z .isW;
+        vals = z .vals;
+        now = z .now;
+        overW = z .overW;
+        overR =
+            z .overR;
+      };
       reads = o .reads;
       done = λ u x h. inl (o .done u x h);
       dead = λ u x h. (λ b. (o .dead u x h) .0 (b .0), elim [ inl p ↦ (o .dead u x h) .1 p | inr q ↦ (o .dead u x h) .0 (rw q a) ]);
-      live = λ l u. elim [ inl p ↦ o .live l u p | inr q ↦ rw q (elim ok [ inl p ↦ o .live l t p | inr p ↦ elim (p c m) [ inl z ↦ inr z | inr z ↦ absurd (not-both ((cell c) .lost) (z .0) l) ] ]) ];
-      gone = λ l u. elim [ inl p ↦ o .gone l u p | inr q ↦ rw q (elim ok [ inl p ↦ o .gone l t p | inr p ↦ elim (p c m) [ inl z ↦ absurd (o .empty l t (z .0) (z .1) (z .2)) | inr z ↦ inr (z .1) ] ]) ];
+      live = λ l u. elim [
+        | inl p ↦ o .live l u p
+        | inr q ↦
+            rw q (elim ok [
+              | inl p ↦ o .live l t p
+              | inr p ↦ elim (p c m) [
+                | inl z ↦ inr z
+                | inr z ↦
+                    absurd (not-both ((cell c) .lost) (z .0) l)
+              ]
+            ])
+      ];
+      gone = λ l u. elim [
+        | inl p ↦ o .gone l u p
+        | inr q ↦
+            rw q (elim ok [
+              | inl p ↦ o .gone l t p
+              | inr p ↦ elim (p c m) [
+                | inl z ↦ absurd (o .empty l t (z .0) (z .1) (z .2))
+                | inr z ↦
+                    inr (z .1)
+              ]
+            ])
+      ];
       empty = o .empty;
       promise = λ u b. o .promise u (b .0);
     };
@@ -162,7 +237,8 @@ module _ (S : ℕ → Type 0) (B : Book) (F : Flow) (cell : ℕ → Cell) (i : I
     begin-cells c m = let o = i .cells c m in let g = i .glob in record {
       held = keepWrote ((cell c) .wr) ((cell c) .val) (o .held);
       readTop = elim (o .readTop) [ inl p ↦ inl p | inr p ↦ inr (keepR ((cell c) .rd) p) ];
-      waits = λ u x b h. let z = o .waits u x b h in let n = isW≢ u (z .isW) in record { isW = keepW u (z .isW); vals = sameV u n ∙ z .vals; now = sameE u n ∙ z .now; overW = z .overW; overR = z .overR };
+      waits = λ u x b h. let z = o .waits u x b h in let n = isW≢ u (z .isW) in
+          record { isW = keepW u (z .isW); vals = sameV u n ∙ z .vals; now = sameE u n ∙ z .now; overW = z .overW; overR = z .overR };
       reads = λ u h. keepR u (o .reads u h);
       done = o .done;
       dead = λ u x h. (λ a. (o .dead u x h) .0 (acts u (isW≢ u ((o .waits u x abt h) .isW)) a), (o .dead u x h) .1);
@@ -191,7 +267,8 @@ module _ (S : ℕ → Type 0) (B : Book) (F : Flow) (cell : ℕ → Cell) (i : I
       actCur = g .actCur;
       ackK = λ u c h. keepW u (g .ackK u c h);
       abtK = λ u h. keepW u (g .abtK u h);
-      preK = λ c u e′ x h. let p = g .preK c u e′ x h in let n = isW≢ u (p .isW) in record { isW = keepW u (p .isW); vals = sameV u n ∙ p .vals; known = sameE u n ∙ p .known };
+      preK = λ c u e′ x h. let p = g .preK c u e′ x h in let n = isW≢ u (p .isW) in
+          record { isW = keepW u (p .isW); vals = sameV u n ∙ p .vals; known = sameE u n ∙ p .known };
       rdmK = λ c u h. (keepR u ((g .rdmK c u h) .0), (g .rdmK c u h) .1);
       past = λ u h. elim (eq-or-ne u t) [
         | inl q ↦ (let z = le (sym hit ∙ ap ((begun B t K v e) .kind) (sym q) ∙ h) in rw (q, at-same t e (B .ae)) z)
@@ -206,30 +283,32 @@ module _ (S : ℕ → Type 0) (B : Book) (F : Flow) (cell : ℕ → Cell) (i : I
 
   -- a read starts at a copy
   pub start-read : (t c v e : ℕ) → S c → B .kind t ≡ idle → (B .void t → ⊥) → (t ≡ 0 → ⊥) → Inv S (begun B t readK v e) (reading F t c) cell
-  start-read t c v e m f nv pos = let g = begin-glob t readK v e F f nv pos (λ u _ a. a) (λ u c a. a) (at-same t readK (B .kind)) (λ q. absurd (readK≢writeK q)) in record {
-    glob = record {
-      zeroK = g .zeroK;
-      listK = g .listK;
-      past = g .past;
-      curK = g .curK;
-      actCur = g .actCur;
-      ackK = g .ackK;
-      abtK = g .abtK;
-      preK = g .preK;
-      own = g .own;
-      dead = g .dead;
-      told = g .told;
-      old = g .old;
-      stale = g .stale;
-      rdmK = λ d u. elim [ inl h ↦ g .rdmK d u h | inr q ↦ (rw (q .0) (at-same t readK (B .kind)), rw (q .1) m) ];
-    };
-    home = i .home;
-    cells = begin-cells t readK v e (reading F t c) f nv pos (λ u _ a. a) (λ u c a. a);
-    seen = begin-seen t readK v e F f nv pos (λ u _ a. a) (λ u c a. a);
-  }
+  start-read t c v e m f nv pos = let g = begin-glob t readK v e F f nv pos (λ u _ a. a) (λ u c a. a) (at-same t readK (B .kind))
+      (λ q. absurd (readK≢writeK q)) in record {
+        glob = record {
+          zeroK = g .zeroK;
+          listK = g .listK;
+          past = g .past;
+          curK = g .curK;
+          actCur = g .actCur;
+          ackK = g .ackK;
+          abtK = g .abtK;
+          preK = g .preK;
+          own = g .own;
+          dead = g .dead;
+          told = g .told;
+          old = g .old;
+          stale = g .stale;
+          rdmK = λ d u. elim [ inl h ↦ g .rdmK d u h | inr q ↦ (rw (q .0) (at-same t readK (B .kind)), rw (q .1) m) ];
+        };
+        home = i .home;
+        cells = begin-cells t readK v e (reading F t c) f nv pos (λ u _ a. a) (λ u c a. a);
+        seen = begin-seen t readK v e F f nv pos (λ u _ a. a) (λ u c a. a);
+      }
 
   -- a write starts
-  pub start-write : (t v e : ℕ) → B .kind t ≡ idle → (B .void t → ⊥) → (t ≡ 0 → ⊥) → e ≤ B .era → (s : ℕ) → S s → Inv S (begun B t writeK v e) (writing F t v e) cell
+  pub start-write : (t v e : ℕ) → B .kind t ≡ idle → (B .void t → ⊥) → (t ≡ 0 → ⊥) → e ≤ B .era → (s : ℕ) → S s
+      → Inv S (begun B t writeK v e) (writing F t v e) cell
   start-write t v e f nv pos le s sm =
       let g = begin-glob t writeK v e F f nv pos (λ u _ a. a) (λ u c a. a) (at-same t writeK (B .kind)) (λ _. le) in
       let drop : (u : ℕ) → (u ≡ t → ⊥) → F .act u ⊎ (u ≡ t) → F .act u = λ u n. elim [ inl a ↦ a | inr q ↦ absurd (n q) ] in

@@ -39,10 +39,13 @@ with-value u l h = any-out (λ v w. isIt u v w) l (any-map (isTs u) (λ w. (v : 
 -- as a test and as a fact
 lists-any : (l : List Write) (u : Timestamp) (v : ℕ) → lists l (write u v) ≡ true → Any (isIt (u .0) v) l
 lists-any l u v h = any-map (λ w. w .timestamp is u && eqb (w .value) v ≡ true) (isIt (u .0) v)
-    (λ w z. let r = both (w .timestamp is u) (eqb (w .value) v) z in (eqb-true (w .timestamp .0) (u .0) (r .0), eqb-true (w .value) v (r .1))) l (some-any (λ w. w .timestamp is u && eqb (w .value) v) l h)
+    (λ w z. let r = both (w .timestamp is u) (eqb (w .value) v) z in
+    (eqb-true (w .timestamp .0) (u .0) (r .0), eqb-true (w .value) v (r .1))) l
+    (some-any (λ w. w .timestamp is u && eqb (w .value) v) l h)
 
 any-lists : (l : List Write) (u : Timestamp) (v : ℕ) → Any (isIt (u .0) v) l → lists l (write u v) ≡ true
-any-lists l u v h = any-some (λ w. w .timestamp is u && eqb (w .value) v) l (any-map (isIt (u .0) v) (λ w. w .timestamp is u && eqb (w .value) v ≡ true)
+any-lists l u v h = any-some (λ w. w .timestamp is u && eqb (w .value) v) l
+    (any-map (isIt (u .0) v) (λ w. w .timestamp is u && eqb (w .value) v ≡ true)
     (λ w z. and-true (w .timestamp is u) (eqb (w .value) v) (eq-eqb (w .timestamp .0) (u .0) (z .0)) (eq-eqb (w .value) v (z .1))) l h)
 
 -- a timestamp that no write has
@@ -51,11 +54,13 @@ not-mentioned l u n = go (mentions l u) refl
   where
     go : (x : Bool) → mentions l u ≡ x → x ≡ false
     go false e = refl
-    go true e = absurd (n (any-map (λ w. w .timestamp is u ≡ true) (isTs (u .0)) (λ w z. eqb-true (w .timestamp .0) (u .0) z) l (some-any (λ w. w .timestamp is u) l e)))
+    go true e = absurd (n (any-map (λ w. w .timestamp is u ≡ true) (isTs (u .0)) (λ w z. eqb-true (w .timestamp .0) (u .0) z) l
+        (some-any (λ w. w .timestamp is u) l e)))
 
 -- the last of a list is told by what bounds it: x under top
 is-last : (value : ℕ → ℕ) (L : ℕ → Type 0) (l : List Write) (top x : ℕ) → ((top ≡ 0) × (x ≡ 0)) ⊎ (L top × (value top ≡ x))
-    → ((u : ℕ) → Any (isTs u) l → u ≤ top) → (L top → Any (isTs top) l) → ((u v : ℕ) → Any (isIt u v) l → value u ≡ v) → (Any (isTs 0) l → ⊥)
+    → ((u : ℕ) → Any (isTs u) l → u ≤ top) → (L top → Any (isTs top) l) → ((u v : ℕ) → Any (isIt u v) l → value u ≡ v)
+    → (Any (isTs 0) l → ⊥)
     → (top ≡ last l .timestamp .0) × (x ≡ last l .value)
 is-last value L l top x w most here vals noZ = elim (top-is key z l) [
   | inl e ↦ elim w [
@@ -63,7 +68,8 @@ is-last value L l top x w most here vals noZ = elim (top-is key z l) [
     | inr p ↦ absurd (noZ (subst (λ u. Any (isTs u) l) (omega (arith, top-all key z l top (here (p .0)), ap key e)) (here (p .0))))
   ]
   | inr e ↦ (
-      let found = any-map (λ y. y ≡ last l) (isIt (last l .timestamp .0) (last l .value)) (λ y q. (ap key q, ap (λ (y : Write). y .value) q)) l e in
+      let found = any-map (λ y. y ≡ last l) (isIt (last l .timestamp .0) (last l .value))
+      (λ y q. (ap key q, ap (λ (y : Write). y .value) q)) l e in
       let there = ofIt (last l .timestamp .0) (last l .value) l found in
       let m = most (last l .timestamp .0) there in
       elim w [
@@ -124,15 +130,20 @@ module _ (k : Creation) (b : ℕ) (lb : isBlock k b ≡ true) where
       read-value =
           let p = r .whole .good .inv .seen (u .0) v (inr (inr z)) .last in
           is-last (H .value) (λ w. Any (isTs w) (H .listed)) (those (λ w. w .timestamp below u) all) (p .top) v (p .wrote)
-          (λ w q. let y = any-those (λ w. w .timestamp below u) (isTs w) all q in let a = any-at _ all (record { timestamp = never; value = 0 }) y in
-          p .most w (from-ts w (any-map _ (isTs w) (λ x c. c .1) all y)) (omega (arith, a .2 .1, ltb-true (getD all (a .0) (record { timestamp = never; value = 0 }) .timestamp .0) (u .0) (a .2 .0))))
-          (λ q. those-any (λ w. w .timestamp below u) (isTs (p .top)) all (any-map (isTs (p .top)) _ (λ x c. (lt-ltb (x .timestamp .0) (u .0) (omega (arith, p .below)), c)) all (to-ts (p .top) q)))
+          (λ w q. let y = any-those (λ w. w .timestamp below u) (isTs w) all q in
+          let a = any-at _ all (record { timestamp = never; value = 0 }) y in
+          p .most w (from-ts w (any-map _ (isTs w) (λ x c. c .1) all y))
+          (omega (arith, a .2 .1, ltb-true (getD all (a .0) (record { timestamp = never; value = 0 }) .timestamp .0) (u .0) (a .2 .0))))
+          (λ q. those-any (λ w. w .timestamp below u) (isTs (p .top)) all
+          (any-map (isTs (p .top)) _ (λ x c. (lt-ltb (x .timestamp .0) (u .0) (omega (arith, p .below)), c)) all (to-ts (p .top) q)))
           (λ w x q. valued w x (any-map _ (isIt w x) (λ y c. c .1) all (any-those (λ w. w .timestamp below u) (isIt w x) all q)))
           (λ q. no-zero (any-map _ (isTs 0) (λ y c. c .1) all (any-those (λ w. w .timestamp below u) (isTs 0) all q))) .1
 
       -- its timestamp is no write's
       read-apart : mentions all u ≡ false
-      read-apart = not-mentioned all u (λ q. readK≢writeK (sym (r .whole .good .inv .seen (u .0) v (inr (inr z)) .isR) ∙ r .whole .good .inv .glob .listK (u .0) (from-ts (u .0) q)))
+      read-apart = not-mentioned all u
+          (λ q. readK≢writeK (sym (r .whole .good .inv .seen (u .0) v (inr (inr z)) .isR)
+          ∙ r .whole .good .inv .glob .listK (u .0) (from-ts (u .0) q)))
 
   -- ---- events es, then e, then those later
 
@@ -156,31 +167,36 @@ module _ (k : Creation) (b : ℕ) (lb : isBlock k b ≡ true) where
     module _ (later : List Event) where
       -- the run of those later
       rest : (hist : Hist) × Run b (stepped .next .hist) (step t e .table) later hist
-      rest = run b later (stepped .next .hist) (stepped .blk) (step t e .table) (block-after b (before .0) t e here stepped) (whole-after b (before .0) t e stepped)
+      rest = run b later (stepped .next .hist) (stepped .blk) (step t e .table) (block-after b (before .0) t e here stepped)
+          (whole-after b (before .0) t e stepped)
 
       -- the whole run
       sequence : Run b noHist (fresh k) (es ++ e ∷ later) (rest .0)
-      sequence = appended b noHist (fresh k) es (e ∷ later) (before .0) (rest .0) (before .1) (goes-on b (before .0) t e later stepped (rest .0) (rest .1))
+      sequence = appended b noHist (fresh k) es (e ∷ later) (before .0) (rest .0) (before .1)
+          (goes-on b (before .0) t e later stepped (rest .0) (rest .1))
 
       -- a read done at e is among the answers to the end
       answered : (h v : ℕ) → step t e .outcome ≡ Outcome.ReadDone h b v → Any (isIt (timestampAt t h .0) v) (rest .0 .reads)
       answered h v q = rest .1 .kept (timestampAt t h .0) v (stepped .next .done h v q)
 
       -- a write done at e is listed
-      written : (h : ℕ) → step t e .outcome ≡ Outcome.WriteDone h b → Any (isIt (timestampAt t h .0) (attemptAt t h .value)) (listed b (fresh k) (es ++ e ∷ later))
+      written : (h : ℕ) → step t e .outcome ≡ Outcome.WriteDone h b → Any (isIt (timestampAt t h .0) (attemptAt t h .value))
+          (listed b (fresh k) (es ++ e ∷ later))
       unfolding listed
       written h q =
           let P = isIt (timestampAt t h .0) (attemptAt t h .value) in
           let w : Any P (byHost b t (step t e .outcome)) = rw (q, eq-eqb b b refl) (inl (refl, refl)) in
           subst⁻¹ (Any P) (listed-append b (fresh k) es (e ∷ later)) (any-right P (listed b (fresh k) es) (listed b t (e ∷ later))
-          (any-left P (listedAt b t e (step t e)) (listed b (step t e .table) later) (any-left P (byHost b t (step t e .outcome)) (byChange b t e (step t e)) w)))
+          (any-left P (listedAt b t e (step t e)) (listed b (step t e .table) later)
+          (any-left P (byHost b t (step t e .outcome)) (byChange b t e (step t e)) w)))
 
     -- right after e, a granted epoch change
     module _ (g : isChange e (step t e) ≡ true) where
       -- the run up to e
       so-far : Run b noHist (fresh k) (es ++ e ∷ []) (stepped .next .hist)
       so-far = appended b noHist (fresh k) es (e ∷ []) (before .0) (stepped .next .hist) (before .1)
-          (goes-on b (before .0) t e [] stepped (stepped .next .hist) (ends b (stepped .next .hist) (stepped .blk) (step t e .table) (whole-after b (before .0) t e stepped)))
+          (goes-on b (before .0) t e [] stepped (stepped .next .hist) (ends b (stepped .next .hist) (stepped .blk) (step t e .table)
+          (whole-after b (before .0) t e stepped)))
 
       -- the creation is k still
       same-creation : t .creation ≡ k
@@ -188,14 +204,18 @@ module _ (k : Creation) (b : ℕ) (lb : isBlock k b ≡ true) where
       same-creation = before .1 .creation
 
       -- a copy of the set holds the last write listed so far
-      copy-last : (c : ℕ) → isChunk k c ≡ true → c among setOf k b ≡ true → heldBy (recordOf (step t e .table) c b) ≡ last (listed b (fresh k) (es ++ e ∷ []))
+      copy-last : (c : ℕ) → isChunk k c ≡ true → c among setOf k b ≡ true
+          → heldBy (recordOf (step t e .table) c b) ≡ last (listed b (fresh k) (es ++ e ∷ []))
       copy-last c lc m =
           let x = changed t e g in
           let held : In (t .creation) b c = subst⁻¹ (λ (k : Creation). In k b c) same-creation (lc, m) in
           let now : In (step t e .table .creation) b c = subst⁻¹ (λ (k : Creation). In k b c) (stepped .creation) held in
           let o = stepped .next .good .inv .cells c now in
-          let p = ap (λ (x : Table). partOf x b c) (x .table) ∙ changed-part b (before .0) t (x .formed) here (before .1 .whole .good) (x .refusals) c held in
-          let q = is-last (stepped .next .hist .value) (λ u. Any (isTs u) (stepped .next .hist .listed)) (listed b (fresh k) (es ++ e ∷ [])) (recordOf (step t e .table) c b .write .0) (recordOf (step t e .table) c b .value) (o .held)
+          let p = ap (λ (x : Table). partOf x b c) (x .table) ∙ changed-part b (before .0) t (x .formed) here (before .1 .whole .good)
+          (x .refusals) c held in
+          let q = is-last (stepped .next .hist .value) (λ u. Any (isTs u) (stepped .next .hist .listed))
+          (listed b (fresh k) (es ++ e ∷ [])) (recordOf (step t e .table) c b .write .0) (recordOf (step t e .table) c b .value)
+          (o .held)
           (λ u q. elim (o .live (ap (λ (x : Part). x .lost) p) u (from-ts (es ++ e ∷ []) (stepped .next .hist) so-far u q)) [
             | inl z ↦ z
             | inr z ↦ absurd (subst (Any (isW u (z .0) (z .1))) (ap (λ (x : Part). x .queue) p) (z .2))
@@ -211,12 +231,16 @@ module _ (k : Creation) (b : ℕ) (lb : isBlock k b ≡ true) where
   -- for a fresh store of any creation
   mirrors : OneCopy k b
   mirrors = record {
-    reads = λ es e later h v q. read-value (es ++ e ∷ later) (rest es e later .0) (sequence es e later) (timestampAt (after (fresh k) es) h) v (answered es e later h v q);
-    apart = λ es e later h v q. read-apart (es ++ e ∷ later) (rest es e later .0) (sequence es e later) (timestampAt (after (fresh k) es) h) v (answered es e later h v q);
-    writes = λ es e later h q. any-lists (listed b (fresh k) (es ++ e ∷ later)) (timestampAt (after (fresh k) es) h) (attemptAt (after (fresh k) es) h .value) (written es e later h q);
+    reads = λ es e later h v q. read-value (es ++ e ∷ later) (rest es e later .0) (sequence es e later)
+        (timestampAt (after (fresh k) es) h) v (answered es e later h v q);
+    apart = λ es e later h v q. read-apart (es ++ e ∷ later) (rest es e later .0) (sequence es e later)
+        (timestampAt (after (fresh k) es) h) v (answered es e later h v q);
+    writes = λ es e later h q. any-lists (listed b (fresh k) (es ++ e ∷ later)) (timestampAt (after (fresh k) es) h)
+        (attemptAt (after (fresh k) es) h .value) (written es e later h q);
     copies = copy-last;
     once = λ es u v w p q. let r = run b es noHist (λ _. 0) (fresh k) base-block base in
-        sym (valued es (r .0) (r .1) (u .0) v (lists-any (listed b (fresh k) es) u v p)) ∙ valued es (r .0) (r .1) (u .0) w (lists-any (listed b (fresh k) es) u w q);
+        sym (valued es (r .0) (r .1) (u .0) v (lists-any (listed b (fresh k) es) u v p))
+        ∙ valued es (r .0) (r .1) (u .0) w (lists-any (listed b (fresh k) es) u w q);
   }
 
 -- Demand 3: for every granted creation, every block and every sequence of events. (The proof does not look at the first hypothesis: where

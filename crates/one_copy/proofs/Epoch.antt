@@ -85,10 +85,16 @@ aborted-is u v e h = and-true (e .timestamp is u) (isAborted (e .kind)) (eq-eqb 
 -- ---- the settled copy of a chunk
 
 -- a copy of the set is settled, any other is emptied
-pub settled-at : (t : Table) (b c : ℕ) → c < chunkLimit → getD (settled (copiesOf t b)) c noCopy .block ≡ cond (c among setOf (t .creation) b) (settledRecord (copiesOf t b)) (emptied (recordOf t c b))
+pub settled-at : (t : Table) (b c : ℕ) → c < chunkLimit → getD (settled (copiesOf t b)) c noCopy .block ≡ cond
+    (c among setOf (t .creation) b) (settledRecord (copiesOf t b)) (emptied (recordOf t c b))
 unfolding settled
 settled-at t b c l = ap (λ (x : Copy). x .block)
-    (each-each-number (λ (x : Copy). record { member = x .member; lost = x .lost; block = cond (inSet x) (settledRecord (copiesOf t b)) (emptied (x .block)) }) (copyOf t b) chunkLimit c noCopy l)
+    (each-each-number (λ (x : Copy). record {
+      member = x .member;
+      lost = x .lost;
+      block =
+          cond (inSet x) (settledRecord (copiesOf t b)) (emptied (x .block));
+    }) (copyOf t b) chunkLimit c noCopy l)
 
 module _ (t : Table) (f : Formed t) (b : ℕ) (lb : isBlock (t .creation) b ≡ true) where
   -- the chunks of the set
@@ -133,7 +139,8 @@ module _ (t : Table) (f : Formed t) (b : ℕ) (lb : isBlock (t .creation) b ≡ 
 
   -- and the way back
   copies-those : (q p : Copy → Bool) → ((c : ℕ) → c < chunkLimit → p (copy c) ≡ true → q (copy c) ≡ true) → every q (those p copies) ≡ true
-  copies-those q p h = those-of q p copies noCopy (λ i k e. let l : i < chunkLimit = omega (arith, copies-length) in rw (copy-at i l) (h i l (rw (copy-at i l) at e)))
+  copies-those q p h = those-of q p copies noCopy (λ i k e. let l : i < chunkLimit = omega (arith, copies-length) in
+      rw (copy-at i l) (h i l (rw (copy-at i l) at e)))
 
   -- ---- the greatest over the set
 
@@ -151,7 +158,8 @@ module _ (t : Table) (f : Formed t) (b : ℕ) (lb : isBlock (t .creation) b ≡ 
     -- one has it
     peak-at : (c : ℕ) × S c × (g (copy c) .0 ≡ peak .0)
     peak-at = elim (top-is (λ (u : Timestamp). u .0) never (each g (those inSet copies))) [
-      | inl e ↦ (let c = holder t f b lb in let z : peak .0 ≡ 0 = ap (λ (u : Timestamp). u .0) e in (c .0, c .1, omega (arith, peak-top (c .0) (c .1))))
+      | inl e ↦ (let c = holder t f b lb in let z : peak .0 ≡ 0 = ap (λ (u : Timestamp). u .0) e in
+          (c .0, c .1, omega (arith, peak-top (c .0) (c .1))))
       | inr e ↦ (let r = any-copies _ (any-those inSet (λ x. g x ≡ peak) copies (any-each g (λ u. u ≡ peak) (those inSet copies) e)) in
           (r .0, member-in (r .0) (r .1) (r .2 .0), ap (λ (u : Timestamp). u .0) (r .2 .1)))
     ]
@@ -176,7 +184,9 @@ module _ (t : Table) (f : Formed t) (b : ℕ) (lb : isBlock (t .creation) b ≡ 
   W-place : (atW < chunkLimit) × (inSet (copy atW) && lastWrite (copy atW) is W copies ≡ true)
   W-place =
       let w = W-at in
-      let r = place-at (λ c. inSet c && lastWrite c is W copies) copies noCopy (copies-any (λ c. inSet c && lastWrite c is W copies ≡ true) (w .0) (inside t f b lb (w .0) (w .1)) (and-true _ _ (w .1 .1) (eq-eqb _ _ (w .2)))) in
+      let r = place-at (λ c. inSet c && lastWrite c is W copies) copies noCopy
+      (copies-any (λ c. inSet c && lastWrite c is W copies ≡ true) (w .0) (inside t f b lb (w .0) (w .1))
+      (and-true _ _ (w .1 .1) (eq-eqb _ _ (w .2)))) in
       let l : atW < chunkLimit = omega (arith, r .0, copies-length) in
       (l, rw (copy-at atW l) at (r .1))
 
@@ -186,7 +196,8 @@ module _ (t : Table) (f : Formed t) (b : ℕ) (lb : isBlock (t .creation) b ≡ 
 
   -- its last write is W
   W-is : recordOf t atW b .write .0 ≡ W copies .0
-  W-is = let r = W-place in eqb-true (recordOf t atW b .write .0) (W copies .0) (both (inSet (copy atW)) (lastWrite (copy atW) is W copies) (r .1) .1)
+  W-is = let r = W-place in eqb-true (recordOf t atW b .write .0) (W copies .0)
+      (both (inSet (copy atW)) (lastWrite (copy atW) is W copies) (r .1) .1)
 
   -- its value is the one beside W
   W-value : recordOf t atW b .value ≡ besideW copies
@@ -200,21 +211,30 @@ module _ (t : Table) (f : Formed t) (b : ℕ) (lb : isBlock (t .creation) b ≡ 
   unfolding committed agreed
   chosen-to u h =
       let r = both (u above W copies) _ h in
-      let a = three (every (holds u) (those notLost copies)) (none (holdsAborted u) (those notLost copies)) (every (λ c. u above lastRead c) (those isLost copies)) (r .1) in
+      let a = three (every (holds u) (those notLost copies)) (none (holdsAborted u) (those notLost copies))
+      (every (λ c. u above lastRead c) (those isLost copies)) (r .1) in
       record {
         above = ltb-true (W copies .0) (u .0) (r .0);
         holds = λ c m l.
-            let z = some-any (writeWith u) (inOrder (recordOf t c b .waiting)) (those-copies (holds u) notLost (a .0) c (inside t f b lb c m) (rw (m .1, l) refl)) in
-            let y = any-out (λ v e. (m : Mark) × isW (u .0) v m e) (inOrder (recordOf t c b .waiting)) (any-map (λ e. writeWith u e ≡ true) (λ e. (v : ℕ) × ((m : Mark) × isW (u .0) v m e)) (λ e p. (valueOf (e .kind), is-write u e p)) (inOrder (recordOf t c b .waiting)) z) in
+            let z = some-any (writeWith u) (inOrder (recordOf t c b .waiting))
+            (those-copies (holds u) notLost (a .0) c (inside t f b lb c m) (rw (m .1, l) refl)) in
+            let y = any-out (λ v e. (m : Mark) × isW (u .0) v m e) (inOrder (recordOf t c b .waiting))
+            (any-map (λ e. writeWith u e ≡ true) (λ e. (v : ℕ) × ((m : Mark) × isW (u .0) v m e))
+            (λ e p. (valueOf (e .kind), is-write u e p)) (inOrder (recordOf t c b .waiting)) z) in
             let x = any-out (λ m e. isW (u .0) (y .0) m e) (inOrder (recordOf t c b .waiting)) (y .1) in
             (y .0, x .0, x .1);
         clean = λ c m l v z.
             let no = not-true (some (holdsAborted u) (those notLost copies)) (a .1) in
             not-both (some (holdsAborted u) (those notLost copies))
-            (any-some (holdsAborted u) (those notLost copies) (those-any notLost (λ x. holdsAborted u x ≡ true) copies (copies-any (λ x. (notLost x ≡ true) × (holdsAborted u x ≡ true)) c (inside t f b lb c m)
-            (rw (m .1, l) refl, any-some (abortedWith u) (inOrder (recordOf t c b .waiting)) (any-map (isW (u .0) v abt) (λ e. abortedWith u e ≡ true) (aborted-is u v) (inOrder (recordOf t c b .waiting)) z)))))
+            (any-some (holdsAborted u) (those notLost copies) (those-any notLost (λ x. holdsAborted u x ≡ true) copies
+            (copies-any (λ x. (notLost x ≡ true) × (holdsAborted u x ≡ true)) c (inside t f b lb c m) (
+              rw (m .1, l) refl,
+              any-some (abortedWith u) (inOrder (recordOf t c b .waiting))
+                  (any-map (isW (u .0) v abt) (λ e. abortedWith u e ≡ true) (aborted-is u v) (inOrder (recordOf t c b .waiting)) z),
+            ))))
             no;
-        unread = λ c m l. ltb-true (recordOf t c b .read .0) (u .0) (those-copies (λ c. u above lastRead c) isLost (a .2) c (inside t f b lb c m) (rw (m .1, l) refl));
+        unread = λ c m l. ltb-true (recordOf t c b .read .0) (u .0) (those-copies (λ c. u above lastRead c) isLost (a .2) c
+            (inside t f b lb c m) (rw (m .1, l) refl));
       }
 
   -- and the way back
@@ -223,7 +243,8 @@ module _ (t : Table) (f : Formed t) (b : ℕ) (lb : isBlock (t .creation) b ≡ 
   chosen-from u h = and-true _ _ (lt-ltb (W copies .0) (u .0) (h .above)) (and-true _ _ (and-true _ _
       (copies-those (holds u) notLost (λ c l e. let q = both (c among setOf (t .creation) b) (not (chunkOf t c .lost)) e in
       let z = h .holds c (member-in c l (q .0)) (not-true (chunkOf t c .lost) (q .1)) in
-      any-some (writeWith u) (inOrder (recordOf t c b .waiting)) (any-map (isW (u .0) (z .0) (z .1)) (λ e. writeWith u e ≡ true) (write-is u (z .0) (z .1)) (inOrder (recordOf t c b .waiting)) (z .2))))
+      any-some (writeWith u) (inOrder (recordOf t c b .waiting)) (any-map (isW (u .0) (z .0) (z .1)) (λ e. writeWith u e ≡ true)
+      (write-is u (z .0) (z .1)) (inOrder (recordOf t c b .waiting)) (z .2))))
       (ap not (go (some (holdsAborted u) (those notLost copies)) refl)))
       (copies-those (λ c. u above lastRead c) isLost (λ c l e. let q = both (c among setOf (t .creation) b) (chunkOf t c .lost) e in
       lt-ltb (recordOf t c b .read .0) (u .0) (h .unread c (member-in c l (q .0)) (q .1)))))
@@ -231,10 +252,12 @@ module _ (t : Table) (f : Formed t) (b : ℕ) (lb : isBlock (t .creation) b ≡ 
       go : (x : Bool) → some (holdsAborted u) (those notLost copies) ≡ x → x ≡ false
       go false q = refl
       go true q = absurd (
-          let r = any-copies _ (any-those notLost (λ x. holdsAborted u x ≡ true) copies (some-any (holdsAborted u) (those notLost copies) q)) in
+          let r = any-copies _ (any-those notLost (λ x. holdsAborted u x ≡ true) copies
+          (some-any (holdsAborted u) (those notLost copies) q)) in
           let s = both (r .0 among setOf (t .creation) b) (not (chunkOf t (r .0) .lost)) (r .2 .0) in
           let w = inOrder (recordOf t (r .0) b .waiting) in
-          let z = any-out (λ v e. isW (u .0) v abt e) w (any-map (λ e. abortedWith u e ≡ true) (λ e. (v : ℕ) × isW (u .0) v abt e) (is-aborted u) w (some-any (abortedWith u) w (r .2 .1))) in
+          let z = any-out (λ v e. isW (u .0) v abt e) w (any-map (λ e. abortedWith u e ≡ true) (λ e. (v : ℕ) × isW (u .0) v abt e)
+          (is-aborted u) w (some-any (abortedWith u) w (r .2 .1))) in
           h .clean (r .0) (member-in (r .0) (r .1) (s .0)) (not-true (chunkOf t (r .0) .lost) (s .1)) (z .0) (z .1))
 
   -- ---- the list of what is committed
@@ -247,15 +270,20 @@ module _ (t : Table) (f : Formed t) (b : ℕ) (lb : isBlock (t .creation) b ≡ 
   pub commits-in : (u : ℕ) → Any (isStamp u) (commits copies) → Chosen S cell (W copies .0) u
   unfolding commits
   commits-in u h =
-      let r = any-at (λ x. (committed copies x ≡ true) × (x .0 ≡ u)) (writes copies) never (any-those (committed copies) (isStamp u) (writes copies) h) in
+      let r = any-at (λ x. (committed copies x ≡ true) × (x .0 ≡ u)) (writes copies) never
+      (any-those (committed copies) (isStamp u) (writes copies) h) in
       subst (Chosen S cell (W copies .0)) (r .2 .1) (chosen-to (getD (writes copies) (r .0) never) (r .2 .0))
 
   -- an entry of a chunk that is not lost is among the writes
-  writes-any : (P : Timestamp → Type 0) (c : ℕ) → S c → chunkOf t c .lost ≡ false → Any (λ e. (isWrite (e .kind) ≡ true) × P (e .timestamp)) (inOrder (recordOf t c b .waiting)) → Any P (writes copies)
+  writes-any : (P : Timestamp → Type 0) (c : ℕ) → S c → chunkOf t c .lost ≡ false
+      → Any (λ e. (isWrite (e .kind) ≡ true) × P (e .timestamp)) (inOrder (recordOf t c b .waiting)) → Any P (writes copies)
   unfolding writes
   writes-any P c m l h = joined-any P (each writesOf (those notLost copies)) (each-any writesOf (Any P) (those notLost copies)
-      (those-any notLost (λ x. Any P (writesOf x)) copies (copies-any (λ x. (notLost x ≡ true) × Any P (writesOf x)) c (inside t f b lb c m)
-      (rw (m .1, l) refl, each-any (λ (e : Entry). e .timestamp) P (those (λ e. isWrite (e .kind)) (inOrder (recordOf t c b .waiting))) (those-any (λ e. isWrite (e .kind)) (λ e. P (e .timestamp)) (inOrder (recordOf t c b .waiting)) h)))))
+      (those-any notLost (λ x. Any P (writesOf x)) copies (copies-any (λ x. (notLost x ≡ true) × Any P (writesOf x)) c (inside t f b lb c m) (
+        rw (m .1, l) refl,
+        each-any (λ (e : Entry). e .timestamp) P (those (λ e. isWrite (e .kind)) (inOrder (recordOf t c b .waiting)))
+            (those-any (λ e. isWrite (e .kind)) (λ e. P (e .timestamp)) (inOrder (recordOf t c b .waiting)) h),
+      ))))
 
   module _ (al : allLost copies ≡ false) where
     -- a chunk that is not lost
@@ -277,13 +305,24 @@ module _ (t : Table) (f : Formed t) (b : ℕ) (lb : isBlock (t .creation) b ≡ 
         let w = inOrder (recordOf t (a .0) b .waiting) in
         those-any (committed copies) (isStamp u) (writes copies)
         (writes-any (λ x. (committed copies x ≡ true) × (x .0 ≡ u)) (a .0) (a .1) (a .2)
-        (any-map (isW u (z .0) (z .1)) (λ e. (isWrite (e .kind) ≡ true) × ((committed copies (e .timestamp) ≡ true) × (e .timestamp .0 ≡ u)))
-        (λ e q. (both (e .timestamp is e .timestamp) (isWrite (e .kind)) (write-is (e .timestamp) (z .0) (z .1) e (refl, q .1)) .1, (chosen-from (e .timestamp) (subst⁻¹ (Chosen S cell (W copies .0)) (q .0) h), q .0))) w (z .2)))
+        (any-map (isW u (z .0) (z .1)) (λ e. (isWrite (e .kind) ≡ true)
+        × ((committed copies (e .timestamp) ≡ true) × (e .timestamp .0 ≡ u)))
+        (λ e q. (
+          both (e .timestamp is e .timestamp) (isWrite (e .kind)) (write-is (e .timestamp) (z .0) (z .1) e (refl, q .1)) .1,
+          (chosen-from (e .timestamp) (subst⁻¹ (Chosen S cell (W copies .0)) (q .0) h), q .0),
+        )) w (z .2)))
 
     -- the value that a chosen write is listed with is an entry's
-    pub written : (u : Timestamp) → Chosen S cell (W copies .0) (u .0) → (c : ℕ) × (m : Mark) × S c × Any (isW (u .0) (writtenWith copies u) m) (inOrder (recordOf t c b .waiting))
+    pub written : (u : Timestamp) → Chosen S cell (W copies .0) (u .0) → (c : ℕ) × (m : Mark) × S c
+        × Any (isW (u .0) (writtenWith copies u) m) (inOrder (recordOf t c b .waiting))
     unfolding writtenWith
-    written u h = (at, entry .0, member-in at (found .0) (held .0), subst (λ v. Any (isW (u .0) v (entry .0)) l) value (any-getD (isW (u .0) (valueOf (e .kind)) (entry .0)) l (place (writeWith u) l) zeroEntry (λ q. q .1) (entry .1)))
+    written u h = (
+      at,
+      entry .0,
+      member-in at (found .0) (held .0),
+      subst (λ v. Any (isW (u .0) v (entry .0)) l) value
+          (any-getD (isW (u .0) (valueOf (e .kind)) (entry .0)) l (place (writeWith u) l) zeroEntry (λ q. q .1) (entry .1)),
+    )
       where
         at : ℕ
         at = place (λ c. notLost c && holds u c) copies
@@ -293,13 +332,17 @@ module _ (t : Table) (f : Formed t) (b : ℕ) (lb : isBlock (t .creation) b ≡ 
             let a = alive in
             let z = h .holds (a .0) (a .1) (a .2) in
             let w = inOrder (recordOf t (a .0) b .waiting) in
-            let r = place-at (λ c. notLost c && holds u c) copies noCopy (copies-any (λ c. notLost c && holds u c ≡ true) (a .0) (inside t f b lb (a .0) (a .1))
-            (and-true (notLost (copy (a .0))) (holds u (copy (a .0))) (rw (a .1 .1, a .2) refl) (any-some (writeWith u) w (any-map (isW (u .0) (z .0) (z .1)) (λ e. writeWith u e ≡ true) (write-is u (z .0) (z .1)) w (z .2))))) in
+            let r = place-at (λ c. notLost c && holds u c) copies noCopy
+            (copies-any (λ c. notLost c && holds u c ≡ true) (a .0) (inside t f b lb (a .0) (a .1))
+            (and-true (notLost (copy (a .0))) (holds u (copy (a .0))) (rw (a .1 .1, a .2) refl)
+            (any-some (writeWith u) w (any-map (isW (u .0) (z .0) (z .1)) (λ e. writeWith u e ≡ true) (write-is u (z .0) (z .1)) w
+            (z .2))))) in
             let k : at < chunkLimit = omega (arith, r .0, copies-length) in
             (k, rw (copy-at at k) at (r .1))
 
         held : (at among setOf (t .creation) b ≡ true) × (holds u (copy at) ≡ true)
-        held = let r = both (notLost (copy at)) (holds u (copy at)) (found .1) in (both (at among setOf (t .creation) b) (not (chunkOf t at .lost)) (r .0) .0, r .1)
+        held = let r = both (notLost (copy at)) (holds u (copy at)) (found .1) in
+            (both (at among setOf (t .creation) b) (not (chunkOf t at .lost)) (r .0) .0, r .1)
 
         l : List Entry
         l = inOrder (recordOf t at b .waiting)
@@ -310,19 +353,34 @@ module _ (t : Table) (f : Formed t) (b : ℕ) (lb : isBlock (t .creation) b ≡ 
         entry : (m : Mark) × isW (u .0) (valueOf (e .kind)) m e
         entry = is-write u e (place-at (writeWith u) l zeroEntry (some-any (writeWith u) l (held .1)) .1)
 
-        value : valueOf (e .kind) ≡ valueOf (first zeroEntry (writeWith u) (waiting (first noCopy (λ c. notLost c && holds u c) copies)) .kind)
+        value : valueOf (e .kind) ≡ valueOf (first zeroEntry (writeWith u)
+            (waiting (first noCopy (λ c. notLost c && holds u c) copies)) .kind)
         value = ap (λ (x : Copy). valueOf (first zeroEntry (writeWith u) (waiting x) .kind)) (sym (copy-at at (found .0)))
 
     -- ---- settlement
 
     -- nothing is committed, or the latest is
     picked : (x : Bool) → some (committed copies) (writes copies) ≡ x
-        → (((u : ℕ) → Chosen S cell (W copies .0) u → ⊥) × (cond x (latest copies) (W copies) .0 ≡ W copies .0) × (cond x (writtenWith copies (latest copies)) (besideW copies) ≡ besideW copies))
-        ⊎ (Chosen S cell (W copies .0) (cond x (latest copies) (W copies) .0) × ((u : ℕ) → Chosen S cell (W copies .0) u → u ≤ cond x (latest copies) (W copies) .0)
-        × ((c : ℕ) × (m : Mark) × S c × cell c .w (cond x (latest copies) (W copies) .0) (cond x (writtenWith copies (latest copies)) (besideW copies)) m))
+        → (((u : ℕ) → Chosen S cell (W copies .0) u → ⊥) × (cond x (latest copies) (W copies) .0 ≡ W copies .0)
+        × (cond x (writtenWith copies (latest copies)) (besideW copies) ≡ besideW copies))
+        ⊎ (Chosen S cell (W copies .0) (cond x (latest copies) (W copies) .0)
+        × ((u : ℕ) → Chosen S cell (W copies .0) u → u ≤ cond x (latest copies) (W copies) .0)
+        × ((c : ℕ) × (m : Mark) × S c × cell c .w (cond x (latest copies) (W copies) .0)
+        (cond x (writtenWith copies (latest copies)) (besideW copies)) m))
     unfolding commits latest
-    picked false e = inl (λ u h. not-both (some (committed copies) (writes copies)) (any-some (committed copies) (writes copies) (any-map _ (λ x. committed copies x ≡ true) (λ x q. q .0) (writes copies) (any-those (committed copies) (isStamp u) (writes copies) (commits-has u h)))) e, refl, refl)
-    picked true e = inr (chosen, λ u h. top-all (λ (x : Timestamp). x .0) never (commits copies) u (commits-has u h), written (latest copies) chosen)
+    picked false e = inl (
+      λ u h. not-both (some (committed copies) (writes copies))
+          (any-some (committed copies) (writes copies) (any-map _ (λ x. committed copies x ≡ true) (λ x q. q .0) (writes copies)
+          (any-those (committed copies) (isStamp u) (writes copies) (commits-has u h)))) e,
+      refl,
+      refl,
+    )
+    picked true e = inr (
+      chosen,
+      λ u h. top-all (λ (x : Timestamp). x .0) never (commits copies) u (commits-has u h),
+      written
+          (latest copies) chosen,
+    )
       where
         -- one that is committed
         one : (u : ℕ) × Any (isStamp u) (commits copies)
@@ -331,12 +389,15 @@ module _ (t : Table) (f : Formed t) (b : ℕ) (lb : isBlock (t .creation) b ≡ 
 
         chosen : Chosen S cell (W copies .0) (latest copies .0)
         chosen = elim (top-is (λ (x : Timestamp). x .0) never (commits copies)) [
-          | inl q ↦ absurd (let r = one in let z : latest copies .0 ≡ 0 = ap (λ (x : Timestamp). x .0) q in omega (arith, commits-in (r .0) (r .1) .above, top-all (λ (x : Timestamp). x .0) never (commits copies) (r .0) (r .1)))
-          | inr q ↦ commits-in (latest copies .0) (any-map (λ x. x ≡ latest copies) (isStamp (latest copies .0)) (λ x z. ap (λ (x : Timestamp). x .0) z) (commits copies) q)
+          | inl q ↦ absurd (let r = one in let z : latest copies .0 ≡ 0 = ap (λ (x : Timestamp). x .0) q in
+              omega (arith, commits-in (r .0) (r .1) .above, top-all (λ (x : Timestamp). x .0) never (commits copies) (r .0) (r .1)))
+          | inr q ↦ commits-in (latest copies .0) (any-map (λ x. x ≡ latest copies) (isStamp (latest copies .0))
+              (λ x z. ap (λ (x : Timestamp). x .0) z) (commits copies) q)
         ]
 
     -- the rules' settlement is the view's
-    pub settling : Settling S cell (W copies .0) (besideW copies) (settledRecord copies .write .0) (settledRecord copies .value) (settledRecord copies .read .0)
+    pub settling : Settling S cell (W copies .0) (besideW copies) (settledRecord copies .write .0) (settledRecord copies .value)
+        (settledRecord copies .read .0)
     unfolding settledRecord
     settling = record {
       atW = atW;

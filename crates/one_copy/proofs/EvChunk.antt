@@ -47,7 +47,8 @@ later-up t u h = go (ltb (t .0) (u .0)) refl
 later-one : (t u : Timestamp) → ((later t u .0 ≡ u .0) × (t .0 ≤ later t u .0)) ⊎ ((later t u .0 ≡ t .0) × (u .0 ≤ later t u .0))
 later-one t u = go (ltb (t .0) (u .0)) refl
   where
-    go : (x : Bool) → ltb (t .0) (u .0) ≡ x → ((cond x u t .0 ≡ u .0) × (t .0 ≤ cond x u t .0)) ⊎ ((cond x u t .0 ≡ t .0) × (u .0 ≤ cond x u t .0))
+    go : (x : Bool) → ltb (t .0) (u .0) ≡ x → ((cond x u t .0 ≡ u .0) × (t .0 ≤ cond x u t .0))
+        ⊎ ((cond x u t .0 ≡ t .0) × (u .0 ≤ cond x u t .0))
     go true e = let z = ltb-true (t .0) (u .0) e in inl (refl, omega arith)
     go false e = let z = ltb-false (t .0) (u .0) e in inr (refl, z)
 
@@ -59,17 +60,20 @@ Plain b Slot.Empty = Unit {0}
 Plain b (Slot.Full m) = Foreign b m
 
 -- such a reply adds nothing
-pub net-replied : (b : ℕ) (n n₀ : List Place) → ((P : Message → Type 0) → Sent n P → Sent n₀ P) → (reply : Slot) → Plain b reply → NetLe b (replied n reply) n₀
+pub net-replied : (b : ℕ) (n n₀ : List Place) → ((P : Message → Type 0) → Sent n P → Sent n₀ P) → (reply : Slot) → Plain b reply
+    → NetLe b (replied n reply) n₀
 unfolding replied
 net-replied b n n₀ sub Slot.Empty p = net-less b n n₀ sub
-net-replied b n n₀ sub (Slot.Full m) p = net-foreign b (sent n m) n₀ ℕ (λ _. m) (λ P z. elim (sent-one P m n z) [ inl q ↦ inl (sub P q) | inr q ↦ inr (0, q) ]) (λ _. p)
+net-replied b n n₀ sub (Slot.Full m) p = net-foreign b (sent n m) n₀ ℕ (λ _. m)
+    (λ P z. elim (sent-one P m n z) [ inl q ↦ inl (sub P q) | inr q ↦ inr (0, q) ]) (λ _. p)
 
 -- a list that is not empty has its head
 head-first : (l : List Entry) → 0 < length l → l ≡ getD l 0 zeroEntry ∷ drop 1 l
 head-first [] h = absurd (omega arith)
 head-first (x ∷ xs) h = refl
 
-module _ (b : ℕ) (h : Hist) (t : Table) (f : Formed t) (s : Shape t) (lb : isBlock (t .creation) b ≡ true) (i : Good b h t) (c : ℕ) (lc : isChunk (t .creation) c ≡ true) where
+module _ (b : ℕ) (h : Hist) (t : Table) (f : Formed t) (s : Shape t) (lb : isBlock (t .creation) b ≡ true) (i : Good b h t) (c : ℕ)
+    (lc : isChunk (t .creation) c ≡ true) where
   -- the chunks of the set
   abbrev S : ℕ → Type 0
   S = In (t .creation) b
@@ -84,7 +88,8 @@ module _ (b : ℕ) (h : Hist) (t : Table) (f : Formed t) (s : Shape t) (lb : isB
 
   -- ---- run
 
-  module _ (d : ℕ) (ld : isBlock (t .creation) d ≡ true) (free : ℕ) (e : codeOf (runRefusals (chunkOf t c .state) (recordOf t c d .waiting) free) ≡ 0) where
+  module _ (d : ℕ) (ld : isBlock (t .creation) d ≡ true) (free : ℕ) (e : codeOf
+      (runRefusals (chunkOf t c .state) (recordOf t c d .waiting) free) ≡ 0) where
     -- the record
     abbrev r : Record
     r = recordOf t c d
@@ -96,7 +101,8 @@ module _ (b : ℕ) (h : Hist) (t : Table) (f : Formed t) (s : Shape t) (lb : isB
     -- the chunk is normal
     normal : isNormal (chunkOf t c .state) ≡ true
     unfolding every
-    normal = not-false (isNormal (chunkOf t c .state)) (granted-exactly (runRefusals (chunkOf t c .state) (r .waiting) free) refl .0 e 0 (omega arith))
+    normal = not-false (isNormal (chunkOf t c .state)) (granted-exactly (runRefusals (chunkOf t c .state) (r .waiting) free) refl .0 e 0
+        (omega arith))
 
     -- the head is decided
     decided : isUndecided (head (r .waiting) .kind) ≡ false
@@ -109,7 +115,15 @@ module _ (b : ℕ) (h : Hist) (t : Table) (f : Formed t) (s : Shape t) (lb : isB
 
     -- there is a head
     first : inOrder (r .waiting) ≡ head (r .waiting) ∷ drop 1 (inOrder (r .waiting))
-    first = head-first (inOrder (r .waiting)) (omega (arith, run-head (chunkOf t c .state) (r .waiting) free e, formedW .count, s .entries c d place-c place-d, length-take (r .waiting .count) (r .waiting .entries)))
+    first = head-first (inOrder (r .waiting))
+        (omega (
+          arith,
+          run-head (chunkOf t c .state) (r .waiting) free e,
+          formedW .count,
+          s .entries c d place-c place-d,
+          length-take
+              (r .waiting .count) (r .waiting .entries),
+        ))
 
     -- what a run leaves is good
     abbrev Ran : Arrived → Type 0
@@ -118,7 +132,8 @@ module _ (b : ℕ) (h : Hist) (t : Table) (f : Formed t) (s : Shape t) (lb : isB
     -- at another block
     run-far : (d ≡ b → ⊥) → (a : Arrived) → Plain b (a .reply) → Ran a
     run-far far a p = good-far b h t s c d (a .block) _ place-b place-d far
-        (net-only S b h (t .epoch .0) (seatsOf t) (partOf t b) (t .places) i _ (net-replied b (t .places) (t .places) (λ P z. z) (a .reply) p))
+        (net-only S b h (t .epoch .0) (seatsOf t) (partOf t b) (t .places) i _
+        (net-replied b (t .places) (t .places) (λ P z. z) (a .reply) p))
 
     -- the head of another block, by its kind
     far-as : (d ≡ b → ⊥) → (k : Kind) → Ran (runs c d (withWaiting r (headRemoved (r .waiting))) (head (r .waiting)) k)
@@ -127,7 +142,8 @@ module _ (b : ℕ) (h : Hist) (t : Table) (f : Formed t) (s : Shape t) (lb : isB
     far-as far (Kind.Undecided v) = run-far far _ tt
     far-as far Kind.Read = walk Ran (head (r .waiting) .timestamp below r .write) _ _
         (λ _. run-far far _ (plain-order b (headed (head (r .waiting) .sender) c d (head (r .waiting) .timestamp))))
-        (λ _. run-far far _ (far-message b (Message.ReadReply (headed (head (r .waiting) .sender) c d (head (r .waiting) .timestamp)) (r .value)) far))
+        (λ _. run-far far _ (far-message b (Message.ReadReply (headed (head (r .waiting) .sender) c d (head (r .waiting) .timestamp))
+        (r .value)) far))
 
   -- at this block
   module _ (free : ℕ) (e : codeOf (runRefusals (chunkOf t c .state) (recordOf t c b .waiting) free) ≡ 0) where
@@ -144,37 +160,51 @@ module _ (b : ℕ) (h : Hist) (t : Table) (f : Formed t) (s : Shape t) (lb : isB
     low = least (t .creation) w (formedW b lb free e) (head w) (drop 1 (inOrder w)) (first b lb free e)
 
     -- the part with the head removed
-    put : (g : List Entry → Part) (n : List Place) → CInv S b h (t .epoch .0) (seatsOf t) (at c (g (drop 1 (inOrder w))) (partOf t b)) n → CInv S b h (t .epoch .0) (seatsOf t) (at c (g (inOrder (headRemoved w))) (partOf t b)) n
+    put : (g : List Entry → Part) (n : List Place) → CInv S b h (t .epoch .0) (seatsOf t) (at c (g (drop 1 (inOrder w))) (partOf t b)) n
+        → CInv S b h (t .epoch .0) (seatsOf t) (at c (g (inOrder (headRemoved w))) (partOf t b)) n
     put g n v = subst⁻¹ (λ (q : List Entry). CInv S b h (t .epoch .0) (seatsOf t) (at c (g q) (partOf t b)) n) rest v
 
     -- the head of this block, by its kind
-    here-as : (k : Kind) → head w .kind ≡ k → isUndecided k ≡ false → Ran b lb free e (runs c b (withWaiting (recordOf t c b) (headRemoved w)) (head w) k)
+    here-as : (k : Kind) → head w .kind ≡ k → isUndecided k ≡ false → Ran b lb free e
+        (runs c b (withWaiting (recordOf t c b) (headRemoved w)) (head w) k)
     unfolding replied
     here-as (Kind.Undecided v) ek u = absurd (true≢false u)
     here-as (Kind.Aborted v) ek u = good-record b h t s c _ (t .places) place-c place-b (put (withQueue (partOf t b c)) (t .places)
-        (runs-off S b h (t .epoch .0) (seatsOf t) (partOf t b) (t .places) i c (normal b lb free e) (head w) (drop 1 (inOrder w)) (first b lb free e) low (t .places) (net-same b (t .places)) (λ u x a z. (rw ek at (z .1)) .1)))
-    here-as (Kind.Committed v) ek u = good-record b h t s c _ (t .places) place-c place-b (put (wrote (partOf t b c) v (later (recordOf t c b .write) (head w .timestamp) .0)) (t .places)
-        (runs-cmt S b h (t .epoch .0) (seatsOf t) (partOf t b) (t .places) i c (normal b lb free e) (head w) (drop 1 (inOrder w)) (first b lb free e) low v (later (recordOf t c b .write) (head w .timestamp) .0) (t .places) (net-same b (t .places)) ek
+        (runs-off S b h (t .epoch .0) (seatsOf t) (partOf t b) (t .places) i c (normal b lb free e) (head w) (drop 1 (inOrder w))
+        (first b lb free e) low (t .places) (net-same b (t .places)) (λ u x a z. (rw ek at (z .1)) .1)))
+    here-as (Kind.Committed v) ek u = good-record b h t s c _ (t .places) place-c place-b
+        (put (wrote (partOf t b c) v (later (recordOf t c b .write) (head w .timestamp) .0)) (t .places)
+        (runs-cmt S b h (t .epoch .0) (seatsOf t) (partOf t b) (t .places) i c (normal b lb free e) (head w) (drop 1 (inOrder w))
+        (first b lb free e) low v (later (recordOf t c b .write) (head w .timestamp) .0) (t .places) (net-same b (t .places)) ek
         (later-up (recordOf t c b .write) (head w .timestamp))))
     here-as Kind.Read ek u = walk (Ran b lb free e) (head w .timestamp below recordOf t c b .write) _ _
         (λ _. good-record b h t s c _ _ place-c place-b (put (withQueue (partOf t b c)) _
-        (runs-off S b h (t .epoch .0) (seatsOf t) (partOf t b) (t .places) i c (normal b lb free e) (head w) (drop 1 (inOrder w)) (first b lb free e) low _
-        (net-replied b (t .places) (t .places) (λ P z. z) (Slot.Full (Message.OutOfOrder hd)) (plain-order b hd)) (λ u x a z. absurd (rw ek at (z .1))))))
-        (λ o. good-record b h t s c _ _ place-c place-b (put (wasRead (partOf t b c) (later (recordOf t c b .read) (head w .timestamp) .0)) _
-        (runs-read S b h (t .epoch .0) (seatsOf t) (partOf t b) (t .places) i c (normal b lb free e) (head w) (drop 1 (inOrder w)) (first b lb free e) low (later (recordOf t c b .read) (head w .timestamp) .0) _ (head w .sender)
-        (λ P z. sent-one P _ (t .places) z) ek (ltb-false (head w .timestamp .0) (recordOf t c b .write .0) o) (later-one (recordOf t c b .read) (head w .timestamp)))))
+        (runs-off S b h (t .epoch .0) (seatsOf t) (partOf t b) (t .places) i c (normal b lb free e) (head w) (drop 1 (inOrder w))
+        (first b lb free e) low _
+        (net-replied b (t .places) (t .places) (λ P z. z) (Slot.Full (Message.OutOfOrder hd)) (plain-order b hd))
+        (λ u x a z. absurd (rw ek at (z .1))))))
+        (λ o. good-record b h t s c _ _ place-c place-b
+        (put (wasRead (partOf t b c) (later (recordOf t c b .read) (head w .timestamp) .0)) _
+        (runs-read S b h (t .epoch .0) (seatsOf t) (partOf t b) (t .places) i c (normal b lb free e) (head w) (drop 1 (inOrder w))
+        (first b lb free e) low (later (recordOf t c b .read) (head w .timestamp) .0) _ (head w .sender)
+        (λ P z. sent-one P _ (t .places) z) ek (ltb-false (head w .timestamp .0) (recordOf t c b .write .0) o)
+        (later-one (recordOf t c b .read) (head w .timestamp)))))
       where
         hd : Header
         hd = headed (head w .sender) c b (head w .timestamp)
 
   -- a run, at this block or another
-  pub ev-run : (d : ℕ) → isBlock (t .creation) d ≡ true → (free : ℕ) → codeOf (runRefusals (chunkOf t c .state) (recordOf t c d .waiting) free) ≡ 0
-      → Next b h t [] Outcome.None (withPlaces (withRecord t c d (ran c d (recordOf t c d) .block)) (replied (t .places) (ran c d (recordOf t c d) .reply)))
+  pub ev-run : (d : ℕ) → isBlock (t .creation) d ≡ true → (free : ℕ) → codeOf
+      (runRefusals (chunkOf t c .state) (recordOf t c d .waiting) free) ≡ 0
+      → Next b h t [] Outcome.None (withPlaces (withRecord t c d (ran c d (recordOf t c d) .block))
+      (replied (t .places) (ran c d (recordOf t c d) .reply)))
   unfolding ran
   ev-run d ld free e = quietly b h t _ (elim (eq-or-ne d b) [
     | inl q ↦ subst⁻¹ (λ d. codeOf (runRefusals (chunkOf t c .state) (recordOf t c d .waiting) free) ≡ 0
-        → Good b h (withPlaces (withRecord t c d (runs c d (withWaiting (recordOf t c d) (headRemoved (recordOf t c d .waiting))) (head (recordOf t c d .waiting)) (head (recordOf t c d .waiting) .kind) .block))
-        (replied (t .places) (runs c d (withWaiting (recordOf t c d) (headRemoved (recordOf t c d .waiting))) (head (recordOf t c d .waiting)) (head (recordOf t c d .waiting) .kind) .reply)))) q
+        → Good b h (withPlaces (withRecord t c d (runs c d (withWaiting (recordOf t c d) (headRemoved (recordOf t c d .waiting)))
+        (head (recordOf t c d .waiting)) (head (recordOf t c d .waiting) .kind) .block))
+        (replied (t .places) (runs c d (withWaiting (recordOf t c d) (headRemoved (recordOf t c d .waiting)))
+        (head (recordOf t c d .waiting)) (head (recordOf t c d .waiting) .kind) .reply)))) q
         (λ e. here-as free e (head (recordOf t c b .waiting) .kind) refl (decided b lb free e)) e
     | inr far ↦ far-as d ld free e far (head (recordOf t c d .waiting) .kind)
   ])
@@ -182,9 +212,12 @@ module _ (b : ℕ) (h : Hist) (t : Table) (f : Formed t) (s : Shape t) (lb : isB
   -- ---- the chunk's own events
 
   -- another state
-  mode : (x : Chunk) → x .lost ≡ chunkOf t c .lost → (isNormal (x .state) ≡ true → chunkOf t c .lost ≡ false) → Next b h t [] Outcome.None (withChunk t c x)
+  mode : (x : Chunk) → x .lost ≡ chunkOf t c .lost → (isNormal (x .state) ≡ true → chunkOf t c .lost ≡ false)
+      → Next b h t [] Outcome.None (withChunk t c x)
   mode x e ok = quietly b h t _ (good-chunk b h t s c x (t .places) place-c
-      (subst⁻¹ (λ (l : Bool). CInv S b h (t .epoch .0) (seatsOf t) (at c (partWith (record { state = x .state; lost = l; epoch = x .epoch; reconcile = x .reconcile }) (recordOf t c b)) (partOf t b)) (t .places)) e
+      (subst⁻¹ (λ (l : Bool). CInv S b h (t .epoch .0) (seatsOf t) (at c
+      (partWith (record { state = x .state; lost = l; epoch = x .epoch; reconcile = x .reconcile }) (recordOf t c b)) (partOf t b))
+      (t .places)) e
       (mode-only S b h (t .epoch .0) (seatsOf t) (partOf t b) (t .places) i c (x .state) (t .places) (net-same b (t .places)) ok)))
 
   -- recover
@@ -196,20 +229,26 @@ module _ (b : ℕ) (h : Hist) (t : Table) (f : Formed t) (s : Shape t) (lb : isB
   ev-take = mode (leaseTaken (chunkOf t c)) refl (λ e. absurd (false≢true e))
 
   -- a lease for a chunk that is not lost
-  pub ev-give : codeOf (giveLeaseRefusals (chunkOf t c .state) (chunkOf t c .lost)) ≡ 0 → Next b h t [] Outcome.None (withChunk t c (leaseGiven (chunkOf t c)))
+  pub ev-give : codeOf (giveLeaseRefusals (chunkOf t c .state) (chunkOf t c .lost)) ≡ 0
+      → Next b h t [] Outcome.None (withChunk t c (leaseGiven (chunkOf t c)))
   unfolding every
-  ev-give e = mode (leaseGiven (chunkOf t c)) refl (λ _. granted-exactly (giveLeaseRefusals (chunkOf t c .state) (chunkOf t c .lost)) refl .0 e 1 (omega arith))
+  ev-give e = mode (leaseGiven (chunkOf t c)) refl (λ _. granted-exactly
+      (giveLeaseRefusals (chunkOf t c .state) (chunkOf t c .lost)) refl .0 e 1 (omega arith))
 
   -- overdue: no part of the view changes
   pub ev-overdue : (d : ℕ) → Next b h t [] Outcome.None (withChunk t c (overdue (chunkOf t c) d))
   ev-overdue d = mode (overdue (chunkOf t c) d) refl (i .sane c)
 
   -- fail
-  pub ev-fail : Next b h t [] Outcome.None (withRecords (withChunk t c (failed (chunkOf t c))) (recordsBy (λ d b. cond (eqb d c) (emptied (recordOf t d b)) (recordOf t d b))))
-  ev-fail = quietly b h t _ (good-records b h (withChunk t c x) (shape-chunk t s c x) (recordsBy (λ d b. cond (eqb d c) (emptied (recordOf t d b)) (recordOf t d b))) (at c (emptied (recordOf t c b)) (λ a. recordOf t a b))
+  pub ev-fail : Next b h t [] Outcome.None (withRecords (withChunk t c (failed (chunkOf t c)))
+      (recordsBy (λ d b. cond (eqb d c) (emptied (recordOf t d b)) (recordOf t d b))))
+  ev-fail = quietly b h t _ (good-records b h (withChunk t c x) (shape-chunk t s c x)
+      (recordsBy (λ d b. cond (eqb d c) (emptied (recordOf t d b)) (recordOf t d b)))
+      (at c (emptied (recordOf t c b)) (λ a. recordOf t a b))
       (emptied-at b h t s c place-c place-b) (t .places)
       (subst⁻¹ (λ (g : ℕ → Part). CInv S b h (t .epoch .0) (seatsOf t) g (t .places))
-      (fun-ext (λ a. ap (λ (y : Chunk). partWith y (at c (emptied (recordOf t c b)) (λ a. recordOf t a b) a)) (getD-set (t .chunks) c x noChunk (omega (arith, s .chunks, place-c)) a))
+      (fun-ext (λ a. ap (λ (y : Chunk). partWith y (at c (emptied (recordOf t c b)) (λ a. recordOf t a b) a))
+      (getD-set (t .chunks) c x noChunk (omega (arith, s .chunks, place-c)) a))
       ∙ at-pair partWith c x (emptied (recordOf t c b)) (chunkOf t) (λ a. recordOf t a b))
       (falls S b h (t .epoch .0) (seatsOf t) (partOf t b) (t .places) i c (t .places) (net-same b (t .places)))))
     where

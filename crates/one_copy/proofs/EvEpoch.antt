@@ -42,7 +42,9 @@ module _ (t : Table) where
   unfolding settledRecord
   none-wait c b lb = elim (le-or-lt chunkLimit c) [
     | inl q ↦ ap (λ (r : Record). inOrder (r .waiting)) (records-beyond (λ c b. getD (settled (copiesOf t b)) c noCopy .block) c b q)
-    | inr q ↦ ap (λ (r : Record). inOrder (r .waiting)) (grid-at (λ c b. getD (settled (copiesOf t b)) c noCopy .block) chunkLimit blockLimit c b noRecord q lb ∙ settled-at t b c q) ∙ go (c among setOf (t .creation) b)
+    | inr q ↦ ap (λ (r : Record). inOrder (r .waiting))
+        (grid-at (λ c b. getD (settled (copiesOf t b)) c noCopy .block) chunkLimit blockLimit c b noRecord q lb ∙ settled-at t b c q)
+        ∙ go (c among setOf (t .creation) b)
   ]
     where
       go : (m : Bool) → inOrder (cond m (settledRecord (copiesOf t b)) (emptied (recordOf t c b)) .waiting) ≡ []
@@ -50,18 +52,23 @@ module _ (t : Table) where
       go false = refl
 
   -- a chunk that is normal is not lost
-  renewed-sane : (x : Bool) (c : Chunk) (k : Chunk) → k .lost ≡ false → (isNormal (c .state) ≡ true → c .lost ≡ false) → isNormal (cond x k c .state) ≡ true → cond x k c .lost ≡ false
+  renewed-sane : (x : Bool) (c : Chunk) (k : Chunk) → k .lost ≡ false → (isNormal (c .state) ≡ true → c .lost ≡ false)
+      → isNormal (cond x k c .state) ≡ true → cond x k c .lost ≡ false
   renewed-sane true c k e f h = e
   renewed-sane false c k e f h = f h
 
   -- so it is after the change
-  pub changed-sane : ((c : ℕ) → isNormal (chunkOf t c .state) ≡ true → chunkOf t c .lost ≡ false) → (c : ℕ) → isNormal (chunkOf (epochChanged t) c .state) ≡ true → chunkOf (epochChanged t) c .lost ≡ false
+  pub changed-sane : ((c : ℕ) → isNormal (chunkOf t c .state) ≡ true → chunkOf t c .lost ≡ false) → (c : ℕ)
+      → isNormal (chunkOf (epochChanged t) c .state) ≡ true → chunkOf (epochChanged t) c .lost ≡ false
   changed-sane f c = elim (le-or-lt chunkLimit c) [
-    | inl q ↦ λ _. ap (λ (x : Chunk). x .lost) (List·getD-eq-default (each (renewed t) (numbers chunkLimit)) noChunk (omega (arith, each-length (renewed t) (numbers chunkLimit), numbers-length chunkLimit)))
-    | inr q ↦ subst⁻¹ (λ (x : Chunk). isNormal (x .state) ≡ true → x .lost ≡ false) (each-number (renewed t) chunkLimit c noChunk q) (renewed-sane (isChunk (t .creation) c) (chunkOf t c) _ refl (f c))
+    | inl q ↦ λ _. ap (λ (x : Chunk). x .lost) (List·getD-eq-default (each (renewed t) (numbers chunkLimit)) noChunk
+        (omega (arith, each-length (renewed t) (numbers chunkLimit), numbers-length chunkLimit)))
+    | inr q ↦ subst⁻¹ (λ (x : Chunk). isNormal (x .state) ≡ true → x .lost ≡ false) (each-number (renewed t) chunkLimit c noChunk q)
+        (renewed-sane (isChunk (t .creation) c) (chunkOf t c) _ refl (f c))
   ]
 
-module _ (b : ℕ) (h : Hist) (t : Table) (f : Formed t) (lb : isBlock (t .creation) b ≡ true) (i : Good b h t) (e : codeOf (epochRefusals t) ≡ 0) where
+module _ (b : ℕ) (h : Hist) (t : Table) (f : Formed t) (lb : isBlock (t .creation) b ≡ true) (i : Good b h t)
+    (e : codeOf (epochRefusals t) ≡ 0) where
   -- the chunks of the set
   abbrev S : ℕ → Type 0
   S = In (t .creation) b
@@ -71,12 +78,27 @@ module _ (b : ℕ) (h : Hist) (t : Table) (f : Formed t) (lb : isBlock (t .creat
   r = settledRecord (copiesOf t b)
 
   -- the part of a chunk of the set
-  pub changed-part : (c : ℕ) → S c → partOf (epochChanged t) b c ≡ record { mode = State.Normal; lost = false; val = r .value; rd = r .read .0; wr = r .write .0; queue = [] }
+  pub changed-part : (c : ℕ) → S c → partOf (epochChanged t) b c ≡ record {
+    mode = State.Normal;
+    lost = false;
+    val = r .value;
+    rd =
+        r .read .0;
+    wr = r .write .0;
+    queue = [];
+  }
   unfolding settledRecord
   changed-part c m =
       let l = inside t f b lb c m in
-      let ec : chunkOf (epochChanged t) c ≡ record { state = State.Normal; lost = false; epoch = next (t .epoch); reconcile = noBlocks } = each-number (renewed t) chunkLimit c noChunk l ∙ rw (m .0) refl in
-      let er : recordOf (epochChanged t) c b ≡ r = grid-at (λ c b. getD (settled (copiesOf t b)) c noCopy .block) chunkLimit blockLimit c b noRecord l (small t f b lb) ∙ settled-at t b c l ∙ rw (m .1) refl in
+      let ec : chunkOf (epochChanged t) c ≡ record {
+        state = State.Normal;
+        lost = false;
+        epoch = next (t .epoch);
+        reconcile =
+            noBlocks;
+      } = each-number (renewed t) chunkLimit c noChunk l ∙ rw (m .0) refl in
+      let er : recordOf (epochChanged t) c b ≡ r = grid-at (λ c b. getD (settled (copiesOf t b)) c noCopy .block) chunkLimit blockLimit
+      c b noRecord l (small t f b lb) ∙ settled-at t b c l ∙ rw (m .1) refl in
       rw (ec, er) refl
 
   -- the writes that it commits
@@ -98,7 +120,8 @@ module _ (b : ℕ) (h : Hist) (t : Table) (f : Formed t) (lb : isBlock (t .creat
   -- what is listed after was listed or is committed
   to : (u : ℕ) → Any (isTs u) (committedBy ++ h .listed) → Any (isTs u) (h .listed) ⊎ isChosen u
   to u z = elim (any-append (isTs u) committedBy (h .listed) z) [
-    | inl y ↦ inr (commits-in t f b lb u (any-each (λ u. record { timestamp = u; value = writtenWith (copiesOf t b) u }) (isTs u) (commits (copiesOf t b)) y))
+    | inl y ↦ inr (commits-in t f b lb u (any-each (λ u. record { timestamp = u; value = writtenWith (copiesOf t b) u }) (isTs u)
+        (commits (copiesOf t b)) y))
     | inr y ↦ inl y
   ]
 
@@ -106,7 +129,8 @@ module _ (b : ℕ) (h : Hist) (t : Table) (f : Formed t) (lb : isBlock (t .creat
   from : (u : ℕ) → Any (isTs u) (h .listed) ⊎ isChosen u → Any (isTs u) (committedBy ++ h .listed)
   from u = elim [
     | inl y ↦ any-right (isTs u) committedBy (h .listed) y
-    | inr y ↦ any-left (isTs u) committedBy (h .listed) (each-any (λ u. record { timestamp = u; value = writtenWith (copiesOf t b) u }) (isTs u) (commits (copiesOf t b)) (commits-has t f b lb (epoch-holder t e b (small t f b lb) lb) u y))
+    | inr y ↦ any-left (isTs u) committedBy (h .listed) (each-any (λ u. record { timestamp = u; value = writtenWith (copiesOf t b) u })
+        (isTs u) (commits (copiesOf t b)) (commits-has t f b lb (epoch-holder t e b (small t f b lb) lb) u y))
   ]
 
   -- a committed write has its attempt's value
@@ -115,18 +139,23 @@ module _ (b : ℕ) (h : Hist) (t : Table) (f : Formed t) (lb : isBlock (t .creat
       let y = any-each (λ u. record { timestamp = u; value = writtenWith (copiesOf t b) u }) (isIt u v) (commits (copiesOf t b)) z in
       let q = any-at (λ (x : Timestamp). (x .0 ≡ u) × (writtenWith (copiesOf t b) x ≡ v)) (commits (copiesOf t b)) (record { 0 = 0 }) y in
       let x = getD (commits (copiesOf t b)) (q .0) (record { 0 = 0 }) in
-      let k = commits-in t f b lb (x .0) (any-map _ (λ (z : Timestamp). z .0 ≡ x .0) (λ z p. p .0 ∙ sym (q .2 .0)) (commits (copiesOf t b)) y) in
+      let k = commits-in t f b lb (x .0) (any-map _ (λ (z : Timestamp). z .0 ≡ x .0) (λ z p. p .0 ∙ sym (q .2 .0))
+      (commits (copiesOf t b)) y) in
       let w = written t f b lb (epoch-holder t e b (small t f b lb) lb) x k in
       ap (h .value) (sym (q .2 .0)) ∙ (i .inv .cells (w .0) (w .2)) .waits (x .0) _ (w .1) (w .3) .vals ∙ q .2 .1
 
   -- the changed table is good
   epoch-good : Good b (lists h committedBy) (epochChanged t)
   epoch-good = subst⁻¹ (λ (ep : ℕ). CInv S b (lists h committedBy) ep (seatsOf t) (partOf (epochChanged t) b) (t .places)) grown (record {
-    inv = recell S (book (lists h committedBy) (suc (t .epoch .0))) (flow S b h (seatsOf t) (t .places)) (settledCell (r .write .0) (r .value) (r .read .0)) (λ c. cellOf (partOf (epochChanged t) b c))
-        (relist S (settledBook (book h (t .epoch .0)) isChosen) (flow S b h (seatsOf t) (t .places)) (settledCell (r .write .0) (r .value) (r .read .0)) ((book (lists h committedBy) (t .epoch .0)) .L)
-        (settle S (book h (t .epoch .0)) (flow S b h (seatsOf t) (t .places)) cells (i .inv) (W (copiesOf t b) .0) (besideW (copiesOf t b)) (r .write .0) (r .value) (r .read .0) st)
+    inv = recell S (book (lists h committedBy) (suc (t .epoch .0))) (flow S b h (seatsOf t) (t .places))
+        (settledCell (r .write .0) (r .value) (r .read .0)) (λ c. cellOf (partOf (epochChanged t) b c))
+        (relist S (settledBook (book h (t .epoch .0)) isChosen) (flow S b h (seatsOf t) (t .places))
+        (settledCell (r .write .0) (r .value) (r .read .0)) ((book (lists h committedBy) (t .epoch .0)) .L)
+        (settle S (book h (t .epoch .0)) (flow S b h (seatsOf t) (t .places)) cells (i .inv) (W (copiesOf t b) .0)
+        (besideW (copiesOf t b)) (r .write .0) (r .value) (r .read .0) st)
         to from)
-        (λ c m. subst⁻¹ (λ (p : Part). Same (cellOf p) (settledCell (r .write .0) (r .value) (r .read .0) c)) (changed-part c m) (record { wr = refl; rd = refl; val = refl; lost = refl; to = λ u x a z. z; from = λ u x a z. z; r = λ u z. z }))
+        (λ c m. subst⁻¹ (λ (p : Part). Same (cellOf p) (settledCell (r .write .0) (r .value) (r .read .0) c)) (changed-part c m)
+        (record { wr = refl; rd = refl; val = refl; lost = refl; to = λ u x a z. z; from = λ u x a z. z; r = λ u z. z }))
         (λ c u z. absurd (subst (Any (isR u)) (none-wait t c b (small t f b lb)) z));
     vals = λ u v z. elim (any-append (isIt u v) committedBy (h .listed) z) [ inl y ↦ value u v y | inr y ↦ i .vals u v y ];
     drawn = i .drawn;
@@ -141,15 +170,30 @@ module _ (b : ℕ) (h : Hist) (t : Table) (f : Formed t) (lb : isBlock (t .creat
 
   -- the epoch change
   pub ev-epoch : Next b h t committedBy Outcome.None (epochChanged t)
-  ev-epoch = record { hist = lists h committedBy; good = epoch-good; listed = refl; kept = λ u v z. z; done = λ j v q. absurd (none-done j b v q) }
+  ev-epoch = record {
+    hist = lists h committedBy;
+    good = epoch-good;
+    listed = refl;
+    kept = λ u v z. z;
+    done =
+        λ j v q. absurd (none-done j b v q);
+  }
 
 -- nothing waits, so nothing new is mentioned
 pub epoch-less : (t : Table) → Less (epochChanged t) t
 unfolding settledRecord
 epoch-less t = record {
-  ment = λ u d. elim [ inl z ↦ inl z | inr z ↦ elim z [ inl q ↦ inr (inl q) | inr q ↦ absurd (subst (Any (atTs u)) (none-wait t (q .0) d (q .1)) (q .2)) ] ];
+  ment = λ u d. elim [
+    | inl z ↦ inl z
+    | inr z ↦ elim z [
+      | inl q ↦ inr (inl q)
+      | inr q ↦
+          absurd (subst (Any (atTs u)) (none-wait t (q .0) d (q .1)) (q .2))
+    ]
+  ];
   clocks = λ j. omega arith;
-  shape = λ s. shape-epoch (withRecords t (recordsBy f)) (shape-records t s f (λ c b l m. rw (settled-at t b c l) (go c b (c among setOf (t .creation) b)))) (renewed t) _;
+  shape = λ s. shape-epoch (withRecords t (recordsBy f)) (shape-records t s f
+      (λ c b l m. rw (settled-at t b c l) (go c b (c among setOf (t .creation) b)))) (renewed t) _;
 }
   where
     f : ℕ → ℕ → Record

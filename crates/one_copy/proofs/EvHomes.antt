@@ -38,7 +38,8 @@ use Rattle.one_copy.proofs.Homes.{atTs, Mention, Less, NetOk, same-net,
 -- marking changes no timestamp
 mark-ts : (commit : Bool) (t : Timestamp) (q : List Entry) (u : ℕ) → Any (atTs u) (mark commit t q) → Any (atTs u) q
 mark-ts commit t q u z = any-each (λ (e : Entry). e .timestamp) (λ (a : Timestamp). a .0 ≡ u) q
-    (subst (Any (λ (a : Timestamp). a .0 ≡ u)) (mark-timestamps commit t q) (each-any (λ (e : Entry). e .timestamp) (λ (a : Timestamp). a .0 ≡ u) (mark commit t q) z))
+    (subst (Any (λ (a : Timestamp). a .0 ≡ u)) (mark-timestamps commit t q)
+    (each-any (λ (e : Entry). e .timestamp) (λ (a : Timestamp). a .0 ≡ u) (mark commit t q) z))
 
 -- what is behind the head waits
 drop-any : (P : Entry → Type 0) (l : List Entry) → Any P (drop 1 l) → Any P l
@@ -58,7 +59,8 @@ module _ (t : Table) (f : Formed t) (j : ℕ) (lj : isHost (t .creation) j ≡ t
 
   -- a change that keeps queue, timestamp and clock
   tame : (y : Host) → y .queue ≡ x .queue → y .attempt .timestamp ≡ x .attempt .timestamp → y .clock ≡ x .clock → Less (withHost t j y) t
-  tame y eq et ec = less-host t j y (t .places) (kept t j y (λ _. ap (λ (q : Queue). getD (take (q .count) (q .operations)) 0 zeroOperation) eq) et) (omega arith)
+  tame y eq et ec = less-host t j y (t .places)
+      (kept t j y (λ _. ap (λ (q : Queue). getD (take (q .count) (q .operations)) 0 zeroOperation) eq) et) (omega arith)
       (λ s. ap (λ (q : Queue). length (q .operations)) eq ∙ s .queues j place-j) (same-net t)
 
   -- timeout
@@ -76,11 +78,13 @@ module _ (t : Table) (f : Formed t) (j : ℕ) (lj : isHost (t .creation) j ≡ t
   -- intake
   pub intake-less : Shape t → (o : Operation) → x .queue .count < operationLimit → Less (withHost t j (appended x o)) t
   unfolding appended
-  intake-less s o k = less-host t j (appended x o) (t .places) (kept t j (appended x o) (λ p. front-kept x o (at-front t f s j lj p) k) refl) (omega arith)
+  intake-less s o k = less-host t j (appended x o) (t .places) (kept t j (appended x o)
+      (λ p. front-kept x o (at-front t f s j lj p) k) refl) (omega arith)
       (λ _. queue-length _) (same-net t)
 
   -- a finish leaves no timestamp, the clock, and a queue of its length
-  finished-as : (g : Bool) → Shape t → (cond g (ended x) (withQueue (ended x) (queueOf (drop 1 (operationsOf x)))) .attempt .timestamp .0 ≡ 0)
+  finished-as : (g : Bool) → Shape t
+      → (cond g (ended x) (withQueue (ended x) (queueOf (drop 1 (operationsOf x)))) .attempt .timestamp .0 ≡ 0)
       × (cond g (ended x) (withQueue (ended x) (queueOf (drop 1 (operationsOf x)))) .clock ≡ x .clock)
       × (length (cond g (ended x) (withQueue (ended x) (queueOf (drop 1 (operationsOf x)))) .queue .operations) ≡ operationLimit)
   finished-as true s = (refl, refl, s .queues j place-j)
@@ -88,36 +92,52 @@ module _ (t : Table) (f : Formed t) (j : ℕ) (lj : isHost (t .creation) j ≡ t
 
   -- finish: the messages are under the host's own timestamp
   pub finish-less : Shape t → (free messages : ℕ) → codeOf (finishRefusals x free messages) ≡ 0
-      → Less (withPlaces (withHost t j (finished x)) (sentToEach (t .places) (closingTo (front x .action) (holdersOf t x)) (λ c. closing (x .attempt .okay) (headed j c (front x .block) (x .attempt .timestamp)) (x .epoch)))) t
+      → Less (withPlaces (withHost t j (finished x)) (sentToEach (t .places) (closingTo (front x .action) (holdersOf t x))
+      (λ c. closing (x .attempt .okay) (headed j c (front x .block) (x .attempt .timestamp)) (x .epoch)))) t
   unfolding every finished
   finish-less s free messages e =
       let g = finished-as (goesBack (x .attempt)) s in
-      let p : 0 < x .attempt .timestamp .0 = ltb-true 0 (x .attempt .timestamp .0) (not-false (hasCurrent x) (granted-exactly (finishRefusals x free messages) refl .0 e 1 (omega arith))) in
+      let p : 0 < x .attempt .timestamp .0 = ltb-true 0 (x .attempt .timestamp .0)
+      (not-false (hasCurrent x) (granted-exactly (finishRefusals x free messages) refl .0 e 1 (omega arith))) in
       less-host t j (finished x) _ (rested t (finished x) (g .0)) (omega (arith, g .1)) (λ _. g .2)
       (each-ok t _ _ (t .places) (same-net t) (λ a u d z. own (x .attempt .okay) a u d p z))
     where
-      own : (o : Bool) (a u d : ℕ) → 0 < x .attempt .timestamp .0 → ofBoth d u (closing o (headed j a (front x .block) (x .attempt .timestamp)) (x .epoch)) → Mention t u d
+      own : (o : Bool) (a u d : ℕ) → 0 < x .attempt .timestamp .0 → ofBoth d u
+          (closing o (headed j a (front x .block) (x .attempt .timestamp)) (x .epoch)) → Mention t u d
       own true a u d p z = inl (j, record { stamp = z .1; pos = omega (arith, z .1); block = z .0 })
       own false a u d p z = inl (j, record { stamp = z .1; pos = omega (arith, z .1); block = z .0 })
 
   -- a start: the new timestamp is the front operation's block's
-  pub start-home : (blk : ℕ → ℕ) → Shape t → Homes blk t → (clock copy free messages : ℕ) → codeOf (startRefusals x clock copy (holdersOf t x) free messages) ≡ 0
-      → Homes (at (stamp clock j .0) (front x .block) blk) (withPlaces (withHost t j (started x (stamp clock j) clock (openingTo (front x .action) copy (holdersOf t x))))
-      (sentToEach (t .places) (openingTo (front x .action) copy (holdersOf t x)) (λ c. opening (headed j c (front x .block) (stamp clock j)) (x .epoch) (front x .action))))
+  pub start-home : (blk : ℕ → ℕ) → Shape t → Homes blk t → (clock copy free messages : ℕ)
+      → codeOf (startRefusals x clock copy (holdersOf t x) free messages) ≡ 0
+      → Homes (at (stamp clock j .0) (front x .block) blk)
+      (withPlaces (withHost t j (started x (stamp clock j) clock (openingTo (front x .action) copy (holdersOf t x))))
+      (sentToEach (t .places) (openingTo (front x .action) copy (holdersOf t x))
+      (λ c. opening (headed j c (front x .block) (stamp clock j)) (x .epoch) (front x .action))))
   unfolding every
   start-home blk s hm clock copy free messages e =
-      begins-home blk t s hm j clock place-j (leb-false clock (x .clock) (granted-exactly (startRefusals x clock copy (holdersOf t x) free messages) refl .0 e 5 (omega arith)))
+      begins-home blk t s hm j clock place-j (leb-false clock (x .clock)
+      (granted-exactly (startRefusals x clock copy (holdersOf t x) free messages) refl .0 e 5 (omega arith)))
       (started x (stamp clock j) clock (openingTo (front x .action) copy (holdersOf t x)))
-      (sentToEach (t .places) (openingTo (front x .action) copy (holdersOf t x)) (λ c. opening (headed j c (front x .block) (stamp clock j)) (x .epoch) (front x .action))) (front x .block) refl refl refl
-      (λ u d z. elim (sent-each (ofBoth d u) (λ c. opening (headed j c (front x .block) (stamp clock j)) (x .epoch) (front x .action)) (openingTo (front x .action) copy (holdersOf t x)) (t .places) z) [ inl q ↦ inl q | inr q ↦ inr (own (front x .action) (q .0) u d (q .3)) ])
+      (sentToEach (t .places) (openingTo (front x .action) copy (holdersOf t x))
+      (λ c. opening (headed j c (front x .block) (stamp clock j)) (x .epoch) (front x .action))) (front x .block) refl refl refl
+      (λ u d z. elim (sent-each (ofBoth d u) (λ c. opening (headed j c (front x .block) (stamp clock j)) (x .epoch) (front x .action))
+      (openingTo (front x .action) copy (holdersOf t x)) (t .places) z) [
+        | inl q ↦ inl q
+        | inr q ↦
+            inr (own (front x .action) (q .0) u d (q .3))
+      ])
     where
-      own : (a : Action) (c u d : ℕ) → ofBoth d u (opening (headed j c (front x .block) (stamp clock j)) (x .epoch) a) → (front x .block ≡ d) × (stamp clock j .0 ≡ u)
+      own : (a : Action) (c u d : ℕ) → ofBoth d u (opening (headed j c (front x .block) (stamp clock j)) (x .epoch) a)
+          → (front x .block ≡ d) × (stamp clock j .0 ≡ u)
       own Action.Read c u d z = z
       own (Action.Write v) c u d z = z
 
   -- a start keeps the shape
-  pub start-shape : Shape t → (a : Timestamp) (clock : ℕ) (to : Set) (n : List Place) → Shape (withPlaces (withHost t j (started x a clock to)) n)
-  start-shape s a clock to n = shape-places (withHost t j (started x a clock to)) (shape-host t s j (started x a clock to) (s .queues j place-j)) n
+  pub start-shape : Shape t → (a : Timestamp) (clock : ℕ) (to : Set) (n : List Place)
+      → Shape (withPlaces (withHost t j (started x a clock to)) n)
+  start-shape s a clock to n = shape-places (withHost t j (started x a clock to))
+      (shape-host t s j (started x a clock to) (s .queues j place-j)) n
 
 -- ---- a chunk's run
 
@@ -218,14 +238,20 @@ module _ (t : Table) (f : Formed t) (p : ℕ) (lp : p < placeLimit) where
     answer : (q : Message) → headerOf q ≡ headerOf m → Took (answering (recordOf t c d) q)
     unfolding replied
     answer q eh = less-record t c d _ _ place-d (λ u z. inr (inr (c, place-d, z))) (λ s. s .entries c d place-c place-d)
-        (one-ok t q n1 ok1 (λ u a z. its-own u a (sym (ap (λ (h : Header). h .block) eh) ∙ z .0, sym (ap (λ (h : Header). h .timestamp .0) eh) ∙ z .1)))
+        (one-ok t q n1 ok1 (λ u a z. its-own u a (
+          sym (ap (λ (h : Header). h .block) eh)
+              ∙ z .0,
+          sym (ap (λ (h : Header). h .timestamp .0) eh) ∙ z .1,
+        )))
 
     -- what waits then waited, or is the message's
-    inserts : (k : Epoch) (kind : Kind) → recordOf t c d .waiting .count < waitingLimit → (u : ℕ) → Any (atTs u) (inOrder (inserted (recordOf t c d .waiting) (entryOf (headerOf m) k kind))) → Mention t u d
-    inserts k kind room u z = elim (insert-to (atTs u) (entryOf (headerOf m) k kind) (inOrder (recordOf t c d .waiting)) (subst (Any (atTs u)) (inserted-order (recordOf t c d .waiting) (entryOf (headerOf m) k kind) room) z)) [
-      | inl q ↦ inr (inr (c, place-d, q))
-      | inr q ↦ its-own u d (refl, q)
-    ]
+    inserts : (k : Epoch) (kind : Kind) → recordOf t c d .waiting .count < waitingLimit → (u : ℕ)
+        → Any (atTs u) (inOrder (inserted (recordOf t c d .waiting) (entryOf (headerOf m) k kind))) → Mention t u d
+    inserts k kind room u z = elim (insert-to (atTs u) (entryOf (headerOf m) k kind) (inOrder (recordOf t c d .waiting))
+        (subst (Any (atTs u)) (inserted-order (recordOf t c d .waiting) (entryOf (headerOf m) k kind) room) z)) [
+          | inl q ↦ inr (inr (c, place-d, q))
+          | inr q ↦ its-own u d (refl, q)
+        ]
 
     -- the array has its length
     inserted-length : (w : Waiting) (x : Entry) → length (inserted w x .entries) ≡ waitingLimit
@@ -233,16 +259,20 @@ module _ (t : Table) (f : Formed t) (p : ℕ) (lp : p < placeLimit) where
     inserted-length w x = holding-length (insert x (inOrder w))
 
     -- it waits
-    took-waits : (k : Epoch) (kind : Kind) → recordOf t c d .waiting .count < waitingLimit → Took (waits (recordOf t c d) (headerOf m) k kind)
+    took-waits : (k : Epoch) (kind : Kind) → recordOf t c d .waiting .count < waitingLimit
+        → Took (waits (recordOf t c d) (headerOf m) k kind)
     unfolding replied
     took-waits k kind room = walk Took (isWrite kind) _ _
-        (λ _. less-record t c d _ _ place-d (inserts k kind room) (λ _. inserted-length (recordOf t c d .waiting) (entryOf (headerOf m) k kind)) (one-ok t _ n1 ok1 (λ u a z. its-own u a z)))
-        (λ _. less-record t c d _ _ place-d (inserts k kind room) (λ _. inserted-length (recordOf t c d .waiting) (entryOf (headerOf m) k kind)) ok1)
+        (λ _. less-record t c d _ _ place-d (inserts k kind room) (λ _. inserted-length (recordOf t c d .waiting)
+        (entryOf (headerOf m) k kind)) (one-ok t _ n1 ok1 (λ u a z. its-own u a z)))
+        (λ _. less-record t c d _ _ place-d (inserts k kind room) (λ _. inserted-length (recordOf t c d .waiting)
+        (entryOf (headerOf m) k kind)) ok1)
 
     -- a read or a prewrite
     took-arrived : (blocks : ℕ) (current k : Epoch) (kind : Kind) → Took (arrived blocks current (recordOf t c d) (headerOf m) k kind)
     took-arrived blocks current k kind = arrived-walk Took blocks current (recordOf t c d) (headerOf m) k kind
-        (answer (Message.Mismatch (headerOf m)) refl) (answer (Message.Error (headerOf m)) refl) (answer (Message.OutOfOrder (headerOf m)) refl) (answer (Message.Busy (headerOf m)) refl)
+        (answer (Message.Mismatch (headerOf m)) refl) (answer (Message.Error (headerOf m)) refl)
+        (answer (Message.OutOfOrder (headerOf m)) refl) (answer (Message.Busy (headerOf m)) refl)
         (λ z. took-waits k kind (z .room))
 
     -- nothing happens
@@ -260,20 +290,32 @@ module _ (t : Table) (f : Formed t) (p : ℕ) (lp : p < placeLimit) where
     unfolding replied
     took-decides blocks commit = decides-walk Took blocks (recordOf t c d) (headerOf m) commit
         (less-record t c d _ n1 place-d
-        (λ u z. inr (inr (c, place-d, mark-ts commit (headerOf m .timestamp) (inOrder (recordOf t c d .waiting)) u (subst (Any (atTs u)) (marked-order (recordOf t c d .waiting) commit (headerOf m .timestamp) (waiting-of t f c d place-c place-d .count)) z))))
+        (λ u z. inr (inr (
+          c,
+          place-d,
+          mark-ts commit (headerOf m .timestamp) (inOrder (recordOf t c d .waiting)) u
+              (subst (Any (atTs u)) (marked-order (recordOf t c d .waiting) commit (headerOf m .timestamp)
+              (waiting-of t f c d place-c place-d .count)) z),
+        )))
         (λ _. marked-length commit (headerOf m .timestamp) (recordOf t c d .waiting)) ok1)
         same
 
     -- a reply at a host
     host-takes : Less (hostTakes (withPlaces t n1) (headerOf m) m) t
-    host-takes = walk (λ (x : Table). Less x t) (hostOf t (headerOf m .host) .working) _ _ (λ _. go (at-host-keeps (hostOf t (headerOf m .host)) m)) (λ _. drop-less)
+    host-takes = walk (λ (x : Table). Less x t) (hostOf t (headerOf m .host) .working) _ _
+        (λ _. go (at-host-keeps (hostOf t (headerOf m .host)) m)) (λ _. drop-less)
       where
-        go : Hears (hostOf t (headerOf m .host)) (atHost (hostOf t (headerOf m .host)) m) → Less (withPlaces (withHost t (headerOf m .host) (atHost (hostOf t (headerOf m .host)) m)) n1) t
-        go k = less-host t (headerOf m .host) _ n1 (kept t (headerOf m .host) _ (λ _. ap (λ (q : Queue). getD (take (q .count) (q .operations)) 0 zeroOperation) (k .queue)) (k .timestamp)) (let z = k .clock in omega arith)
-            (λ s. ap (λ (q : Queue). length (q .operations)) (k .queue) ∙ s .queues (headerOf m .host) (host-place (t .creation) (headerOf m .host) (facts .header .host) (f .creation))) ok1
+        go : Hears (hostOf t (headerOf m .host)) (atHost (hostOf t (headerOf m .host)) m)
+            → Less (withPlaces (withHost t (headerOf m .host) (atHost (hostOf t (headerOf m .host)) m)) n1) t
+        go k = less-host t (headerOf m .host) _ n1 (kept t (headerOf m .host) _
+            (λ _. ap (λ (q : Queue). getD (take (q .count) (q .operations)) 0 zeroOperation) (k .queue)) (k .timestamp))
+            (let z = k .clock in omega arith)
+            (λ s. ap (λ (q : Queue). length (q .operations)) (k .queue)
+            ∙ s .queues (headerOf m .host) (host-place (t .creation) (headerOf m .host) (facts .header .host) (f .creation))) ok1
 
   -- a message at a chunk, by its kind
-  took-at : (m : Message) (e : slotOf (t .places) p ≡ Slot.Full m) (blocks : ℕ) (current : Epoch) → Took m e (atChunk blocks current (recordOf t (headerOf m .chunk) (headerOf m .block)) m)
+  took-at : (m : Message) (e : slotOf (t .places) p ≡ Slot.Full m) (blocks : ℕ) (current : Epoch)
+      → Took m e (atChunk blocks current (recordOf t (headerOf m .chunk) (headerOf m .block)) m)
   unfolding atChunk
   took-at (Message.Read hd k) e blocks current = took-arrived (Message.Read hd k) e blocks current k Kind.Read
   took-at (Message.Prewrite hd k v) e blocks current = took-arrived (Message.Prewrite hd k v) e blocks current k (Kind.Undecided v)
@@ -289,13 +331,16 @@ module _ (t : Table) (f : Formed t) (p : ℕ) (lp : p < placeLimit) where
   -- deliver
   pub deliver-less : (m : Message) → slotOf (t .places) p ≡ Slot.Full m → Less (takes (withPlaces t n1) (Slot.Full m)) t
   deliver-less m e = walk (λ (x : Table). Less x t) (isForChunk m) _ _
-      (λ _. walk (λ (x : Table). Less x t) (isNormal (chunkOf t (headerOf m .chunk) .state)) _ _ (λ _. took-at m e (t .creation .blocks) (chunkOf t (headerOf m .chunk) .epoch)) (λ _. drop-less))
+      (λ _. walk (λ (x : Table). Less x t) (isNormal (chunkOf t (headerOf m .chunk) .state)) _ _
+      (λ _. took-at m e (t .creation .blocks) (chunkOf t (headerOf m .chunk) .epoch)) (λ _. drop-less))
       (λ _. host-takes m e)
 
 -- ---- a failure: what waits at other chunks stays
 
 -- fail
-pub fail-less : (t : Table) (c : ℕ) → Less (withRecords (withChunk t c (failed (chunkOf t c))) (recordsBy (λ a b. cond (eqb a c) (emptied (recordOf t a b)) (recordOf t a b)))) t
+pub fail-less : (t : Table) (c : ℕ)
+    → Less (withRecords (withChunk t c (failed (chunkOf t c))) (recordsBy
+    (λ a b. cond (eqb a c) (emptied (recordOf t a b)) (recordOf t a b)))) t
 fail-less t c = record {
   ment = λ u d. elim [
     | inl z ↦ inl z
@@ -303,21 +348,29 @@ fail-less t c = record {
       | inl q ↦ inr (inl q)
       | inr q ↦ elim (le-or-lt chunkLimit (q .0)) [
         | inl l ↦ absurd (subst (λ (r : Record). Any (atTs u) (inOrder (r .waiting))) (records-beyond f (q .0) d l) (q .2))
-        | inr l ↦ inr (inr (q .0, q .1, old (q .0) d u (eqb (q .0) c) (subst (λ (r : Record). Any (atTs u) (inOrder (r .waiting))) (grid-at f chunkLimit blockLimit (q .0) d noRecord l (q .1)) (q .2))))
+        | inr l ↦ inr (inr (
+          q .0,
+          q .1,
+          old (q .0) d u (eqb (q .0) c) (subst (λ (r : Record). Any (atTs u) (inOrder (r .waiting)))
+              (grid-at f chunkLimit blockLimit (q .0) d noRecord l (q .1)) (q .2)),
+        ))
       ]
     ]
   ];
   clocks = λ j. omega arith;
-  shape = λ s. shape-records (withChunk t c (failed (chunkOf t c))) (shape-chunk t s c (failed (chunkOf t c))) f (λ a b l m. long a b s l m (eqb a c));
+  shape = λ s. shape-records (withChunk t c (failed (chunkOf t c))) (shape-chunk t s c (failed (chunkOf t c))) f
+      (λ a b l m. long a b s l m (eqb a c));
 }
   where
     f : ℕ → ℕ → Record
     f a b = cond (eqb a c) (emptied (recordOf t a b)) (recordOf t a b)
 
-    old : (a d u : ℕ) (x : Bool) → Any (atTs u) (inOrder (cond x (emptied (recordOf t a d)) (recordOf t a d) .waiting)) → Any (atTs u) (inOrder (recordOf t a d .waiting))
+    old : (a d u : ℕ) (x : Bool) → Any (atTs u) (inOrder (cond x (emptied (recordOf t a d)) (recordOf t a d) .waiting))
+        → Any (atTs u) (inOrder (recordOf t a d .waiting))
     old a d u true z = absurd z
     old a d u false z = z
 
-    long : (a b : ℕ) → Shape t → a < chunkLimit → b < blockLimit → (x : Bool) → length (cond x (emptied (recordOf t a b)) (recordOf t a b) .waiting .entries) ≡ waitingLimit
+    long : (a b : ℕ) → Shape t → a < chunkLimit → b < blockLimit → (x : Bool)
+        → length (cond x (emptied (recordOf t a b)) (recordOf t a b) .waiting .entries) ≡ waitingLimit
     long a b s l m true = refl
     long a b s l m false = s .entries a b l m

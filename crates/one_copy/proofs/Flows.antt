@@ -20,15 +20,42 @@ pub record Sub (F′ F : Flow) : Type 0 where
 
 -- chunk c has answered t
 abbrev pub acked : Flow → ℕ → ℕ → Flow
-acked F t c = record { cur = F .cur; act = F .act; ack = λ u d. F .ack u d ⊎ ((u ≡ t) × (d ≡ c)); pre = F .pre; rdm = F .rdm; comm = F .comm; abtm = F .abtm; seen = F .seen }
+acked F t c = record {
+  cur = F .cur;
+  act = F .act;
+  ack = λ u d. F .ack u d ⊎ ((u ≡ t) × (d ≡ c));
+  pre = F .pre;
+  rdm = F .rdm;
+  comm =
+      F .comm;
+  abtm = F .abtm;
+  seen = F .seen;
+}
 
 -- t waits, undecided
 abbrev pub queued : Cell → ℕ → ℕ → Cell
-queued k t v = record { wr = k .wr; rd = k .rd; val = k .val; lost = k .lost; w = λ u x m. k .w u x m ⊎ ((u ≡ t) × (x ≡ v) × (m ≡ und)); r = k .r }
+queued k t v = record {
+  wr = k .wr;
+  rd = k .rd;
+  val = k .val;
+  lost = k .lost;
+  w = λ u x m. k .w u x m ⊎ ((u ≡ t) × (x ≡ v) × (m ≡ und));
+  r = k .r;
+}
 
 -- read t got x
 abbrev pub answered : Flow → ℕ → ℕ → Flow
-answered F t x = record { cur = F .cur; act = F .act; ack = F .ack; pre = F .pre; rdm = F .rdm; comm = F .comm; abtm = F .abtm; seen = λ u y. F .seen u y ⊎ ((u ≡ t) × (y ≡ x)) }
+answered F t x = record {
+  cur = F .cur;
+  act = F .act;
+  ack = F .ack;
+  pre = F .pre;
+  rdm = F .rdm;
+  comm = F .comm;
+  abtm = F .abtm;
+  seen =
+      λ u y. F .seen u y ⊎ ((u ≡ t) × (y ≡ x));
+}
 
 -- the last read is raised, a read has gone
 abbrev pub readAt : Cell → ℕ → (ℕ → Type 0) → Cell
@@ -70,7 +97,8 @@ module _ (S : ℕ → Type 0) (B : Book) (F : Flow) (cell : ℕ → Cell) (i : I
       told = λ t h. g .told t (s .comm t h);
       old = λ t a o all. g .old t ((s .act t a) .0) o (λ c m. s .ack t c (all c m));
     };
-    cells = λ c m. reflow B F F′ c (cell c) (i .cells c m) (λ t a. (s .act t a) .0) (λ t a b. (i .cells c m) .promise t ((s .act t a) .0) (s .ack t c b));
+    cells = λ c m. reflow B F F′ c (cell c) (i .cells c m) (λ t a. (s .act t a) .0)
+        (λ t a b. (i .cells c m) .promise t ((s .act t a) .0) (s .ack t c b));
     seen = λ t x h. i .seen t x (s .seen t x h);
     home = i .home;
   }
@@ -94,11 +122,24 @@ module _ (S : ℕ → Type 0) (B : Book) (F : Flow) (cell : ℕ → Cell) (i : I
       dead = g .dead;
       told = g .told;
       ackK = λ u d. elim [ inl q ↦ g .ackK u d q | inr q ↦ rw (q .0) (p .isW) ];
-      old = λ u a o all. g .old u a o (λ d m. elim (all d m) [ inl q ↦ q | inr q ↦ absurd (let z : B .ae u ≡ B .ae t = ap (B .ae) (q .0) in let y = p .known in omega arith) ]);
+      old = λ u a o all. g .old u a o
+          (λ d m. elim (all d m) [
+            | inl q ↦ q
+            | inr q ↦ absurd (let z : B .ae u ≡ B .ae t = ap (B .ae) (q .0) in let y = p .known in
+                omega arith)
+          ]);
     };
     cells = at-all (λ j x. S j → CellOk B (acked F t c) j x) c (queued (cell c) t v) cell hit
-        (λ j n m. reflow B F (acked F t c) j (cell j) (i .cells j m) (λ t a. a) (λ t a. elim [ inl q ↦ (i .cells j m) .promise t a q | inr q ↦ absurd (n (q .1)) ]));
-    seen = λ u x q. let o = i .seen u x q in record { isR = o .isR; guard = o .guard; copy = o .copy; last = o .last; over = at-all (λ j x. u ≤ (cell j) .rd → u ≤ x .rd) c (queued (cell c) t v) cell (λ a. a) (λ j _ a. a) (o .guard) (o .over) };
+        (λ j n m. reflow B F (acked F t c) j (cell j) (i .cells j m) (λ t a. a)
+        (λ t a. elim [ inl q ↦ (i .cells j m) .promise t a q | inr q ↦ absurd (n (q .1)) ]));
+    seen = λ u x q. let o = i .seen u x q in record {
+      isR = o .isR;
+      guard = o .guard;
+      copy = o .copy;
+      last = o .last;
+      over =
+          at-all (λ j x. u ≤ (cell j) .rd → u ≤ x .rd) c (queued (cell c) t v) cell (λ a. a) (λ j _ a. a) (o .guard) (o .over);
+    };
   }
     where
       g : GlobOk S B F
@@ -111,7 +152,14 @@ module _ (S : ℕ → Type 0) (B : Book) (F : Flow) (cell : ℕ → Cell) (i : I
       hit m = let o = i .cells c m in
           let n : (cell c) .rd ≡ t → ⊥ = λ q. not-read S B F c (cell c) g o t (p .isW) q in
           let new : (u x : ℕ) (a : Mark) → (u ≡ t) × (x ≡ v) × (a ≡ und) → EntryOk B F (cell c) u x a = λ u x a q. record {
-            fits = record { isW = rw (q .0) (p .isW); vals = rw (q .0, q .1) (p .vals); now = rw (q .0) (p .known ∙ now); overW = omega (arith, q .0); overR = omega (arith, q .0) };
+            fits = record {
+              isW = rw (q .0) (p .isW);
+              vals = rw (q .0, q .1) (p .vals);
+              now = rw (q .0) (p .known ∙ now);
+              overW =
+                  omega (arith, q .0);
+              overR = omega (arith, q .0);
+            };
             done = λ f. absurd (und≢cmt (sym (q .2) ∙ f));
             dead = λ f. absurd (und≢abt (sym (q .2) ∙ f));
             kept = l;
@@ -129,12 +177,43 @@ module _ (S : ℕ → Type 0) (B : Book) (F : Flow) (cell : ℕ → Cell) (i : I
       → Inv S B (answered F t ((cell c) .val)) (at c (readAt (cell c) rd′ r′) cell)
   pop-read c t rd′ r′ l h ow front sub ut ur pick = record {
     home = at-all (λ j x. (u : ℕ) → x .r u → S j) c (readAt (cell c) rd′ r′) cell (λ u q. i .home c u (sub u q)) (λ j _. i .home j);
-    glob = record { zeroK = g .zeroK; listK = g .listK; past = g .past; stale = g .stale; curK = g .curK; actCur = g .actCur; ackK = g .ackK; abtK = g .abtK; preK = g .preK; rdmK = g .rdmK; own = g .own; dead = g .dead; told = g .told; old = g .old };
+    glob = record {
+      zeroK = g .zeroK;
+      listK = g .listK;
+      past = g .past;
+      stale = g .stale;
+      curK = g .curK;
+      actCur = g .actCur;
+      ackK =
+          g .ackK;
+      abtK = g .abtK;
+      preK = g .preK;
+      rdmK = g .rdmK;
+      own = g .own;
+      dead = g .dead;
+      told = g .told;
+      old = g .old;
+    };
     cells = at-all (λ j x. S j → CellOk B (answered F t ((cell c) .val)) j x) c (readAt (cell c) rd′ r′) cell (λ _. hit)
         (λ j n m. reflow B F (answered F t ((cell c) .val)) j (cell j) (i .cells j m) (λ t a. a) ((i .cells j m) .promise));
     seen = λ u x. elim [
-      | inl q ↦ let p = i .seen u x q in record { isR = p .isR; guard = p .guard; copy = p .copy; last = p .last; over = at-all (λ j x. u ≤ (cell j) .rd → u ≤ x .rd) c (readAt (cell c) rd′ r′) cell (λ a. omega arith) (λ j _ a. a) (p .guard) (p .over) }
-      | inr q ↦ record { isR = rw (q .0) isR; guard = c; copy = m; over = rw (at-same c (readAt (cell c) rd′ r′) cell) (omega (arith, q .0)); last = rw (q .0, q .1) last }
+      | inl q ↦ let p = i .seen u x q in record {
+        isR = p .isR;
+        guard = p .guard;
+        copy = p .copy;
+        last = p .last;
+        over =
+            at-all (λ j x. u ≤ (cell j) .rd → u ≤ x .rd) c (readAt (cell c) rd′ r′) cell (λ a. omega arith) (λ j _ a. a) (p .guard)
+            (p .over);
+      }
+      | inr q ↦ record {
+        isR = rw (q .0) isR;
+        guard = c;
+        copy = m;
+        over =
+            rw (at-same c (readAt (cell c) rd′ r′) cell) (omega (arith, q .0));
+        last = rw (q .0, q .1) last;
+      }
     ];
   }
     where
@@ -155,7 +234,8 @@ module _ (S : ℕ → Type 0) (B : Book) (F : Flow) (cell : ℕ → Cell) (i : I
       other u e q = readK≢writeK (sym isR ∙ ap (B .kind) (sym q) ∙ e)
 
       under : (u x : ℕ) (a : Mark) → (cell c) .w u x a → rd′ < u
-      under u x a q = let z = other u ((o .waits u x a q) .isW) in let y = front u x a q in let w = (o .waits u x a q) .overR in elim pick [ inl e ↦ omega arith | inr e ↦ omega arith ]
+      under u x a q = let z = other u ((o .waits u x a q) .isW) in let y = front u x a q in let w = (o .waits u x a q) .overR in
+          elim pick [ inl e ↦ omega arith | inr e ↦ omega arith ]
 
       last : Last B t ((cell c) .val)
       last = record {
@@ -172,7 +252,14 @@ module _ (S : ℕ → Type 0) (B : Book) (F : Flow) (cell : ℕ → Cell) (i : I
       hit = record {
         held = o .held;
         readTop = elim pick [ inl q ↦ inr (rw q isR) | inr q ↦ rw q (o .readTop) ];
-        waits = λ u x a q. let z = o .waits u x a q in record { isW = z .isW; vals = z .vals; now = z .now; overW = z .overW; overR = under u x a q };
+        waits = λ u x a q. let z = o .waits u x a q in record {
+          isW = z .isW;
+          vals = z .vals;
+          now = z .now;
+          overW = z .overW;
+          overR =
+              under u x a q;
+        };
         reads = λ u q. o .reads u (sub u q);
         done = o .done;
         dead = o .dead;

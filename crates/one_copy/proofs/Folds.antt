@@ -60,17 +60,26 @@ module _ {A : Type 0} (key : A → ℕ) where
   pub top-is : (s : A) (l : List A) → (fold upper s l ≡ s) ⊎ Any (λ x. x ≡ fold upper s l) l
   unfolding fold
   top-is s [] = inl refl
-  top-is s (x ∷ xs) = elim (top-is (upper s x) xs) [ inl e ↦ elim (upper-one s x) [ inl q ↦ inl (e ∙ q) | inr q ↦ inr (inl (sym (e ∙ q))) ] | inr e ↦ inr (inr e) ]
+  top-is s (x ∷ xs) = elim (top-is (upper s x) xs) [
+    | inl e ↦ elim (upper-one s x) [
+      | inl q ↦ inl (e ∙ q)
+      | inr q ↦
+          inr (inl (sym (e ∙ q)))
+    ]
+    | inr e ↦ inr (inr e)
+  ]
 
 -- ---- the first that is p
 
 -- where one is p, the first is, and it is in the list
-pub place-at : {A : Type 0} (p : A → Bool) (l : List A) (d : A) → Any (λ x. p x ≡ true) l → (place p l < length l) × (p (getD l (place p l) d) ≡ true)
+pub place-at : {A : Type 0} (p : A → Bool) (l : List A) (d : A) → Any (λ x. p x ≡ true) l → (place p l < length l)
+    × (p (getD l (place p l) d) ≡ true)
 unfolding place
 place-at p [] d h = absurd h
 place-at p (x ∷ xs) d h = go (p x) refl h (place-at p xs d)
   where
-    go : (t : Bool) → p x ≡ t → (p x ≡ true) ⊎ Any (λ x. p x ≡ true) xs → (Any (λ x. p x ≡ true) xs → (place p xs < length xs) × (p (getD xs (place p xs) d) ≡ true))
+    go : (t : Bool) → p x ≡ t → (p x ≡ true) ⊎ Any (λ x. p x ≡ true) xs
+        → (Any (λ x. p x ≡ true) xs → (place p xs < length xs) × (p (getD xs (place p xs) d) ≡ true))
         → (cond t 0 (suc (place p xs)) < suc (length xs)) × (p (getD (x ∷ xs) (cond t 0 (suc (place p xs))) d) ≡ true)
     go true e h f = (omega arith, e)
     go false e (inl z) f = absurd (true≢false (sym z ∙ e))
@@ -86,12 +95,14 @@ module _ {A : Type 0} (q p : A → Bool) where
   those-at (x ∷ xs) zero d h k e = both (q x) (every q (those p xs)) (rw e at h) .0
   those-at (x ∷ xs) (suc i) d h k e = go (p x) h (λ z. those-at xs i d z (omega arith) e)
     where
-      go : (t : Bool) → every q (cond t (x ∷ those p xs) (those p xs)) ≡ true → (every q (those p xs) ≡ true → q (getD xs i d) ≡ true) → q (getD xs i d) ≡ true
+      go : (t : Bool) → every q (cond t (x ∷ those p xs) (those p xs)) ≡ true → (every q (those p xs) ≡ true → q (getD xs i d) ≡ true)
+          → q (getD xs i d) ≡ true
       go true z g = g (both (q x) (every q (those p xs)) z .1)
       go false z g = g z
 
   -- the way back
-  pub those-of : (l : List A) (d : A) → ((i : ℕ) → i < length l → p (getD l i d) ≡ true → q (getD l i d) ≡ true) → every q (those p l) ≡ true
+  pub those-of : (l : List A) (d : A) → ((i : ℕ) → i < length l → p (getD l i d) ≡ true → q (getD l i d) ≡ true)
+      → every q (those p l) ≡ true
   unfolding every those
   those-of [] d h = refl
   those-of (x ∷ xs) d h = go (p x) (h 0 (omega arith)) (those-of xs d (λ i k. h (suc i) (omega arith)))
@@ -101,12 +112,14 @@ module _ {A : Type 0} (q p : A → Bool) where
       go false g z = z
 
   -- where not every one is q, one of those is not
-  pub those-not : (l : List A) (d : A) → every q (those p l) ≡ false → (i : ℕ) × (i < length l) × (p (getD l i d) ≡ true) × (q (getD l i d) ≡ false)
+  pub those-not : (l : List A) (d : A) → every q (those p l) ≡ false → (i : ℕ) × (i < length l) × (p (getD l i d) ≡ true)
+      × (q (getD l i d) ≡ false)
   unfolding every those
   those-not [] d h = absurd (true≢false h)
   those-not (x ∷ xs) d h = go (p x) refl (q x) refl h (those-not xs d)
     where
-      later : (every q (those p xs) ≡ false → (i : ℕ) × (i < length xs) × (p (getD xs i d) ≡ true) × (q (getD xs i d) ≡ false)) → every q (those p xs) ≡ false
+      later : (every q (those p xs) ≡ false → (i : ℕ) × (i < length xs) × (p (getD xs i d) ≡ true) × (q (getD xs i d) ≡ false))
+          → every q (those p xs) ≡ false
           → (i : ℕ) × (i < suc (length xs)) × (p (getD (x ∷ xs) i d) ≡ true) × (q (getD (x ∷ xs) i d) ≡ false)
       later f z = let r = f z in (suc (r .0), omega (arith, r .1), r .2, r .3)
 

@@ -29,9 +29,11 @@ noHist = record { kind = λ _. idle; value = λ _. 0; ae = λ _. 0; listed = [];
 -- ---- what holds of the parts of a kind holds of each
 
 -- an array of a and z
-filled-by : {A : Type 0} (P : A → Type 0) (x : ℕ → Bool) (a z d : A) (n : ℕ) → P a → P z → P d → (j : ℕ) → P (getD (each (λ j. cond (x j) a z) (numbers n)) j d)
+filled-by : {A : Type 0} (P : A → Type 0) (x : ℕ → Bool) (a z d : A) (n : ℕ) → P a → P z → P d → (j : ℕ)
+    → P (getD (each (λ j. cond (x j) a z) (numbers n)) j d)
 filled-by P x a z d n pa pz pd j = elim (le-or-lt n j) [
-  | inl l ↦ subst⁻¹ P (List·getD-eq-default (each (λ j. cond (x j) a z) (numbers n)) d (omega (arith, each-length (λ j. cond (x j) a z) (numbers n), numbers-length n))) pd
+  | inl l ↦ subst⁻¹ P (List·getD-eq-default (each (λ j. cond (x j) a z) (numbers n)) d
+      (omega (arith, each-length (λ j. cond (x j) a z) (numbers n), numbers-length n))) pd
   | inr l ↦ subst⁻¹ P (each-number (λ j. cond (x j) a z) n j d l) (go (x j))
 ]
   where
@@ -120,7 +122,11 @@ module _ (k : Creation) where
           empty = λ l t v a z. no-entry c b _ z;
           promise = λ t z. absurd (no-w (z .0) t (z .1));
         };
-        seen = λ t x. elim [ inl z ↦ absurd (nothing-sent (ofValue b t x) z) | inr z ↦ elim z [ inl y ↦ absurd (no-r (y .0) t x (y .1)) | inr y ↦ absurd y ] ];
+        seen = λ t x. elim [
+          | inl z ↦ absurd (nothing-sent (ofValue b t x) z)
+          | inr z ↦
+              elim z [ inl y ↦ absurd (no-r (y .0) t x (y .1)) | inr y ↦ absurd y ]
+        ];
         home = λ c t z. absurd (no-entry c b _ z);
       };
       vals = λ t v z. absurd z;
@@ -128,7 +134,8 @@ module _ (k : Creation) where
       stamps = λ j. inl (idle-host j);
       mine = λ j t z. absurd (no-w j t z);
       sane = λ c _. chunks-are (λ x. x .lost ≡ false) refl refl refl c;
-      known = λ j. hosts-are (λ x. x .epoch .0 ≤ fresh k .epoch .0) (early (fresh k .epoch .0)) (early (fresh k .epoch .0)) (early (fresh k .epoch .0)) j;
+      known = λ j. hosts-are (λ x. x .epoch .0 ≤ fresh k .epoch .0) (early (fresh k .epoch .0)) (early (fresh k .epoch .0))
+          (early (fresh k .epoch .0)) j;
     }
       where
         early : (n : ℕ) → 0 ≤ n

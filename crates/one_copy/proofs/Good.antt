@@ -48,7 +48,8 @@ module _ (t : Table) (f : Formed t) (b : ℕ) (lb : isBlock (t .creation) b ≡ 
   holder =
       let k = t .creation in
       let r = both (not (isEmpty (setOf k b))) (ofStore k (setOf k b)) (rw lb at (creation-facts k (f .creation) .sets b small)) in
-      let s = some-number (λ c. c among setOf k b) chunkLimit (not-false (some (λ c. c among setOf k b) (numbers chunkLimit)) (not-true (isEmpty (setOf k b)) (r .0))) in
+      let s = some-number (λ c. c among setOf k b) chunkLimit (not-false (some (λ c. c among setOf k b) (numbers chunkLimit))
+      (not-true (isEmpty (setOf k b)) (r .0))) in
       (s .0, (of-store k (setOf k b) (r .1) (s .0) (s .1) (s .2), s .2))
 
 -- reading an updated table
@@ -58,12 +59,14 @@ module _ (b : ℕ) (h : Hist) (t : Table) (s : Shape t) where
   Views hs ps n = CInv (In (t .creation) b) b h (t .epoch .0) hs ps n
 
   -- host j changed
-  pub good-host : (j : ℕ) (x : Host) (n : List Place) → j < hostLimit → Views (at j (seatOf x) (seatsOf t)) (partOf t b) n → Good b h (withPlaces (withHost t j x) n)
+  pub good-host : (j : ℕ) (x : Host) (n : List Place) → j < hostLimit → Views (at j (seatOf x) (seatsOf t)) (partOf t b) n
+      → Good b h (withPlaces (withHost t j x) n)
   good-host j x n l i = subst⁻¹ (λ (g : ℕ → Seat). Views g (partOf t b) n)
       (fun-ext (λ a. ap seatOf (getD-set (t .hosts) j x noHost (omega (arith, s .hosts)) a)) ∙ at-map seatOf j x (hostOf t)) i
 
   -- chunk c changed, its records as they were
-  pub good-chunk : (c : ℕ) (x : Chunk) (n : List Place) → c < chunkLimit → Views (seatsOf t) (at c (partWith x (recordOf t c b)) (partOf t b)) n → Good b h (withPlaces (withChunk t c x) n)
+  pub good-chunk : (c : ℕ) (x : Chunk) (n : List Place) → c < chunkLimit
+      → Views (seatsOf t) (at c (partWith x (recordOf t c b)) (partOf t b)) n → Good b h (withPlaces (withChunk t c x) n)
   good-chunk c x n l i = subst⁻¹ (λ (g : ℕ → Part). Views (seatsOf t) g n)
       (fun-ext (λ a. ap (λ (y : Chunk). partWith y (recordOf t a b)) (getD-set (t .chunks) c x noChunk (omega (arith, s .chunks)) a))
       ∙ at-with partWith c x (chunkOf t) (λ a. recordOf t a b)) i
@@ -71,7 +74,8 @@ module _ (b : ℕ) (h : Hist) (t : Table) (s : Shape t) where
   -- the records of this block, read
   module _ (f : List Record) (g : ℕ → Record) (e : (a : ℕ) → getD f (a * blockLimit + b) noRecord ≡ g a) where
     -- with any messages
-    pub good-records : (n : List Place) → Views (seatsOf t) (λ a. partWith (chunkOf t a) (g a)) n → Good b h (withPlaces (withRecords t f) n)
+    pub good-records : (n : List Place) → Views (seatsOf t) (λ a. partWith (chunkOf t a) (g a)) n
+        → Good b h (withPlaces (withRecords t f) n)
     good-records n i = subst⁻¹ (λ (g : ℕ → Part). Views (seatsOf t) g n) (fun-ext (λ a. ap (partWith (chunkOf t a)) (e a))) i
 
   -- the record of this block
@@ -82,8 +86,14 @@ module _ (b : ℕ) (h : Hist) (t : Table) (s : Shape t) where
     where
       here : (a : ℕ) → getD (set (t .records) (c * blockLimit + b) r) (a * blockLimit + b) noRecord ≡ at c r (λ a. recordOf t a b) a
       here a = elim (eq-or-ne a c) [
-        | inl q ↦ rw (q, getD-set-same (t .records) (c * blockLimit + b) r noRecord (omega (arith, s .records)), at-same c r (λ a. recordOf t a b))
-        | inr q ↦ getD-set-other (t .records) (c * blockLimit + b) (a * blockLimit + b) r noRecord (λ z. q (omega arith)) ∙ sym (at-other c r (λ a. recordOf t a b) a q)
+        | inl q ↦ rw (
+          q,
+          getD-set-same (t .records) (c * blockLimit + b) r noRecord (omega (arith, s .records)),
+          at-same c r
+              (λ a. recordOf t a b),
+        )
+        | inr q ↦ getD-set-other (t .records) (c * blockLimit + b) (a * blockLimit + b) r noRecord (λ z. q (omega arith))
+            ∙ sym (at-other c r (λ a. recordOf t a b) a q)
       ]
 
   -- the record of another block
@@ -94,13 +104,17 @@ module _ (b : ℕ) (h : Hist) (t : Table) (s : Shape t) where
 
   -- the records of one chunk emptied
   pub emptied-at : (c : ℕ) → c < chunkLimit → b < blockLimit
-      → (a : ℕ) → getD (recordsBy (λ d b. cond (eqb d c) (emptied (recordOf t d b)) (recordOf t d b))) (a * blockLimit + b) noRecord ≡ at c (emptied (recordOf t c b)) (λ a. recordOf t a b) a
+      → (a : ℕ) → getD (recordsBy (λ d b. cond (eqb d c) (emptied (recordOf t d b)) (recordOf t d b)))
+      (a * blockLimit + b) noRecord ≡ at c (emptied (recordOf t c b)) (λ a. recordOf t a b) a
   emptied-at c l lb a = elim (le-or-lt chunkLimit a) [
-    | inl q ↦ records-beyond (λ d b. cond (eqb d c) (emptied (recordOf t d b)) (recordOf t d b)) a b q ∙ sym (at-other c (emptied (recordOf t c b)) (λ a. recordOf t a b) a (λ z. omega arith) ∙ beyond t s a b q)
-    | inr q ↦ grid-at (λ d b. cond (eqb d c) (emptied (recordOf t d b)) (recordOf t d b)) chunkLimit blockLimit a b noRecord q lb ∙ go (eqb a c) refl
+    | inl q ↦ records-beyond (λ d b. cond (eqb d c) (emptied (recordOf t d b)) (recordOf t d b)) a b q
+        ∙ sym (at-other c (emptied (recordOf t c b)) (λ a. recordOf t a b) a (λ z. omega arith) ∙ beyond t s a b q)
+    | inr q ↦ grid-at (λ d b. cond (eqb d c) (emptied (recordOf t d b)) (recordOf t d b)) chunkLimit blockLimit a b noRecord q lb
+        ∙ go (eqb a c) refl
   ]
     where
-      go : (x : Bool) → eqb a c ≡ x → cond x (emptied (recordOf t a b)) (recordOf t a b) ≡ cond x (emptied (recordOf t c b)) (recordOf t a b)
+      go : (x : Bool) → eqb a c ≡ x → cond x (emptied (recordOf t a b)) (recordOf t a b) ≡ cond x (emptied (recordOf t c b))
+          (recordOf t a b)
       go true e = ap (λ (d : ℕ). emptied (recordOf t d b)) (eqb-true a c e)
       go false e = refl
 

@@ -39,18 +39,27 @@ pub record Run (b : ℕ) (h : Hist) (t : Table) (es : List Event) (hist : Hist) 
 
 module _ (b : ℕ) where
   -- an event more in front
-  pub goes-on : (h : Hist) (t : Table) (e : Event) (es : List Event) (s : Stepped b h t e (step t e)) (hist : Hist) → Run b (s .next .hist) (step t e .table) es hist → Run b h t (e ∷ es) hist
+  pub goes-on : (h : Hist) (t : Table) (e : Event) (es : List Event) (s : Stepped b h t e (step t e)) (hist : Hist)
+      → Run b (s .next .hist) (step t e .table) es hist → Run b h t (e ∷ es) hist
   unfolding after listed
   goes-on h t e es s hist r = record {
     blk = r .blk;
     whole = r .whole;
     to = λ u v z. elim (r .to u v z) [
-      | inl y ↦ elim (any-append (isIt u v) now (h .listed) (subst (Any (isIt u v)) (s .next .listed) y)) [ inl x ↦ inr (any-left (isIt u v) now rest x) | inr x ↦ inl x ]
+      | inl y ↦ elim (any-append (isIt u v) now (h .listed) (subst (Any (isIt u v)) (s .next .listed) y)) [
+        | inl x ↦
+            inr (any-left (isIt u v) now rest x)
+        | inr x ↦ inl x
+      ]
       | inr y ↦ inr (any-right (isIt u v) now rest y)
     ];
     from = λ u v. elim [
       | inl z ↦ r .from u v (inl (subst⁻¹ (Any (isIt u v)) (s .next .listed) (any-right (isIt u v) now (h .listed) z)))
-      | inr z ↦ r .from u v (elim (any-append (isIt u v) now rest z) [ inl x ↦ inl (subst⁻¹ (Any (isIt u v)) (s .next .listed) (any-left (isIt u v) now (h .listed) x)) | inr x ↦ inr x ])
+      | inr z ↦ r .from u v (elim (any-append (isIt u v) now rest z) [
+        | inl x ↦
+            inl (subst⁻¹ (Any (isIt u v)) (s .next .listed) (any-left (isIt u v) now (h .listed) x))
+        | inr x ↦ inr x
+      ])
     ];
     kept = λ u v z. r .kept u v (s .next .kept u v z);
     creation = r .creation ∙ s .creation;
@@ -65,18 +74,28 @@ module _ (b : ℕ) where
   -- no event more
   pub ends : (h : Hist) (blk : ℕ → ℕ) (t : Table) → Whole b h blk t → Run b h t [] h
   unfolding after listed
-  ends h blk t i = record { blk = blk; whole = i; to = λ u v z. inl z; from = λ u v. elim [ inl z ↦ z | inr z ↦ absurd z ]; kept = λ u v z. z; creation = refl }
+  ends h blk t i = record {
+    blk = blk;
+    whole = i;
+    to = λ u v z. inl z;
+    from = λ u v. elim [ inl z ↦ z | inr z ↦ absurd z ];
+    kept =
+        λ u v z. z;
+    creation = refl;
+  }
 
   -- what an event leaves is whole
   pub whole-after : (h : Hist) (t : Table) (e : Event) (s : Stepped b h t e (step t e)) → Whole b (s .next .hist) (s .blk) (step t e .table)
   whole-after h t e s = record { good = s .next .good; homes = s .homes; shape = s .shape }
 
   -- the block is one of the store's still
-  pub block-after : (h : Hist) (t : Table) (e : Event) → isBlock (t .creation) b ≡ true → (s : Stepped b h t e (step t e)) → isBlock (step t e .table .creation) b ≡ true
+  pub block-after : (h : Hist) (t : Table) (e : Event) → isBlock (t .creation) b ≡ true → (s : Stepped b h t e (step t e))
+      → isBlock (step t e .table .creation) b ≡ true
   block-after h t e lb s = subst⁻¹ (λ (k : Creation). isBlock k b ≡ true) (s .creation) lb
 
   -- every list of events
-  pub run : (es : List Event) (h : Hist) (blk : ℕ → ℕ) (t : Table) → isBlock (t .creation) b ≡ true → Whole b h blk t → (hist : Hist) × Run b h t es hist
+  pub run : (es : List Event) (h : Hist) (blk : ℕ → ℕ) (t : Table) → isBlock (t .creation) b ≡ true → Whole b h blk t → (hist : Hist)
+      × Run b h t es hist
   run [] h blk t lb i = (h, ends h blk t i)
   run (e ∷ es) h blk t lb i =
       let s = step-kept b h blk t lb i e in
@@ -84,17 +103,20 @@ module _ (b : ℕ) where
       (r .0, goes-on h t e es s (r .0) (r .1))
 
   -- a run after a run
-  pub appended : (h : Hist) (t : Table) (es fs : List Event) (mid last : Hist) → Run b h t es mid → Run b mid (after t es) fs last → Run b h t (es ++ fs) last
+  pub appended : (h : Hist) (t : Table) (es fs : List Event) (mid last : Hist) → Run b h t es mid → Run b mid (after t es) fs last
+      → Run b h t (es ++ fs) last
   appended h t es fs mid last r q = record {
     blk = q .blk;
     whole = subst⁻¹ (Whole b last (q .blk)) (after-append t es fs) (q .whole);
-    to = λ u v z. subst⁻¹ (λ (l : List Write). Any (isIt u v) (h .listed) ⊎ Any (isIt u v) l) (listed-append b t es fs) (elim (q .to u v z) [
-      | inl y ↦ elim (r .to u v y) [ inl x ↦ inl x | inr x ↦ inr (any-left (isIt u v) (listed b t es) (listed b (after t es) fs) x) ]
-      | inr y ↦ inr (any-right (isIt u v) (listed b t es) (listed b (after t es) fs) y)
-    ]);
+    to = λ u v z. subst⁻¹ (λ (l : List Write). Any (isIt u v) (h .listed) ⊎ Any (isIt u v) l) (listed-append b t es fs)
+        (elim (q .to u v z) [
+          | inl y ↦ elim (r .to u v y) [ inl x ↦ inl x | inr x ↦ inr (any-left (isIt u v) (listed b t es) (listed b (after t es) fs) x) ]
+          | inr y ↦ inr (any-right (isIt u v) (listed b t es) (listed b (after t es) fs) y)
+        ]);
     from = λ u v. elim [
       | inl z ↦ q .from u v (inl (r .from u v (inl z)))
-      | inr z ↦ q .from u v (elim (any-append (isIt u v) (listed b t es) (listed b (after t es) fs) (subst (Any (isIt u v)) (listed-append b t es fs) z)) [ inl x ↦ inl (r .from u v (inr x)) | inr x ↦ inr x ])
+      | inr z ↦ q .from u v (elim (any-append (isIt u v) (listed b t es) (listed b (after t es) fs)
+          (subst (Any (isIt u v)) (listed-append b t es fs) z)) [ inl x ↦ inl (r .from u v (inr x)) | inr x ↦ inr x ])
     ];
     kept = λ u v z. q .kept u v (r .kept u v z);
     creation = ap (λ (x : Table). x .creation) (after-append t es fs) ∙ q .creation ∙ r .creation;

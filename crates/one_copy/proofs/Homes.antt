@@ -33,7 +33,8 @@ pub record HostAt (x : Host) (u d : ℕ) : Type 0 where
 
 -- something in the table has timestamp u and block d
 abbrev pub Mention : Table → (u d : ℕ) → Type 0
-Mention t u d = ((j : ℕ) × HostAt (hostOf t j) u d) ⊎ (Sent (t .places) (ofBoth d u) ⊎ ((c : ℕ) × (d < blockLimit) × Any (atTs u) (inOrder (recordOf t c d .waiting))))
+Mention t u d = ((j : ℕ) × HostAt (hostOf t j) u d) ⊎ (Sent (t .places) (ofBoth d u)
+    ⊎ ((c : ℕ) × (d < blockLimit) × Any (atTs u) (inOrder (recordOf t c d .waiting))))
 
 -- nothing new is mentioned, clocks do not fall, and the arrays keep their lengths
 pub record Less (t′ t : Table) : Type 0 where
@@ -65,7 +66,11 @@ module _ (t : Table) where
       → (Shape t → length (y .queue .operations) ≡ operationLimit) → NetOk n → Less (withPlaces (withHost t j y) n) t
   less-host j y n f up len ok = record {
     ment = λ u d. elim [
-      | inl z ↦ elim (get-set (t .hosts) j (z .0) y noHost) [ inl e ↦ f u d (subst (λ (x : Host). HostAt x u d) (e .1) (z .1)) | inr e ↦ inl (z .0, subst (λ (x : Host). HostAt x u d) e (z .1)) ]
+      | inl z ↦ elim (get-set (t .hosts) j (z .0) y noHost) [
+        | inl e ↦ f u d (subst (λ (x : Host). HostAt x u d) (e .1) (z .1))
+        | inr e ↦
+            inl (z .0, subst (λ (x : Host). HostAt x u d) e (z .1))
+      ]
       | inr z ↦ elim z [ inl q ↦ ok u d q | inr q ↦ inr (inr q) ]
     ];
     clocks = λ a. elim (get-set (t .hosts) j a y noHost) [
@@ -80,7 +85,8 @@ module _ (t : Table) where
   less-chunk c x = record { ment = λ u d z. z; clocks = λ j. omega arith; shape = λ s. shape-chunk t s c x }
 
   -- a record changed
-  pub less-record : (c d : ℕ) (r : Record) (n : List Place) → d < blockLimit → ((u : ℕ) → Any (atTs u) (inOrder (r .waiting)) → Mention t u d)
+  pub less-record : (c d : ℕ) (r : Record) (n : List Place) → d < blockLimit
+      → ((u : ℕ) → Any (atTs u) (inOrder (r .waiting)) → Mention t u d)
       → (Shape t → length (r .waiting .entries) ≡ waitingLimit) → NetOk n → Less (withPlaces (withRecord t c d r) n) t
   less-record c d r n l f len ok = record {
     ment = λ u a. elim [
@@ -88,7 +94,8 @@ module _ (t : Table) where
       | inr z ↦ elim z [
         | inl q ↦ ok u a q
         | inr q ↦ elim (get-set (t .records) (c * blockLimit + d) (q .0 * blockLimit + a) r noRecord) [
-          | inl e ↦ (let y = e .0 in let m = q .1 in let g : a ≡ d = omega arith in subst⁻¹ (Mention t u) g (f u (subst (λ (x : Record). Any (atTs u) (inOrder (x .waiting))) (e .1) (q .2))))
+          | inl e ↦ (let y = e .0 in let m = q .1 in let g : a ≡ d = omega arith in
+              subst⁻¹ (Mention t u) g (f u (subst (λ (x : Record). Any (atTs u) (inOrder (x .waiting))) (e .1) (q .2))))
           | inr e ↦ inr (inr (q .0, q .1, subst (λ (x : Record). Any (atTs u) (inOrder (x .waiting))) e (q .2)))
         ]
       ]
@@ -102,13 +109,15 @@ module _ (t : Table) where
   one-ok m n ok f u d z = elim (sent-one (ofBoth d u) m n z) [ inl q ↦ ok u d q | inr q ↦ f u d q ]
 
   -- to each chunk of a set
-  pub each-ok : (f : ℕ → Message) (to : Set) (n : List Place) → NetOk n → ((a u d : ℕ) → ofBoth d u (f a) → Mention t u d) → NetOk (sentToEach n to f)
+  pub each-ok : (f : ℕ → Message) (to : Set) (n : List Place) → NetOk n → ((a u d : ℕ) → ofBoth d u (f a) → Mention t u d)
+      → NetOk (sentToEach n to f)
   each-ok f to n ok g u d z = elim (sent-each (ofBoth d u) f to n z) [ inl q ↦ ok u d q | inr q ↦ g (q .0) u d (q .3) ]
 
   -- ---- hosts
 
   -- a host that keeps its timestamp and its front operation, or has none
-  pub kept : (j : ℕ) (y : Host) → (0 < y .attempt .timestamp .0 → front y ≡ front (hostOf t j)) → y .attempt .timestamp ≡ hostOf t j .attempt .timestamp → (u d : ℕ) → HostAt y u d → Mention t u d
+  pub kept : (j : ℕ) (y : Host) → (0 < y .attempt .timestamp .0 → front y ≡ front (hostOf t j))
+      → y .attempt .timestamp ≡ hostOf t j .attempt .timestamp → (u d : ℕ) → HostAt y u d → Mention t u d
   kept j y eo et u d z = inl (
     j,
     record {
@@ -130,8 +139,17 @@ Homes blk t = (u d : ℕ) → Mention t u d → Drawn (seatsOf t) u × (blk u �
 
 -- nothing new is mentioned: it holds still
 pub still : (blk : ℕ → ℕ) (t t′ : Table) → Homes blk t → Less t′ t → Homes blk t′
-still blk t t′ h l u d m = let z = h u d (l .ment u d m) in let w = z .0 in
-    (record { by = w .by; clock = w .clock; isT = w .isT; small = w .small; past = (let a = l .clocks (w .by) in let b = w .past in omega arith) }, z .1)
+still blk t t′ h l u d m = let z = h u d (l .ment u d m) in let w = z .0 in (
+  record {
+    by = w .by;
+    clock = w .clock;
+    isT = w .isT;
+    small = w .small;
+    past =
+        (let a = l .clocks (w .by) in let b = w .past in omega arith);
+  },
+  z .1,
+)
 
 -- a start under a new timestamp
 module _ (blk : ℕ → ℕ) (t : Table) (s : Shape t) (h : Homes blk t) (j k : ℕ) (small : j < hostLimit) (later : hostOf t j .clock < k) where
@@ -164,7 +182,8 @@ module _ (blk : ℕ → ℕ) (t : Table) (s : Shape t) (h : Homes blk t) (j k : 
         isT = w .isT;
         small = w .small;
         past = elim (get-set (t .hosts) j (w .by) y noHost) [
-          | inl e ↦ subst⁻¹ (λ (x : Host). w .clock ≤ x .clock) (e .1) (let a = w .past in let b : hostOf t (w .by) .clock ≡ hostOf t j .clock = ap (λ (a : ℕ). hostOf t a .clock) (e .0) in omega arith)
+          | inl e ↦ subst⁻¹ (λ (x : Host). w .clock ≤ x .clock) (e .1) (let a = w .past in
+              let b : hostOf t (w .by) .clock ≡ hostOf t j .clock = ap (λ (a : ℕ). hostOf t a .clock) (e .0) in omega arith)
           | inr e ↦ subst⁻¹ (λ (x : Host). w .clock ≤ x .clock) e (w .past)
         ];
       }

@@ -38,10 +38,15 @@ answers h w = record { kind = h .kind; value = h .value; ae = h .ae; listed = h 
 pub ofIt : (t v : ℕ) (l : List Write) → Any (isIt t v) l → Any (isTs t) l
 ofIt t v l q = any-map (isIt t v) (isTs t) (λ w z. z .0) l q
 
-module _ (S : ℕ → Type 0) (inside : (c : ℕ) → S c → c < chunkLimit) (b : ℕ) (h : Hist) (ep : ℕ) (hs : ℕ → Seat) (ps : ℕ → Part) (n : List Place) (i : CInv S b h ep hs ps n) where
+module _ (S : ℕ → Type 0) (inside : (c : ℕ) → S c → c < chunkLimit) (b : ℕ) (h : Hist) (ep : ℕ) (hs : ℕ → Seat) (ps : ℕ → Part)
+    (n : List Place) (i : CInv S b h ep hs ps n) where
   -- two hosts are never at one timestamp
   pub unique : (j k t : ℕ) → (hs j) .ts ≡ t → (hs k) .ts ≡ t → 0 < t → k ≡ j
-  unique j k t p q pos = elim (i .stamps j) [ inl a ↦ absurd (omega arith) | inr a ↦ elim (i .stamps k) [ inl c ↦ absurd (omega arith) | inr c ↦ omega (arith, a .0, a .1, c .0, c .1) ] ]
+  unique j k t p q pos = elim (i .stamps j) [
+    | inl a ↦ absurd (omega arith)
+    | inr a ↦
+        elim (i .stamps k) [ inl c ↦ absurd (omega arith) | inr c ↦ omega (arith, a .0, a .1, c .0, c .1) ]
+  ]
 
   module _ (j k : ℕ) (small : j < 8) (later : (hs j) .clock < k) where
     -- a timestamp that is drawn is new
@@ -86,7 +91,14 @@ module _ (S : ℕ → Type 0) (inside : (c : ℕ) → S c → c < chunkLimit) (b
       start-other n′ sub far = record {
         inv = shrink S (book h ep) (flow S b h hs n) (λ c. cellOf (ps c)) (i .inv) (flow S b h (at j y hs) n′) (record {
           cur = λ t z. hasW t z;
-          act = λ t z. (elim (at-split (λ x. HasW b x t × (x .okay ≡ true)) j y hs (z .0) (z .1, z .2)) [ inl p ↦ absurd (far (p .1 .0 .block)) | inr p ↦ (z .0, p .1 .0, p .1 .1) ], (z .0, z .1));
+          act = λ t z. (
+            elim (at-split (λ x. HasW b x t × (x .okay ≡ true)) j y hs (z .0) (z .1, z .2)) [
+              | inl p ↦
+                  absurd (far (p .1 .0 .block))
+              | inr p ↦ (z .0, p .1 .0, p .1 .1)
+            ],
+            (z .0, z .1),
+          );
           ack = λ t c. elim [
             | inl s ↦ inl (sub .ack t c s)
             | inr z ↦ elim (at-split (λ x. HasW b x t × (x .okay ≡ true) × (c among x .out ≡ false)) j y hs (z .0) (z .1, z .2, z .3)) [
@@ -101,13 +113,21 @@ module _ (S : ℕ → Type 0) (inside : (c : ℕ) → S c → c < chunkLimit) (b
           seen = λ t x. elim [
             | inl s ↦ inl (sub .value t x s)
             | inr z ↦ elim z [
-              | inl a ↦ elim (at-split (λ y. HasR b y t x) j y hs (a .0) (a .1)) [ inl p ↦ absurd (far (p .1 .block)) | inr p ↦ inr (inl (a .0, p .1)) ]
+              | inl a ↦ elim (at-split (λ y. HasR b y t x) j y hs (a .0) (a .1)) [
+                | inl p ↦ absurd (far (p .1 .block))
+                | inr p ↦
+                    inr (inl (a .0, p .1))
+              ]
               | inr a ↦ inr (inr a)
             ]
           ];
         });
         vals = i .vals;
-        drawn = λ t. elim (i .drawn t) [ inl z ↦ inl z | inr d ↦ inr (record { by = d .by; clock = d .clock; isT = d .isT; small = d .small; past = up (d .clock) (d .by) (d .past) }) ];
+        drawn = λ t. elim (i .drawn t) [
+          | inl z ↦ inl z
+          | inr d ↦
+              inr (record { by = d .by; clock = d .clock; isT = d .isT; small = d .small; past = up (d .clock) (d .by) (d .past) })
+        ];
         stamps = stampsTo;
         mine = at-all (λ a x. (t : ℕ) → HasW b x t → h .value t ≡ x .value) j y hs (λ t z. absurd (far (z .block))) (λ a _. i .mine a);
         sane = i .sane;
@@ -118,15 +138,28 @@ module _ (S : ℕ → Type 0) (inside : (c : ℕ) → S c → c < chunkLimit) (b
           hasW t z = elim (at-split (λ x. HasW b x t) j y hs (z .0) (z .1)) [ inl p ↦ absurd (far (p .1 .block)) | inr p ↦ (z .0, p .1) ]
 
       -- a write of block b starts
-      pub begin-write : (n′ : List Place) (e : Epoch) → ((P : Message → Type 0) → Sent n′ P → Sent n P ⊎ ((d : ℕ) × P (Message.Prewrite (headed j d b (stamp k j)) e (y .value))))
+      pub begin-write : (n′ : List Place) (e : Epoch) → ((P : Message → Type 0) → Sent n′ P → Sent n P
+          ⊎ ((d : ℕ) × P (Message.Prewrite (headed j d b (stamp k j)) e (y .value))))
           → e .0 ≤ ep → y .write ≡ true → y .block ≡ b → ((c : ℕ) → S c → c among y .out ≡ true) → (s : ℕ) → S s
           → CInv S b (begins h (stamp k j .0) writeK (y .value) (e .0)) ep (at j y hs) ps n′
       begin-write n′ e adds le yw yb yo s sm = record {
         inv = shrink S (book h′ ep) (writing (flow S b h hs n) (stamp k j .0) (y .value) (e .0)) (λ c. cellOf (ps c))
-            (start-write S (book h ep) (flow S b h hs n) (λ c. cellOf (ps c)) (i .inv) (stamp k j .0) (y .value) (e .0) unused (λ z. z) nonzero le s sm)
+            (start-write S (book h ep) (flow S b h hs n) (λ c. cellOf (ps c)) (i .inv) (stamp k j .0) (y .value) (e .0) unused
+            (λ z. z) nonzero le s sm)
             (flow S b h′ (at j y hs) n′) (record {
-              cur = λ t z. elim (at-split (λ x. HasW b x t) j y hs (z .0) (z .1)) [ inl p ↦ inr (sym (p .1 .stamp) ∙ yt) | inr p ↦ inl (z .0, p .1) ];
-              act = λ t z. (elim (at-split (λ x. HasW b x t × (x .okay ≡ true)) j y hs (z .0) (z .1, z .2)) [ inl p ↦ inr (sym (p .1 .0 .stamp) ∙ yt) | inr p ↦ inl (z .0, p .1 .0, p .1 .1) ], (z .0, z .1));
+              cur = λ t z. elim (at-split (λ x. HasW b x t) j y hs (z .0) (z .1)) [
+                | inl p ↦ inr (sym (p .1 .stamp) ∙ yt)
+                | inr p ↦
+                    inl (z .0, p .1)
+              ];
+              act = λ t z. (
+                elim (at-split (λ x. HasW b x t × (x .okay ≡ true)) j y hs (z .0) (z .1, z .2)) [
+                  | inl p ↦
+                      inr (sym (p .1 .0 .stamp) ∙ yt)
+                  | inr p ↦ inl (z .0, p .1 .0, p .1 .1)
+                ],
+                (z .0, z .1),
+              );
               ack = λ t c. elim [
                 | inl q ↦ elim (adds (ofAck b t c) q) [ inl r ↦ inl r | inr r ↦ absurd (r .1) ]
                 | inr z ↦ elim (at-split (λ x. HasW b x t × (x .okay ≡ true) × (c among x .out ≡ false)) j y hs (z .0) (z .1, z .2, z .3)) [
@@ -134,24 +167,34 @@ module _ (S : ℕ → Type 0) (inside : (c : ℕ) → S c → c < chunkLimit) (b
                   | inr p ↦ inr (z .0, p .1 .0, p .1 .1, p .1 .2, z .4)
                 ]
               ];
-              pre = λ c t e′ v q. elim (adds (ofPre b c t e′ v) q) [ inl r ↦ inl r | inr r ↦ inr (sym (r .1 .2), sym (r .1 .3), sym (r .1 .4)) ];
+              pre = λ c t e′ v q. elim (adds (ofPre b c t e′ v) q) [
+                | inl r ↦ inl r
+                | inr r ↦
+                    inr (sym (r .1 .2), sym (r .1 .3), sym (r .1 .4))
+              ];
               rdm = λ c t q. elim (adds (ofRead b c t) q) [ inl r ↦ r | inr r ↦ absurd (r .1) ];
               comm = λ t q. elim (adds (ofCommit b t) q) [ inl r ↦ r | inr r ↦ absurd (r .1) ];
               abtm = λ t q. elim (adds (ofAbort b t) q) [ inl r ↦ r | inr r ↦ absurd (r .1) ];
               seen = λ t x. elim [
                 | inl q ↦ elim (adds (ofValue b t x) q) [ inl r ↦ inl r | inr r ↦ absurd (r .1) ]
                 | inr z ↦ elim z [
-                  | inl a ↦ elim (at-split (λ y. HasR b y t x) j y hs (a .0) (a .1)) [ inl p ↦ absurd (not-both (y .write) yw (p .1 .write)) | inr p ↦ inr (inl (a .0, p .1)) ]
+                  | inl a ↦ elim (at-split (λ y. HasR b y t x) j y hs (a .0) (a .1)) [
+                    | inl p ↦
+                        absurd (not-both (y .write) yw (p .1 .write))
+                    | inr p ↦ inr (inl (a .0, p .1))
+                  ]
                   | inr a ↦ inr (inr a)
                 ]
               ];
             });
-        vals = λ t v q. at-other (stamp k j .0) (y .value) (h .value) t (λ z. idle≢writeK (sym unused ∙ ap (h .kind) (sym z) ∙ i .inv .glob .listK t (ofIt t v (h .listed) q))) ∙ i .vals t v q;
+        vals = λ t v q. at-other (stamp k j .0) (y .value) (h .value) t
+            (λ z. idle≢writeK (sym unused ∙ ap (h .kind) (sym z) ∙ i .inv .glob .listK t (ofIt t v (h .listed) q))) ∙ i .vals t v q;
         drawn = draws writeK (y .value) (e .0);
         stamps = stampsTo;
         mine = at-all (λ a x. (t : ℕ) → HasW b x t → h′ .value t ≡ x .value) j y hs
             (λ t z. rw (sym (z .stamp) ∙ yt) (at-same (stamp k j .0) (y .value) (h .value)))
-            (λ a _ t z. at-other (stamp k j .0) (y .value) (h .value) t (λ q. idle≢writeK (sym unused ∙ ap (h .kind) (sym q) ∙ i .inv .glob .curK t (a, z))) ∙ i .mine a t z);
+            (λ a _ t z. at-other (stamp k j .0) (y .value) (h .value) t
+            (λ q. idle≢writeK (sym unused ∙ ap (h .kind) (sym q) ∙ i .inv .glob .curK t (a, z))) ∙ i .mine a t z);
         sane = i .sane;
         known = knows;
       }
@@ -160,15 +203,27 @@ module _ (S : ℕ → Type 0) (inside : (c : ℕ) → S c → c < chunkLimit) (b
           h′ = begins h (stamp k j .0) writeK (y .value) (e .0)
 
       -- a read of block b starts at a copy
-      pub begin-read : (n′ : List Place) (c : ℕ) (e : Epoch) (v : ℕ) → ((P : Message → Type 0) → Sent n′ P → Sent n P ⊎ P (Message.Read (headed j c b (stamp k j)) e))
+      pub begin-read : (n′ : List Place) (c : ℕ) (e : Epoch) (v : ℕ) → ((P : Message → Type 0) → Sent n′ P → Sent n P
+          ⊎ P (Message.Read (headed j c b (stamp k j)) e))
           → y .write ≡ false → c among y .out ≡ true → S c
           → CInv S b (begins h (stamp k j .0) readK v (e .0)) ep (at j y hs) ps n′
       begin-read n′ c e v adds yw yo sm = record {
         inv = shrink S (book h′ ep) (reading (flow S b h hs n) (stamp k j .0) c) (λ c. cellOf (ps c))
             (start-read S (book h ep) (flow S b h hs n) (λ c. cellOf (ps c)) (i .inv) (stamp k j .0) c v (e .0) sm unused (λ z. z) nonzero)
             (flow S b h′ (at j y hs) n′) (record {
-              cur = λ t z. elim (at-split (λ x. HasW b x t) j y hs (z .0) (z .1)) [ inl p ↦ absurd (not-both (y .write) (p .1 .write) yw) | inr p ↦ (z .0, p .1) ];
-              act = λ t z. (elim (at-split (λ x. HasW b x t × (x .okay ≡ true)) j y hs (z .0) (z .1, z .2)) [ inl p ↦ absurd (not-both (y .write) (p .1 .0 .write) yw) | inr p ↦ (z .0, p .1 .0, p .1 .1) ], (z .0, z .1));
+              cur = λ t z. elim (at-split (λ x. HasW b x t) j y hs (z .0) (z .1)) [
+                | inl p ↦
+                    absurd (not-both (y .write) (p .1 .write) yw)
+                | inr p ↦ (z .0, p .1)
+              ];
+              act = λ t z. (
+                elim (at-split (λ x. HasW b x t × (x .okay ≡ true)) j y hs (z .0) (z .1, z .2)) [
+                  | inl p ↦
+                      absurd (not-both (y .write) (p .1 .0 .write) yw)
+                  | inr p ↦ (z .0, p .1 .0, p .1 .1)
+                ],
+                (z .0, z .1),
+              );
               ack = λ t c. elim [
                 | inl q ↦ elim (adds (ofAck b t c) q) [ inl r ↦ inl r | inr r ↦ absurd r ]
                 | inr z ↦ elim (at-split (λ x. HasW b x t × (x .okay ≡ true) × (c among x .out ≡ false)) j y hs (z .0) (z .1, z .2, z .3)) [
@@ -183,17 +238,24 @@ module _ (S : ℕ → Type 0) (inside : (c : ℕ) → S c → c < chunkLimit) (b
               seen = λ t x. elim [
                 | inl q ↦ elim (adds (ofValue b t x) q) [ inl r ↦ inl r | inr r ↦ absurd r ]
                 | inr z ↦ elim z [
-                  | inl a ↦ elim (at-split (λ y. HasR b y t x) j y hs (a .0) (a .1)) [ inl p ↦ absurd (not-both (c among y .out) yo (empty-none (y .out) (p .1 .none) c (inside c sm))) | inr p ↦ inr (inl (a .0, p .1)) ]
+                  | inl a ↦ elim (at-split (λ y. HasR b y t x) j y hs (a .0) (a .1)) [
+                    | inl p ↦
+                        absurd (not-both (c among y .out) yo (empty-none (y .out) (p .1 .none) c (inside c sm)))
+                    | inr p ↦
+                        inr (inl (a .0, p .1))
+                  ]
                   | inr a ↦ inr (inr a)
                 ]
               ];
             });
-        vals = λ t u q. at-other (stamp k j .0) v (h .value) t (λ z. idle≢writeK (sym unused ∙ ap (h .kind) (sym z) ∙ i .inv .glob .listK t (ofIt t u (h .listed) q))) ∙ i .vals t u q;
+        vals = λ t u q. at-other (stamp k j .0) v (h .value) t (λ z. idle≢writeK
+            (sym unused ∙ ap (h .kind) (sym z) ∙ i .inv .glob .listK t (ofIt t u (h .listed) q))) ∙ i .vals t u q;
         drawn = draws readK v (e .0);
         stamps = stampsTo;
         mine = at-all (λ a x. (t : ℕ) → HasW b x t → h′ .value t ≡ x .value) j y hs
             (λ t z. absurd (not-both (y .write) (z .write) yw))
-            (λ a _ t z. at-other (stamp k j .0) v (h .value) t (λ q. idle≢writeK (sym unused ∙ ap (h .kind) (sym q) ∙ i .inv .glob .curK t (a, z))) ∙ i .mine a t z);
+            (λ a _ t z. at-other (stamp k j .0) v (h .value) t (λ q. idle≢writeK
+            (sym unused ∙ ap (h .kind) (sym q) ∙ i .inv .glob .curK t (a, z))) ∙ i .mine a t z);
         sane = i .sane;
         known = knows;
       }
@@ -241,25 +303,34 @@ module _ (S : ℕ → Type 0) (inside : (c : ℕ) → S c → c < chunkLimit) (b
     restW t z = elim (at-split (λ x. HasW b x t) j y hs (z .0) (z .1)) [ inl p ↦ idleW t (p .1) | inr p ↦ (z .0, p .1, p .0) ]
 
     -- those that are okay
-    restA : (t : ℕ) → (a : ℕ) × HasW b (at j y hs a) t × ((at j y hs a) .okay ≡ true) → (a : ℕ) × HasW b (hs a) t × ((hs a) .okay ≡ true) × (a ≡ j → ⊥)
-    restA t z = elim (at-split (λ x. HasW b x t × (x .okay ≡ true)) j y hs (z .0) (z .1, z .2)) [ inl p ↦ idleW t (p .1 .0) | inr p ↦ (z .0, p .1 .0, p .1 .1, p .0) ]
+    restA : (t : ℕ) → (a : ℕ) × HasW b (at j y hs a) t × ((at j y hs a) .okay ≡ true) → (a : ℕ) × HasW b (hs a) t
+        × ((hs a) .okay ≡ true) × (a ≡ j → ⊥)
+    restA t z = elim (at-split (λ x. HasW b x t × (x .okay ≡ true)) j y hs (z .0) (z .1, z .2)) [
+      | inl p ↦ idleW t (p .1 .0)
+      | inr p ↦
+          (z .0, p .1 .0, p .1 .1, p .0)
+    ]
 
     -- those that chunk c has answered
-    restK : (t c : ℕ) → (a : ℕ) × HasW b (at j y hs a) t × ((at j y hs a) .okay ≡ true) × (c among (at j y hs a) .out ≡ false) × S c → (a : ℕ) × HasW b (hs a) t × ((hs a) .okay ≡ true) × (c among (hs a) .out ≡ false) × S c
-    restK t c z = elim (at-split (λ x. HasW b x t × (x .okay ≡ true) × (c among x .out ≡ false)) j y hs (z .0) (z .1, z .2, z .3)) [ inl p ↦ idleW t (p .1 .0) | inr p ↦ (z .0, p .1 .0, p .1 .1, p .1 .2, z .4) ]
+    restK : (t c : ℕ) → (a : ℕ) × HasW b (at j y hs a) t × ((at j y hs a) .okay ≡ true) × (c among (at j y hs a) .out ≡ false) × S c
+        → (a : ℕ) × HasW b (hs a) t × ((hs a) .okay ≡ true) × (c among (hs a) .out ≡ false) × S c
+    restK t c z = elim (at-split (λ x. HasW b x t × (x .okay ≡ true) × (c among x .out ≡ false)) j y hs (z .0) (z .1, z .2, z .3))
+        [ inl p ↦ idleW t (p .1 .0) | inr p ↦ (z .0, p .1 .0, p .1 .1, p .1 .2, z .4) ]
 
     -- the reads of the others
     restR : (t x : ℕ) → (a : ℕ) × HasR b (at j y hs a) t x → (a : ℕ) × HasR b (hs a) t x
     restR t x z = elim (at-split (λ x′. HasR b x′ t x) j y hs (z .0) (z .1)) [ inl p ↦ idleR t x (p .1) | inr p ↦ (z .0, p .1) ]
 
     -- an okay write is committed and listed
-    pub end-commit : (n′ : List Place) (t : Timestamp) (e : Epoch) → HasW b (hs j) (t .0) → (hs j) .okay ≡ true → isEmpty ((hs j) .out) ≡ true
+    pub end-commit : (n′ : List Place) (t : Timestamp) (e : Epoch) → HasW b (hs j) (t .0) → (hs j) .okay ≡ true
+        → isEmpty ((hs j) .out) ≡ true
         → ((P : Message → Type 0) → Sent n′ P → Sent n P ⊎ ((d : ℕ) × P (Message.Commit (headed j d b t) e)))
         → CInv S b (lists h (record { timestamp = t; value = (hs j) .value } ∷ [])) ep (at j y hs) ps n′
     end-commit n′ t e hw ok out adds = record {
       inv = shrink S (book h′ ep) (committed (flow S b h hs n) (t .0)) (λ c. cellOf (ps c))
           (relist S (Decide.listed (book h ep) (t .0)) (committed (flow S b h hs n) (t .0)) (λ c. cellOf (ps c)) ((book h′ ep) .L)
-          (commit S (book h ep) (flow S b h hs n) (λ c. cellOf (ps c)) (i .inv) (t .0) (λ z. z) (j, hw, ok) (λ c m. inr (j, hw, ok, empty-none ((hs j) .out) out c (inside c m), m)))
+          (commit S (book h ep) (flow S b h hs n) (λ c. cellOf (ps c)) (i .inv) (t .0) (λ z. z) (j, hw, ok)
+          (λ c m. inr (j, hw, ok, empty-none ((hs j) .out) out c (inside c m), m)))
           (λ u. elim [ inl q ↦ inr (sym q) | inr q ↦ inl q ]) (λ u. elim [ inl q ↦ inr q | inr q ↦ inl (sym q) ]))
           (flow S b h′ (at j y hs) n′) (record {
             cur = λ u z. let r = restW u z in ((r .0, r .1), λ q. r .2 (other (r .0) u (r .1) q));
@@ -269,7 +340,11 @@ module _ (S : ℕ → Type 0) (inside : (c : ℕ) → S c → c < chunkLimit) (b
             rdm = λ c u q. elim (adds (ofRead b c u) q) [ inl r ↦ r | inr r ↦ absurd (r .1) ];
             comm = λ u q. elim (adds (ofCommit b u) q) [ inl r ↦ inl r | inr r ↦ inr (sym (r .1 .1)) ];
             abtm = λ u q. elim (adds (ofAbort b u) q) [ inl r ↦ r | inr r ↦ absurd (r .1) ];
-            seen = λ u x. elim [ inl q ↦ elim (adds (ofValue b u x) q) [ inl r ↦ inl r | inr r ↦ absurd (r .1) ] | inr z ↦ elim z [ inl a ↦ inr (inl (restR u x a)) | inr a ↦ inr (inr a) ] ];
+            seen = λ u x. elim [
+              | inl q ↦ elim (adds (ofValue b u x) q) [ inl r ↦ inl r | inr r ↦ absurd (r .1) ]
+              | inr z ↦
+                  elim z [ inl a ↦ inr (inl (restR u x a)) | inr a ↦ inr (inr a) ]
+            ];
           });
       vals = λ u v. elim [ inl q ↦ rw (← (q .0), ← (q .1)) (i .mine j (t .0) hw) | inr q ↦ i .vals u v q ];
       drawn = ends-drawn;
@@ -291,7 +366,8 @@ module _ (S : ℕ → Type 0) (inside : (c : ℕ) → S c → c < chunkLimit) (b
         → CInv S b h ep (at j y hs) ps n′
     end-abort n′ t e hw ok adds = record {
       inv = shrink S (book h ep) (aborted (flow S b h hs n) (t .0)) (λ c. cellOf (ps c))
-          (abort S (book h ep) (flow S b h hs n) (λ c. cellOf (ps c)) (i .inv) (t .0) (j, hw) (λ z. not-both ((hs j) .okay) (rw (other (z .0) (t .0) (z .1) refl) at (z .2)) ok))
+          (abort S (book h ep) (flow S b h hs n) (λ c. cellOf (ps c)) (i .inv) (t .0) (j, hw)
+          (λ z. not-both ((hs j) .okay) (rw (other (z .0) (t .0) (z .1) refl) at (z .2)) ok))
           (flow S b h (at j y hs) n′) (record {
             cur = λ u z. let r = restW u z in ((r .0, r .1), λ q. r .2 (other (r .0) u (r .1) q));
             act = λ u z. let r = restA u z in ((r .0, r .1, r .2), (z .0, z .1));
@@ -300,7 +376,11 @@ module _ (S : ℕ → Type 0) (inside : (c : ℕ) → S c → c < chunkLimit) (b
             rdm = λ c u q. elim (adds (ofRead b c u) q) [ inl r ↦ r | inr r ↦ absurd (r .1) ];
             comm = λ u q. elim (adds (ofCommit b u) q) [ inl r ↦ r | inr r ↦ absurd (r .1) ];
             abtm = λ u q. elim (adds (ofAbort b u) q) [ inl r ↦ inl r | inr r ↦ inr (sym (r .1 .1)) ];
-            seen = λ u x. elim [ inl q ↦ elim (adds (ofValue b u x) q) [ inl r ↦ inl r | inr r ↦ absurd (r .1) ] | inr z ↦ elim z [ inl a ↦ inr (inl (restR u x a)) | inr a ↦ inr (inr a) ] ];
+            seen = λ u x. elim [
+              | inl q ↦ elim (adds (ofValue b u x) q) [ inl r ↦ inl r | inr r ↦ absurd (r .1) ]
+              | inr z ↦
+                  elim z [ inl a ↦ inr (inl (restR u x a)) | inr a ↦ inr (inr a) ]
+            ];
           });
       vals = i .vals;
       drawn = ends-drawn;
@@ -327,18 +407,27 @@ module _ (S : ℕ → Type 0) (inside : (c : ℕ) → S c → c < chunkLimit) (b
     })
 
     -- a read is answered to the user
-    pub end-read : (t : Timestamp) (v : ℕ) → HasR b (hs j) (t .0) v → CInv S b (answers h (record { timestamp = t; value = v })) ep (at j y hs) ps n
+    pub end-read : (t : Timestamp) (v : ℕ) → HasR b (hs j) (t .0) v → CInv S b (answers h (record { timestamp = t; value = v })) ep
+        (at j y hs) ps n
     end-read t v hr = record {
-      inv = shrink S (book h ep) (flow S b h hs n) (λ c. cellOf (ps c)) (i .inv) (flow S b (answers h (record { timestamp = t; value = v })) (at j y hs) n) (record {
-        cur = λ u z. let r = restW u z in (r .0, r .1);
-        act = λ u z. let r = restA u z in ((r .0, r .1, r .2), (z .0, z .1));
-        ack = λ u c. elim [ inl q ↦ inl q | inr z ↦ inr (restK u c z) ];
-        pre = λ c u e v q. q;
-        rdm = λ c u q. q;
-        comm = λ u q. q;
-        abtm = λ u q. q;
-        seen = λ u x. elim [ inl q ↦ inl q | inr z ↦ elim z [ inl a ↦ inr (inl (restR u x a)) | inr a ↦ elim a [ inl q ↦ inr (inl (j, rw (← (q .0), ← (q .1)) hr)) | inr q ↦ inr (inr q) ] ] ];
-      });
+      inv = shrink S (book h ep) (flow S b h hs n) (λ c. cellOf (ps c)) (i .inv)
+          (flow S b (answers h (record { timestamp = t; value = v })) (at j y hs) n) (record {
+            cur = λ u z. let r = restW u z in (r .0, r .1);
+            act = λ u z. let r = restA u z in ((r .0, r .1, r .2), (z .0, z .1));
+            ack = λ u c. elim [ inl q ↦ inl q | inr z ↦ inr (restK u c z) ];
+            pre = λ c u e v q. q;
+            rdm = λ c u q. q;
+            comm = λ u q. q;
+            abtm = λ u q. q;
+            seen = λ u x. elim [
+              | inl q ↦ inl q
+              | inr z ↦ elim z [
+                | inl a ↦ inr (inl (restR u x a))
+                | inr a ↦
+                    elim a [ inl q ↦ inr (inl (j, rw (← (q .0), ← (q .1)) hr)) | inr q ↦ inr (inr q) ]
+              ]
+            ];
+          });
       vals = i .vals;
       drawn = ends-drawn;
       stamps = ends-stamps;

@@ -65,7 +65,8 @@ module _ {A : Type 0} where
   any-those p P [] h = h
   any-those p P (x ∷ xs) h = go (p x) refl h (any-those p P xs)
     where
-      go : (t : Bool) → p x ≡ t → Any P (cond t (x ∷ those p xs) (those p xs)) → (Any P (those p xs) → Any (λ x. (p x ≡ true) × P x) xs) → ((p x ≡ true) × P x) ⊎ Any (λ x. (p x ≡ true) × P x) xs
+      go : (t : Bool) → p x ≡ t → Any P (cond t (x ∷ those p xs) (those p xs)) → (Any P (those p xs) → Any (λ x. (p x ≡ true) × P x) xs)
+          → ((p x ≡ true) × P x) ⊎ Any (λ x. (p x ≡ true) × P x) xs
       go true e (inl z) f = inl (e, z)
       go true e (inr z) f = inr (f z)
       go false e z f = inr (f z)
@@ -87,7 +88,8 @@ module _ {A : Type 0} where
   some-any p [] h = absurd (false≢true h)
   some-any p (x ∷ xs) h = go (p x) refl h (some-any p xs)
     where
-      go : (t : Bool) → p x ≡ t → t || some p xs ≡ true → (some p xs ≡ true → Any (λ x. p x ≡ true) xs) → (p x ≡ true) ⊎ Any (λ x. p x ≡ true) xs
+      go : (t : Bool) → p x ≡ t → t || some p xs ≡ true → (some p xs ≡ true → Any (λ x. p x ≡ true) xs) → (p x ≡ true)
+          ⊎ Any (λ x. p x ≡ true) xs
       go true e h f = inl e
       go false e h f = inr (f h)
 
@@ -148,7 +150,11 @@ any-from P i (suc n) (inr h) = let r = any-from P (suc i) n h in let k = r .1 in
 from-any : (P : ℕ → Type 0) (i n j : ℕ) → i ≤ j → j < i + n → P j → Any P (from i n)
 unfolding from
 from-any P i zero j a l h = absurd (omega arith)
-from-any P i (suc n) j a l h = elim (eq-or-ne j i) [ inl q ↦ inl (rw q at h) | inr q ↦ inr (from-any P (suc i) n j (omega arith) (omega arith) h) ]
+from-any P i (suc n) j a l h = elim (eq-or-ne j i) [
+  | inl q ↦ inl (rw q at h)
+  | inr q ↦
+      inr (from-any P (suc i) n j (omega arith) (omega arith) h)
+]
 
 -- a number below n that has P
 pub any-numbers : (P : ℕ → Type 0) (n : ℕ) → Any P (numbers n) → (j : ℕ) × (j < n) × P j

@@ -110,17 +110,24 @@ unfolding sent
 sent-one P m n h = any-set (λ p. onSlot P (p .slot)) n (place isFree n) (record { slot = Slot.Full m }) h
 
 -- messages one after another
-sent-list : (P : Message → Type 0) (f : ℕ → Message) (l : List ℕ) (n : List Place) → Sent (fold sent n (each f l)) P → Sent n P ⊎ Any (λ d. P (f d)) l
+sent-list : (P : Message → Type 0) (f : ℕ → Message) (l : List ℕ) (n : List Place) → Sent (fold sent n (each f l)) P → Sent n P
+    ⊎ Any (λ d. P (f d)) l
 unfolding fold each
 sent-list P f [] n h = inl h
-sent-list P f (d ∷ l) n h = elim (sent-list P f l (sent n (f d)) h) [ inl q ↦ elim (sent-one P (f d) n q) [ inl r ↦ inl r | inr r ↦ inr (inl r) ] | inr q ↦ inr (inr q) ]
+sent-list P f (d ∷ l) n h = elim (sent-list P f l (sent n (f d)) h) [
+  | inl q ↦
+      elim (sent-one P (f d) n q) [ inl r ↦ inl r | inr r ↦ inr (inl r) ]
+  | inr q ↦ inr (inr q)
+]
 
 -- one message to each chunk of a set
-pub sent-each : (P : Message → Type 0) (f : ℕ → Message) (to : Set) (n : List Place) → Sent (sentToEach n to f) P → Sent n P ⊎ ((d : ℕ) × (d < chunkLimit) × (d among to ≡ true) × P (f d))
+pub sent-each : (P : Message → Type 0) (f : ℕ → Message) (to : Set) (n : List Place) → Sent (sentToEach n to f) P → Sent n P
+    ⊎ ((d : ℕ) × (d < chunkLimit) × (d among to ≡ true) × P (f d))
 unfolding sentToEach
 sent-each P f to n h = elim (sent-list P f (chunksOf to) n h) [
   | inl q ↦ inl q
-  | inr q ↦ (let r = any-numbers _ chunkLimit (any-those (λ d. d among to) (λ d. P (f d)) (numbers chunkLimit) q) in inr (r .0, r .1, r .2 .0, r .2 .1))
+  | inr q ↦ (let r = any-numbers _ chunkLimit (any-those (λ d. d among to) (λ d. P (f d)) (numbers chunkLimit) q) in
+      inr (r .0, r .1, r .2 .0, r .2 .1))
 ]
 
 -- a message that was taken out

@@ -80,7 +80,8 @@ withKind e k = record { timestamp = e .timestamp; sender = e .sender; epoch = e 
 
 -- the first with the timestamp: its kind decides
 marked-here : (commit : Bool) (t : ℕ) (e : Entry) (q : List Entry) (k : Kind) → e .timestamp .0 ≡ t
-    → (_≡_ {A = List Entry} (withKind e (decidedKind commit k) ∷ q) (withKind e k ∷ q)) ⊎ Marked (markOf commit) t (withKind e k ∷ q) (withKind e (decidedKind commit k) ∷ q)
+    → (_≡_ {A = List Entry} (withKind e (decidedKind commit k) ∷ q) (withKind e k ∷ q))
+    ⊎ Marked (markOf commit) t (withKind e k ∷ q) (withKind e (decidedKind commit k) ∷ q)
 marked-here commit t e q Kind.Read h = inl refl
 marked-here commit t e q (Kind.Committed v) h = inl refl
 marked-here commit t e q (Kind.Aborted v) h = inl refl
@@ -102,14 +103,17 @@ marked-here false t e q (Kind.Undecided v) h = inr (record {
 })
 
 -- the list
-pub mark-cases : (commit : Bool) (t : Timestamp) (q : List Entry) → (mark commit t q ≡ q) ⊎ Marked (markOf commit) (t .0) q (mark commit t q)
+pub mark-cases : (commit : Bool) (t : Timestamp) (q : List Entry) → (mark commit t q ≡ q)
+    ⊎ Marked (markOf commit) (t .0) q (mark commit t q)
 unfolding mark firstWith place
 mark-cases commit t [] = inl refl
 mark-cases commit t (e ∷ q) = go (e .timestamp is t) refl (mark-cases commit t q)
   where
     go : (c : Bool) → (e .timestamp is t) ≡ c → (mark commit t q ≡ q) ⊎ Marked (markOf commit) (t .0) q (mark commit t q)
-        → (set (e ∷ q) (cond c 0 (suc (place (λ e. e .timestamp is t) q))) (decided commit (getD (e ∷ q) (cond c 0 (suc (place (λ e. e .timestamp is t) q))) zeroEntry)) ≡ e ∷ q)
-        ⊎ Marked (markOf commit) (t .0) (e ∷ q) (set (e ∷ q) (cond c 0 (suc (place (λ e. e .timestamp is t) q))) (decided commit (getD (e ∷ q) (cond c 0 (suc (place (λ e. e .timestamp is t) q))) zeroEntry)))
+        → (set (e ∷ q) (cond c 0 (suc (place (λ e. e .timestamp is t) q)))
+        (decided commit (getD (e ∷ q) (cond c 0 (suc (place (λ e. e .timestamp is t) q))) zeroEntry)) ≡ e ∷ q)
+        ⊎ Marked (markOf commit) (t .0) (e ∷ q) (set (e ∷ q) (cond c 0 (suc (place (λ e. e .timestamp is t) q)))
+        (decided commit (getD (e ∷ q) (cond c 0 (suc (place (λ e. e .timestamp is t) q))) zeroEntry)))
     go true p _ = marked-here commit (t .0) e q (e .kind) (eqb-true (e .timestamp .0) (t .0) p)
     go false p (inl h) = inl (ap {B = List Entry} (λ l. e ∷ l) h)
     go false p (inr h) = inr (record {
@@ -134,9 +138,14 @@ unfolding inserted
 inserted-order w e h = holding-order (insert e (inOrder w)) (omega (arith, insert-length e (inOrder w), take-short (w .count) (w .entries)))
 
 -- a marked list
-pub marked-order : (w : Waiting) (commit : Bool) (t : Timestamp) → w .count ≤ waitingLimit → inOrder (marked commit t w) ≡ mark commit t (inOrder w)
+pub marked-order : (w : Waiting) (commit : Bool) (t : Timestamp) → w .count ≤ waitingLimit
+    → inOrder (marked commit t w) ≡ mark commit t (inOrder w)
 unfolding marked mark
-marked-order w commit t h = holding-order (mark commit t (inOrder w)) (omega (arith, length-set (inOrder w) (firstWith t (inOrder w)) (decided commit (getD (inOrder w) (firstWith t (inOrder w)) zeroEntry)), take-short (w .count) (w .entries)))
+marked-order w commit t h = holding-order (mark commit t (inOrder w)) (omega (
+  arith,
+  length-set (inOrder w) (firstWith t (inOrder w)) (decided commit (getD (inOrder w) (firstWith t (inOrder w)) zeroEntry)),
+  take-short (w .count) (w .entries),
+))
 
 -- a list without its head
 pub removed-order : (w : Waiting) → w .count ≤ waitingLimit → inOrder (headRemoved w) ≡ drop 1 (inOrder w)

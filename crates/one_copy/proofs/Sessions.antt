@@ -14,7 +14,7 @@ use Rattle.rules.specs.Settlement.{W, besideW, agreed, committed, writes, commi
 use Rattle.rules.specs.Waiting.{holding, insert, inserted, headRemoved, firstWith, mark, marked}
 use Rattle.rules.specs.Words.{those, each, joined, every, some, place, fold, from}
 use Rattle.one_copy.specs.Runs.{Write, listedAt, listed, lastBefore}
-use Rattle.one_copy.specs.Sessions.{creation, session, fault, passed, retried, Line, account, granted, refused, told, wrote}
+use Rattle.one_copy.specs.Sessions.{creation, session, fault, passed, retried, Line, account, ok, refused, told, wrote}
 
 -- the list of a run is what its events list, one after the other
 account-listed : (b : ℕ) (t : Table) (es : List Event) → listed b t es ≡ joined (each (λ (l : Line). l .listed) (account b t es))
@@ -24,8 +24,8 @@ account-listed b t (e ∷ es) = ap (λ (l : List Write). listedAt b t e (step t 
 
 -- document 01's session is answered as printed there: the read gives 77, and a run past the undecided write is refused
 session-account : account 0 (fresh creation) session
-    ≡ granted ∷ granted ∷ granted ∷ granted ∷ granted ∷ granted ∷ granted ∷ granted ∷ granted ∷ told (Outcome.WriteDone 0 0) (wrote 40 77 ∷ []) ∷ granted
-    ∷ granted ∷ granted ∷ granted ∷ refused 2 ∷ granted ∷ granted ∷ granted ∷ granted ∷ told (Outcome.ReadDone 1 0 77) [] ∷ []
+    ≡ ok ∷ ok ∷ ok ∷ ok ∷ ok ∷ ok ∷ ok ∷ ok ∷ ok ∷ told (Outcome.WriteDone 0 0) (wrote 40 77 ∷ []) ∷ ok ∷ ok ∷ ok ∷ ok
+    ∷ refused 2 ∷ ok ∷ ok ∷ ok ∷ ok ∷ told (Outcome.ReadDone 1 0 77) [] ∷ []
 unfolding account step answered rows ruleOf readRule writeRule startRule finishRule timeoutRule refreshRule stopRule deliverRule dropRule runRule failRule recoverRule takeLeaseRule giveLeaseRule overdueRule epochRule codeOf fresh isCreation wellFormed atChunk arrived decides ran queueOf appended atHost finishOutcome finished freePlaces sent howMany sentToEach replied W besideW agreed committed writes commits latest writtenWith settledRecord settled allLost holding insert inserted headRemoved firstWith mark marked those each joined every some place fold from
 session-account = refl
 
@@ -42,9 +42,8 @@ session-read = rw session-list refl
 -- the fault session: the lease is refused, the write that was answered as done is settled, and the read from the chunk that had failed
 -- gives it
 fault-account : account 0 (fresh creation) fault
-    ≡ granted ∷ granted ∷ granted ∷ granted ∷ granted ∷ granted ∷ granted ∷ granted ∷ granted ∷ granted ∷ told (Outcome.WriteDone 0 0) (wrote 40 77 ∷ [])
-    ∷ granted ∷ refused 2 ∷ granted ∷ granted ∷ told Outcome.None (wrote 40 77 ∷ []) ∷ granted ∷ granted ∷ granted ∷ granted ∷ granted ∷ granted
-    ∷ told (Outcome.ReadDone 1 0 77) [] ∷ []
+    ≡ ok ∷ ok ∷ ok ∷ ok ∷ ok ∷ ok ∷ ok ∷ ok ∷ ok ∷ ok ∷ told (Outcome.WriteDone 0 0) (wrote 40 77 ∷ []) ∷ ok ∷ refused 2 ∷ ok
+    ∷ ok ∷ told Outcome.None (wrote 40 77 ∷ []) ∷ ok ∷ ok ∷ ok ∷ ok ∷ ok ∷ ok ∷ told (Outcome.ReadDone 1 0 77) [] ∷ []
 unfolding account step answered rows ruleOf readRule writeRule startRule finishRule timeoutRule refreshRule stopRule deliverRule dropRule runRule failRule recoverRule takeLeaseRule giveLeaseRule overdueRule epochRule codeOf fresh isCreation wellFormed atChunk arrived decides ran queueOf appended atHost finishOutcome finished freePlaces sent howMany sentToEach replied W besideW agreed committed writes commits latest writtenWith settledRecord settled allLost holding insert inserted headRemoved firstWith mark marked those each joined every some place fold from
 fault-account = refl
 
@@ -60,8 +59,8 @@ fault-read = rw fault-list refl
 
 -- a write that a read has passed is not settled: both reads give 0
 passed-account : account 0 (fresh creation) passed
-    ≡ granted ∷ granted ∷ granted ∷ granted ∷ granted ∷ granted ∷ granted ∷ granted ∷ granted ∷ granted ∷ granted ∷ granted ∷ told (Outcome.ReadDone 1 0 0) []
-    ∷ granted ∷ granted ∷ granted ∷ granted ∷ granted ∷ granted ∷ granted ∷ granted ∷ granted ∷ told (Outcome.ReadDone 1 0 0) [] ∷ []
+    ≡ ok ∷ ok ∷ ok ∷ ok ∷ ok ∷ ok ∷ ok ∷ ok ∷ ok ∷ ok ∷ ok ∷ ok ∷ told (Outcome.ReadDone 1 0 0) [] ∷ ok ∷ ok ∷ ok ∷ ok ∷ ok
+    ∷ ok ∷ ok ∷ ok ∷ ok ∷ told (Outcome.ReadDone 1 0 0) [] ∷ []
 unfolding account step answered rows ruleOf readRule writeRule startRule finishRule timeoutRule refreshRule stopRule deliverRule dropRule runRule failRule recoverRule takeLeaseRule giveLeaseRule overdueRule epochRule codeOf fresh isCreation wellFormed atChunk arrived decides ran queueOf appended atHost finishOutcome finished freePlaces sent howMany sentToEach replied W besideW agreed committed writes commits latest writtenWith settledRecord settled allLost holding insert inserted headRemoved firstWith mark marked those each joined every some place fold from
 passed-account = refl
 
@@ -77,8 +76,7 @@ passed-read = rw passed-list refl
 
 -- a retried write is refused its old number and done under a new one
 retried-account : account 0 (fresh creation) retried
-    ≡ granted ∷ granted ∷ granted ∷ granted ∷ granted ∷ granted ∷ granted ∷ refused 3 ∷ granted ∷ granted ∷ granted ∷ granted ∷ granted
-    ∷ told (Outcome.WriteDone 0 0) (wrote 48 77 ∷ []) ∷ []
+    ≡ ok ∷ ok ∷ ok ∷ ok ∷ ok ∷ ok ∷ ok ∷ refused 3 ∷ ok ∷ ok ∷ ok ∷ ok ∷ ok ∷ told (Outcome.WriteDone 0 0) (wrote 48 77 ∷ []) ∷ []
 unfolding account step answered rows ruleOf readRule writeRule startRule finishRule timeoutRule refreshRule stopRule deliverRule dropRule runRule failRule recoverRule takeLeaseRule giveLeaseRule overdueRule epochRule codeOf fresh isCreation wellFormed atChunk arrived decides ran queueOf appended atHost finishOutcome finished freePlaces sent howMany sentToEach replied W besideW agreed committed writes commits latest writtenWith settledRecord settled allLost holding insert inserted headRemoved firstWith mark marked those each joined every some place fold from
 retried-account = refl
 

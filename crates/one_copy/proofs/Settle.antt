@@ -38,7 +38,15 @@ settledCell N X M c = record { wr = N; rd = M; val = X; lost = false; w = λ _ _
 
 -- the era grows, what is chosen is listed
 abbrev pub settledBook : Book → (ℕ → Type 0) → Book
-settledBook B chosen = record { era = suc (B .era); kind = B .kind; value = B .value; ae = B .ae; L = λ u. B .L u ⊎ chosen u; void = B .void }
+settledBook B chosen = record {
+  era = suc (B .era);
+  kind = B .kind;
+  value = B .value;
+  ae = B .ae;
+  L = λ u. B .L u ⊎ chosen u;
+  void =
+      B .void;
+}
 
 module _ (S : ℕ → Type 0) (B : Book) (F : Flow) (cell : ℕ → Cell) (i : Inv S B F cell) (W Y N X M : ℕ) (s : Settling S cell W Y N X M) where
   -- a listed write is below W or chosen
@@ -47,7 +55,11 @@ module _ (S : ℕ → Type 0) (B : Book) (F : Flow) (cell : ℕ → Cell) (i : I
     | inl q ↦ inl q
     | inr q ↦ inr (record {
       above = q;
-      holds = λ c m l. elim ((i .cells c m) .live l t p) [ inl z ↦ absurd (let y = s .topW c m in omega arith) | inr z ↦ (z .0, z .1, z .2) ];
+      holds = λ c m l. elim ((i .cells c m) .live l t p) [
+        | inl z ↦ absurd (let y = s .topW c m in omega arith)
+        | inr z ↦
+            (z .0, z .1, z .2)
+      ];
       clean = λ c m l v h. ((i .cells c m) .dead t v h) .1 p;
       unread = λ c m l. elim ((i .cells c m) .gone l t p) [ inl z ↦ absurd (let y = s .topW c m in omega arith) | inr z ↦ z ];
     })
@@ -78,7 +90,8 @@ module _ (S : ℕ → Type 0) (B : Book) (F : Flow) (cell : ℕ → Cell) (i : I
 
   -- what is chosen is a write attempt
   chosenW : (t : ℕ) → Chosen S cell W t → B .kind t ≡ writeK
-  chosenW t h = let z = h .holds (s .alive) (s .alive-in) (s .alive-is) in ((i .cells (s .alive) (s .alive-in)) .waits t (z .0) (z .1) (z .2)) .isW
+  chosenW t h = let z = h .holds (s .alive) (s .alive-in) (s .alive-is) in
+      ((i .cells (s .alive) (s .alive-in)) .waits t (z .0) (z .1) (z .2)) .isW
 
   -- no read has passed a chosen write
   unpassed : (t : ℕ) → Chosen S cell W t → (c : ℕ) → S c → (cell c) .rd < t
@@ -90,7 +103,8 @@ module _ (S : ℕ → Type 0) (B : Book) (F : Flow) (cell : ℕ → Cell) (i : I
   -- the new value is the last listed write's
   pub settled-wrote : Wrote (settledBook B (Chosen S cell W)) N X
   settled-wrote = elim (s .pick) [
-    | inl p ↦ rw (p .1, p .2, ← (s .atW-wr), ← (s .atW-val)) (elim ((i .cells (s .atW) (s .atW-in)) .held) [ inl h ↦ inl h | inr h ↦ inr (inl (h .0), h .1) ])
+    | inl p ↦ rw (p .1, p .2, ← (s .atW-wr), ← (s .atW-val))
+        (elim ((i .cells (s .atW) (s .atW-in)) .held) [ inl h ↦ inl h | inr h ↦ inr (inl (h .0), h .1) ])
     | inr p ↦ inr (inr (p .0), (let z = p .2 in ((i .cells (z .0) (z .2)) .waits N X (z .1) (z .3)) .vals))
   ]
 
@@ -145,7 +159,11 @@ module _ (S : ℕ → Type 0) (B : Book) (F : Flow) (cell : ℕ → Cell) (i : I
         top = p .top;
         below = p .below;
         wrote = elim (p .wrote) [ inl z ↦ inl z | inr z ↦ inr (inl (z .0), z .1) ];
-        most = λ u. elim [ inl z ↦ p .most u z | inr z ↦ λ b. absurd (let y = unpassed u z (o .guard) (o .copy) in let v = o .over in omega arith) ];
+        most = λ u. elim [
+          | inl z ↦ p .most u z
+          | inr z ↦ λ b. absurd (let y = unpassed u z (o .guard) (o .copy) in let v = o .over in
+              omega arith)
+        ];
       };
     };
   }

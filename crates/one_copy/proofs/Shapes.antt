@@ -63,13 +63,21 @@ module _ (t : Table) (s : Shape t) where
     hosts = length-set (t .hosts) j x ∙ s .hosts;
     chunks = s .chunks;
     records = s .records;
-    queues = set-all (λ i (y : Host). i < hostLimit → length (y .queue .operations) ≡ operationLimit) noHost (t .hosts) j x (λ _. h) (s .queues);
+    queues = set-all (λ i (y : Host). i < hostLimit → length (y .queue .operations) ≡ operationLimit) noHost (t .hosts) j x (λ _. h)
+        (s .queues);
     entries = s .entries;
   }
 
   -- a chunk
   pub shape-chunk : (c : ℕ) (x : Chunk) → Shape (withChunk t c x)
-  shape-chunk c x = record { hosts = s .hosts; chunks = length-set (t .chunks) c x ∙ s .chunks; records = s .records; queues = s .queues; entries = s .entries }
+  shape-chunk c x = record {
+    hosts = s .hosts;
+    chunks = length-set (t .chunks) c x ∙ s .chunks;
+    records = s .records;
+    queues =
+        s .queues;
+    entries = s .entries;
+  }
 
   -- a record
   pub shape-record : (c b : ℕ) (x : Record) → length (x .waiting .entries) ≡ waitingLimit → Shape (withRecord t c b x)
@@ -78,7 +86,11 @@ module _ (t : Table) (s : Shape t) where
     chunks = s .chunks;
     records = length-set (t .records) (c * blockLimit + b) x ∙ s .records;
     queues = s .queues;
-    entries = λ d a l m. elim (get-set (t .records) (c * blockLimit + b) (d * blockLimit + a) x noRecord) [ inl e ↦ rw (e .1) h | inr e ↦ rw e (s .entries d a l m) ];
+    entries = λ d a l m. elim (get-set (t .records) (c * blockLimit + b) (d * blockLimit + a) x noRecord) [
+      | inl e ↦
+          rw (e .1) h
+      | inr e ↦ rw e (s .entries d a l m)
+    ];
   }
 
   -- the places
@@ -86,7 +98,8 @@ module _ (t : Table) (s : Shape t) where
   shape-places n = record { hosts = s .hosts; chunks = s .chunks; records = s .records; queues = s .queues; entries = s .entries }
 
   -- all records anew
-  pub shape-records : (f : ℕ → ℕ → Record) → ((c b : ℕ) → c < chunkLimit → b < blockLimit → length (f c b .waiting .entries) ≡ waitingLimit) → Shape (withRecords t (recordsBy f))
+  pub shape-records : (f : ℕ → ℕ → Record) → ((c b : ℕ) → c < chunkLimit → b < blockLimit
+      → length (f c b .waiting .entries) ≡ waitingLimit) → Shape (withRecords t (recordsBy f))
   shape-records f h = record {
     hosts = s .hosts;
     chunks = s .chunks;
@@ -97,7 +110,14 @@ module _ (t : Table) (s : Shape t) where
 
   -- all chunks anew, and the epoch
   pub shape-epoch : (f : ℕ → Chunk) (x : Epoch) → Shape (withEpoch (withChunks t (each f (numbers chunkLimit))) x)
-  shape-epoch f x = record { hosts = s .hosts; chunks = each-length f (numbers chunkLimit) ∙ numbers-length chunkLimit; records = s .records; queues = s .queues; entries = s .entries }
+  shape-epoch f x = record {
+    hosts = s .hosts;
+    chunks = each-length f (numbers chunkLimit) ∙ numbers-length chunkLimit;
+    records =
+        s .records;
+    queues = s .queues;
+    entries = s .entries;
+  }
 
 -- ---- the fresh table
 
@@ -119,9 +139,11 @@ fresh-shape k = record {
 -- ---- what the lengths are for: a host at work has its operation at the front
 
 -- an operation more does not change the front one
-pub front-kept : (x : Host) (o : Operation) → 0 < length (operationsOf x) → x .queue .count < operationLimit → front (appended x o) ≡ front x
+pub front-kept : (x : Host) (o : Operation) → 0 < length (operationsOf x) → x .queue .count < operationLimit
+    → front (appended x o) ≡ front x
 unfolding appended queueOf
-front-kept x o h k = ap (λ (l : List Operation). getD l 0 zeroOperation) (filled-take zeroOperation operationLimit (operationsOf x ++ o ∷ []) room) ∙ go (operationsOf x) h
+front-kept x o h k = ap (λ (l : List Operation). getD l 0 zeroOperation)
+    (filled-take zeroOperation operationLimit (operationsOf x ++ o ∷ []) room) ∙ go (operationsOf x) h
   where
     room : length (operationsOf x ++ o ∷ []) ≤ operationLimit
     room = omega (arith, length-append (operationsOf x) (o ∷ []), take-short (x .queue .count) (x .queue .operations))
@@ -131,9 +153,11 @@ front-kept x o h k = ap (λ (l : List Operation). getD l 0 zeroOperation) (fille
     go (p ∷ l) h = refl
 
 -- a host at work has an operation
-pub at-front : (t : Table) → Formed t → Shape t → (j : ℕ) → isHost (t .creation) j ≡ true → 0 < hostOf t j .attempt .timestamp .0 → 0 < length (operationsOf (hostOf t j))
+pub at-front : (t : Table) → Formed t → Shape t → (j : ℕ) → isHost (t .creation) j ≡ true → 0 < hostOf t j .attempt .timestamp .0
+    → 0 < length (operationsOf (hostOf t j))
 at-front t f s j lj p =
     let k = t .creation in
     let x = hostOf t j in
-    let a = attempt-facts k (x .queue .count) (x .attempt) (host-facts k x (host-of t f j lj) .attempt) (lt-ltb 0 (x .attempt .timestamp .0) p) in
+    let a = attempt-facts k (x .queue .count) (x .attempt) (host-facts k x (host-of t f j lj) .attempt)
+    (lt-ltb 0 (x .attempt .timestamp .0) p) in
     omega (arith, a .one, s .queues j (host-place k j lj (f .creation)), length-take (x .queue .count) (x .queue .operations))

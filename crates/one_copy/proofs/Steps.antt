@@ -37,15 +37,21 @@ use Rattle.one_copy.proofs.EvNet.{ev-deliver, ev-drop}
 -- what holds of each rule at its kind holds of an event's rule
 module _ (P : Rule → Type 0) (t : Table) (e : Event) where
   -- the sixteen kinds, and any other
-  by-number : (e .kind ≡ 1 → P (readRule t (e .a) (e .b) (e .c))) → (e .kind ≡ 2 → P (writeRule t (e .a) (e .b) (e .c))) → (e .kind ≡ 3 → P (startRule t (e .a) (e .b) (e .c)))
-      → (e .kind ≡ 4 → P (deliverRule t (e .a) (e .b) (e .c))) → (e .kind ≡ 5 → P (dropRule t (e .a) (e .b) (e .c))) → (e .kind ≡ 6 → P (finishRule t (e .a) (e .b) (e .c)))
-      → (e .kind ≡ 7 → P (timeoutRule t (e .a) (e .b) (e .c))) → (e .kind ≡ 8 → P (refreshRule t (e .a) (e .b) (e .c))) → (e .kind ≡ 9 → P (runRule t (e .a) (e .b) (e .c)))
-      → (e .kind ≡ 10 → P (stopRule t (e .a) (e .b) (e .c))) → (e .kind ≡ 11 → P (failRule t (e .a) (e .b) (e .c))) → (e .kind ≡ 12 → P (recoverRule t (e .a) (e .b) (e .c)))
-      → (e .kind ≡ 13 → P (takeLeaseRule t (e .a) (e .b) (e .c))) → (e .kind ≡ 14 → P (giveLeaseRule t (e .a) (e .b) (e .c))) → (e .kind ≡ 15 → P (epochRule t (e .a) (e .b) (e .c)))
+  by-number : (e .kind ≡ 1 → P (readRule t (e .a) (e .b) (e .c))) → (e .kind ≡ 2 → P (writeRule t (e .a) (e .b) (e .c)))
+      → (e .kind ≡ 3 → P (startRule t (e .a) (e .b) (e .c)))
+      → (e .kind ≡ 4 → P (deliverRule t (e .a) (e .b) (e .c))) → (e .kind ≡ 5 → P (dropRule t (e .a) (e .b) (e .c)))
+      → (e .kind ≡ 6 → P (finishRule t (e .a) (e .b) (e .c)))
+      → (e .kind ≡ 7 → P (timeoutRule t (e .a) (e .b) (e .c))) → (e .kind ≡ 8 → P (refreshRule t (e .a) (e .b) (e .c)))
+      → (e .kind ≡ 9 → P (runRule t (e .a) (e .b) (e .c)))
+      → (e .kind ≡ 10 → P (stopRule t (e .a) (e .b) (e .c))) → (e .kind ≡ 11 → P (failRule t (e .a) (e .b) (e .c)))
+      → (e .kind ≡ 12 → P (recoverRule t (e .a) (e .b) (e .c)))
+      → (e .kind ≡ 13 → P (takeLeaseRule t (e .a) (e .b) (e .c))) → (e .kind ≡ 14 → P (giveLeaseRule t (e .a) (e .b) (e .c)))
+      → (e .kind ≡ 15 → P (epochRule t (e .a) (e .b) (e .c)))
       → (e .kind ≡ 16 → P (overdueRule t (e .a) (e .b) (e .c))) → P (unknownRule t) → P (ruleOf t e)
   unfolding ruleOf
   by-number p1 p2 p3 p4 p5 p6 p7 p8 p9 p10 p11 p12 p13 p14 p15 p16 p =
-      kind 1 p1 (kind 2 p2 (kind 3 p3 (kind 4 p4 (kind 5 p5 (kind 6 p6 (kind 7 p7 (kind 8 p8 (kind 9 p9 (kind 10 p10 (kind 11 p11 (kind 12 p12
+      kind 1 p1 (kind 2 p2 (kind 3 p3
+      (kind 4 p4 (kind 5 p5 (kind 6 p6 (kind 7 p7 (kind 8 p8 (kind 9 p9 (kind 10 p10 (kind 11 p11 (kind 12 p12
       (kind 13 p13 (kind 14 p14 (kind 15 p15 (kind 16 p16 p)))))))))))))))
     where
       kind : (n : ℕ) {r s : Rule} → (e .kind ≡ n → P r) → P s → P (cond (eqb (e .kind) n) r s)
@@ -94,7 +100,8 @@ module _ (b : ℕ) (h : Hist) (blk : ℕ → ℕ) (t : Table) (lb : isBlock (t .
   -- ---- an answer
 
   -- a granted event that lists ws
-  relist : (ws : List Write) (o : Outcome) (t′ : Table) → listedAt b t e (record { table = t′; code = 0; outcome = o }) ≡ ws → Next b h t ws o t′ → Less t′ t → t′ .creation ≡ t .creation → Stepped b h t e (record { table = t′; code = 0; outcome = o })
+  relist : (ws : List Write) (o : Outcome) (t′ : Table) → listedAt b t e (record { table = t′; code = 0; outcome = o }) ≡ ws
+      → Next b h t ws o t′ → Less t′ t → t′ .creation ≡ t .creation → Stepped b h t e (record { table = t′; code = 0; outcome = o })
   relist ws o t′ l n le cr = record {
     next = subst⁻¹ (λ (ws : List Write). Next b h t ws o t′) l n;
     blk = blk;
@@ -104,7 +111,8 @@ module _ (b : ℕ) (h : Hist) (blk : ℕ → ℕ) (t : Table) (lb : isBlock (t .
   }
 
   -- an event of kind n, no epoch change, without an outcome
-  plain : (n : ℕ) (t′ : Table) → e .kind ≡ n → eqb n 15 ≡ false → Next b h t [] Outcome.None t′ → Less t′ t → t′ .creation ≡ t .creation → Stepped b h t e (done (quietly t′))
+  plain : (n : ℕ) (t′ : Table) → e .kind ≡ n → eqb n 15 ≡ false → Next b h t [] Outcome.None t′ → Less t′ t → t′ .creation ≡ t .creation
+      → Stepped b h t e (done (quietly t′))
   plain n t′ k o = relist [] Outcome.None t′ (listed-by-host (done (quietly t′)) (other-no n (done (quietly t′)) k o))
 
   -- a refused event
@@ -151,7 +159,8 @@ module _ (b : ℕ) (h : Hist) (blk : ℕ → ℕ) (t : Table) (lb : isBlock (t .
   reads j d c k f r x =
       let lj = three (isHost (t .creation) j) (isBlock (t .creation) d) (unused c) r .0 in
       let o : Operation = record { block = d; action = Action.Read } in
-      plain 1 _ k refl (ev-intake b h t f (i .shape) lb (i .good) j lj o (intake-place (hostOf t j) x)) (intake-less t f j lj (i .shape) o (intake-place (hostOf t j) x)) refl
+      plain 1 _ k refl (ev-intake b h t f (i .shape) lb (i .good) j lj o (intake-place (hostOf t j) x))
+      (intake-less t f j lj (i .shape) o (intake-place (hostOf t j) x)) refl
 
   -- 2 write
   writes : (j d v : ℕ) → e .kind ≡ 2 → Grants (writeRule t j d v)
@@ -159,7 +168,8 @@ module _ (b : ℕ) (h : Hist) (blk : ℕ → ℕ) (t : Table) (lb : isBlock (t .
   writes j d v k f r x =
       let lj = three (isHost (t .creation) j) (isBlock (t .creation) d) true r .0 in
       let o : Operation = record { block = d; action = Action.Write v } in
-      plain 2 _ k refl (ev-intake b h t f (i .shape) lb (i .good) j lj o (intake-place (hostOf t j) x)) (intake-less t f j lj (i .shape) o (intake-place (hostOf t j) x)) refl
+      plain 2 _ k refl (ev-intake b h t f (i .shape) lb (i .good) j lj o (intake-place (hostOf t j) x))
+      (intake-less t f j lj (i .shape) o (intake-place (hostOf t j) x)) refl
 
   -- 3 start
   starts : (j clock copy : ℕ) → e .kind ≡ 3 → Grants (startRule t j clock copy)
@@ -169,7 +179,8 @@ module _ (b : ℕ) (h : Hist) (blk : ℕ → ℕ) (t : Table) (lb : isBlock (t .
       let rule = startRule t j clock copy in
       let to = openingTo (front (hostOf t j) .action) copy (holdersOf t (hostOf t j)) in
       record {
-        next = subst⁻¹ (λ (ws : List Write). Next b h t ws Outcome.None (rule .effect .table)) (listed-by-host (done (rule .effect)) (other-no 3 (done (rule .effect)) k refl))
+        next = subst⁻¹ (λ (ws : List Write). Next b h t ws Outcome.None (rule .effect .table))
+            (listed-by-host (done (rule .effect)) (other-no 3 (done (rule .effect)) k refl))
             (ev-start b h t f (i .shape) lb (i .good) j (q .0) clock copy (q .2) (freePlaces (t .places)) (howMany to) x);
         blk = at (stamp clock j .0) (front (hostOf t j) .block) blk;
         homes = start-home t f j (q .0) blk (i .shape) (i .homes) clock copy (freePlaces (t .places)) (howMany to) x;
@@ -184,7 +195,8 @@ module _ (b : ℕ) (h : Hist) (blk : ℕ → ℕ) (t : Table) (lb : isBlock (t .
       let l = place-alone p c d r in
       let m = place-message (slotOf (t .places) p) x in
       subst⁻¹ (λ (s : Slot). Stepped b h t e (done (quietly (takes (withPlaces t (removed (t .places) p)) s)))) (m .1)
-      (plain 4 _ k refl (ev-deliver b h t f (i .shape) lb (i .good) p l blk (i .homes) (m .0) (m .1)) (deliver-less t f p l (m .0) (m .1)) (takes-creation (withPlaces t (removed (t .places) p)) (m .0)))
+      (plain 4 _ k refl (ev-deliver b h t f (i .shape) lb (i .good) p l blk (i .homes) (m .0) (m .1))
+      (deliver-less t f p l (m .0) (m .1)) (takes-creation (withPlaces t (removed (t .places) p)) (m .0)))
 
   -- 5 drop
   drops : (p c d : ℕ) → e .kind ≡ 5 → Grants (dropRule t p c d)
@@ -200,18 +212,22 @@ module _ (b : ℕ) (h : Hist) (blk : ℕ → ℕ) (t : Table) (lb : isBlock (t .
       let lj = host-alone j c d r in
       let rule = finishRule t j c d in
       let n = howMany (closingTo (front (hostOf t j) .action) (holdersOf t (hostOf t j))) in
-      relist (byHost b t (rule .effect .outcome)) (rule .effect .outcome) (rule .effect .table) (listed-by-host (done (rule .effect)) (other-no 6 (done (rule .effect)) k refl))
-      (ev-finish b h t f (i .shape) lb (i .good) j lj (freePlaces (t .places)) n x) (finish-less t f j lj (i .shape) (freePlaces (t .places)) n x) refl
+      relist (byHost b t (rule .effect .outcome)) (rule .effect .outcome) (rule .effect .table)
+      (listed-by-host (done (rule .effect)) (other-no 6 (done (rule .effect)) k refl))
+      (ev-finish b h t f (i .shape) lb (i .good) j lj (freePlaces (t .places)) n x)
+      (finish-less t f j lj (i .shape) (freePlaces (t .places)) n x) refl
 
   -- 7 timeout
   times-out : (j c d : ℕ) → e .kind ≡ 7 → Grants (timeoutRule t j c d)
   unfolding timeoutRule
-  times-out j c d k f r x = let lj = host-alone j c d r in plain 7 _ k refl (ev-timeout b h t f (i .shape) lb (i .good) j lj) (timeout-less t f j lj) refl
+  times-out j c d k f r x = let lj = host-alone j c d r in plain 7 _ k refl (ev-timeout b h t f (i .shape) lb (i .good) j lj)
+      (timeout-less t f j lj) refl
 
   -- 8 refresh
   refreshes : (j c d : ℕ) → e .kind ≡ 8 → Grants (refreshRule t j c d)
   unfolding refreshRule
-  refreshes j c d k f r x = let lj = host-alone j c d r in plain 8 _ k refl (ev-refresh b h t f (i .shape) lb (i .good) j lj) (refresh-less t f j lj) refl
+  refreshes j c d k f r x = let lj = host-alone j c d r in plain 8 _ k refl (ev-refresh b h t f (i .shape) lb (i .good) j lj)
+      (refresh-less t f j lj) refl
 
   -- 9 run
   runs : (c d x : ℕ) → e .kind ≡ 9 → Grants (runRule t c d x)
@@ -222,12 +238,21 @@ module _ (b : ℕ) (h : Hist) (blk : ℕ → ℕ) (t : Table) (lb : isBlock (t .
       let ld = block-place (t .creation) d (q .1) (f .creation) in
       let w = recordOf t c d .waiting in
       plain 9 _ k refl (ev-run b h t f (i .shape) lb (i .good) c (q .0) d (q .1) (freePlaces (t .places)) y)
-      (run-less t f c d lc ld (omega (arith, run-head (chunkOf t c .state) w (freePlaces (t .places)) y, waiting-of t f c d lc ld .count, i .shape .entries c d lc ld, length-take (w .count) (w .entries)))) refl
+      (run-less t f c d lc ld (omega (
+        arith,
+        run-head (chunkOf t c .state) w
+            (freePlaces (t .places)) y,
+        waiting-of t f c d lc ld .count,
+        i .shape .entries c d lc ld,
+        length-take (w .count)
+            (w .entries),
+      ))) refl
 
   -- 10 stop
   stops : (j c d : ℕ) → e .kind ≡ 10 → Grants (stopRule t j c d)
   unfolding stopRule
-  stops j c d k f r x = let lj = host-alone j c d r in plain 10 _ k refl (ev-stop b h t f (i .shape) lb (i .good) j lj) (stop-less t f j lj) refl
+  stops j c d k f r x = let lj = host-alone j c d r in plain 10 _ k refl (ev-stop b h t f (i .shape) lb (i .good) j lj)
+      (stop-less t f j lj) refl
 
   -- 11 fail
   fails : (c a d : ℕ) → e .kind ≡ 11 → Grants (failRule t c a d)
@@ -252,7 +277,8 @@ module _ (b : ℕ) (h : Hist) (blk : ℕ → ℕ) (t : Table) (lb : isBlock (t .
   -- 15 epoch change
   changes : (x y z : ℕ) → e .kind ≡ 15 → Grants (epochRule t x y z)
   unfolding epochRule
-  changes x y z k f r q = relist (committedBy b h t f lb (i .good) q) Outcome.None (epochChanged t) (rw k refl) (ev-epoch b h t f lb (i .good) q) (epoch-less t) refl
+  changes x y z k f r q = relist (committedBy b h t f lb (i .good) q) Outcome.None (epochChanged t) (rw k refl)
+      (ev-epoch b h t f lb (i .good) q) (epoch-less t) refl
 
   -- 16 overdue
   overdues : (c d now : ℕ) → e .kind ≡ 16 → Grants (overdueRule t c d now)
@@ -264,8 +290,10 @@ module _ (b : ℕ) (h : Hist) (blk : ℕ → ℕ) (t : Table) (lb : isBlock (t .
   -- every event
   pub step-kept : Stepped b h t e (step t e)
   unfolding step
-  step-kept = answers (ruleOf t e) (by-number Grants t e (reads _ _ _) (writes _ _ _) (starts _ _ _) (delivers _ _ _) (drops _ _ _) (finishes _ _ _) (times-out _ _ _) (refreshes _ _ _) (runs _ _ _)
-      (stops _ _ _) (fails _ _ _) (recovers _ _ _) (leases-taken _ _ _) (leases-given _ _ _) (changes _ _ _) (overdues _ _ _) (λ f r x. absurd (false≢true r)))
+  step-kept = answers (ruleOf t e) (by-number Grants t e (reads _ _ _) (writes _ _ _) (starts _ _ _) (delivers _ _ _) (drops _ _ _)
+      (finishes _ _ _) (times-out _ _ _) (refreshes _ _ _) (runs _ _ _)
+      (stops _ _ _) (fails _ _ _) (recovers _ _ _) (leases-taken _ _ _) (leases-given _ _ _) (changes _ _ _) (overdues _ _ _)
+      (λ f r x. absurd (false≢true r)))
 
 -- ---- a granted epoch change, read back from its answer
 

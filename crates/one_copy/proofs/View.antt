@@ -106,7 +106,15 @@ isR t e = (e .timestamp .0 ≡ t) × asRead (e .kind)
 
 -- the part as a cell
 abbrev pub cellOf : Part → Cell
-cellOf p = record { wr = p .wr; rd = p .rd; val = p .val; lost = p .lost; w = λ t v m. Any (isW t v m) (p .queue); r = λ t. Any (isR t) (p .queue) }
+cellOf p = record {
+  wr = p .wr;
+  rd = p .rd;
+  val = p .val;
+  lost = p .lost;
+  w = λ t v m. Any (isW t v m) (p .queue);
+  r =
+      λ t. Any (isR t) (p .queue);
+}
 
 -- the era is the epoch, and nothing is void
 abbrev pub book : Hist → ℕ → Book
@@ -162,10 +170,18 @@ pub record Foreign (b : ℕ) (m : Message) : Type 0 where
 
 -- fewer messages
 pub net-less : (b : ℕ) (n′ n : List Place) → ((P : Message → Type 0) → Sent n′ P → Sent n P) → NetLe b n′ n
-net-less b n′ n sub = record { ack = λ t c. sub (ofAck b t c); pre = λ c t e v. sub (ofPre b c t e v); rdm = λ c t. sub (ofRead b c t); comm = λ t. sub (ofCommit b t); abtm = λ t. sub (ofAbort b t); value = λ t x. sub (ofValue b t x) }
+net-less b n′ n sub = record {
+  ack = λ t c. sub (ofAck b t c);
+  pre = λ c t e v. sub (ofPre b c t e v);
+  rdm = λ c t. sub (ofRead b c t);
+  comm = λ t. sub (ofCommit b t);
+  abtm = λ t. sub (ofAbort b t);
+  value = λ t x. sub (ofValue b t x);
+}
 
 -- more messages that say nothing of block b
-pub net-foreign : (b : ℕ) (n′ n : List Place) (D : Type 0) (f : D → Message) → ((P : Message → Type 0) → Sent n′ P → Sent n P ⊎ ((d : D) × P (f d))) → ((d : D) → Foreign b (f d)) → NetLe b n′ n
+pub net-foreign : (b : ℕ) (n′ n : List Place) (D : Type 0) (f : D → Message)
+    → ((P : Message → Type 0) → Sent n′ P → Sent n P ⊎ ((d : D) × P (f d))) → ((d : D) → Foreign b (f d)) → NetLe b n′ n
 net-foreign b n′ n D f adds none = record {
   ack = λ t c h. elim (adds (ofAck b t c) h) [ inl q ↦ q | inr q ↦ absurd ((none (q .0)) .ack t c (q .1)) ];
   pre = λ c t e v h. elim (adds (ofPre b c t e v) h) [ inl q ↦ q | inr q ↦ absurd ((none (q .0)) .pre c t e v (q .1)) ];
@@ -177,20 +193,106 @@ net-foreign b n′ n D f adds none = record {
 
 -- a message of another block says nothing of block b
 pub far-message : (b : ℕ) (m : Message) → (headerOf m .block ≡ b → ⊥) → Foreign b m
-far-message b (Message.Read hd e) far = record { ack = λ t c z. z; pre = λ c t e v z. z; rdm = λ c t z. far (z .0); comm = λ t z. z; abtm = λ t z. z; value = λ t x z. z }
-far-message b (Message.Prewrite hd e v) far = record { ack = λ t c z. z; pre = λ c t e v z. far (z .0); rdm = λ c t z. z; comm = λ t z. z; abtm = λ t z. z; value = λ t x z. z }
-far-message b (Message.Commit hd e) far = record { ack = λ t c z. z; pre = λ c t e v z. z; rdm = λ c t z. z; comm = λ t z. far (z .0); abtm = λ t z. z; value = λ t x z. z }
-far-message b (Message.Abort hd e) far = record { ack = λ t c z. z; pre = λ c t e v z. z; rdm = λ c t z. z; comm = λ t z. z; abtm = λ t z. far (z .0); value = λ t x z. z }
-far-message b (Message.Mismatch hd) far = record { ack = λ t c z. z; pre = λ c t e v z. z; rdm = λ c t z. z; comm = λ t z. z; abtm = λ t z. z; value = λ t x z. z }
-far-message b (Message.Error hd) far = record { ack = λ t c z. z; pre = λ c t e v z. z; rdm = λ c t z. z; comm = λ t z. z; abtm = λ t z. z; value = λ t x z. z }
-far-message b (Message.OutOfOrder hd) far = record { ack = λ t c z. z; pre = λ c t e v z. z; rdm = λ c t z. z; comm = λ t z. z; abtm = λ t z. z; value = λ t x z. z }
-far-message b (Message.Busy hd) far = record { ack = λ t c z. z; pre = λ c t e v z. z; rdm = λ c t z. z; comm = λ t z. z; abtm = λ t z. z; value = λ t x z. z }
-far-message b (Message.ReadReply hd v) far = record { ack = λ t c z. z; pre = λ c t e v z. z; rdm = λ c t z. z; comm = λ t z. z; abtm = λ t z. z; value = λ t x z. far (z .0) }
-far-message b (Message.PrewriteReply hd) far = record { ack = λ t c z. far (z .0); pre = λ c t e v z. z; rdm = λ c t z. z; comm = λ t z. z; abtm = λ t z. z; value = λ t x z. z }
+far-message b (Message.Read hd e) far = record {
+  ack = λ t c z. z;
+  pre = λ c t e v z. z;
+  rdm = λ c t z. far (z .0);
+  comm = λ t z. z;
+  abtm = λ t z. z;
+  value = λ t x z. z;
+}
+far-message b (Message.Prewrite hd e v) far = record {
+  ack = λ t c z. z;
+  pre = λ c t e v z. far (z .0);
+  rdm = λ c t z. z;
+  comm =
+      λ t z. z;
+  abtm = λ t z. z;
+  value = λ t x z. z;
+}
+far-message b (Message.Commit hd e) far = record {
+  ack = λ t c z. z;
+  pre = λ c t e v z. z;
+  rdm = λ c t z. z;
+  comm = λ t z. far (z .0);
+  abtm = λ t z. z;
+  value = λ t x z. z;
+}
+far-message b (Message.Abort hd e) far = record {
+  ack = λ t c z. z;
+  pre = λ c t e v z. z;
+  rdm = λ c t z. z;
+  comm = λ t z. z;
+  abtm =
+      λ t z. far (z .0);
+  value = λ t x z. z;
+}
+far-message b (Message.Mismatch hd) far = record {
+  ack = λ t c z. z;
+  pre = λ c t e v z. z;
+  rdm = λ c t z. z;
+  comm = λ t z. z;
+  abtm =
+      λ t z. z;
+  value = λ t x z. z;
+}
+far-message b (Message.Error hd) far = record {
+  ack = λ t c z. z;
+  pre = λ c t e v z. z;
+  rdm = λ c t z. z;
+  comm = λ t z. z;
+  abtm =
+      λ t z. z;
+  value = λ t x z. z;
+}
+far-message b (Message.OutOfOrder hd) far = record {
+  ack = λ t c z. z;
+  pre = λ c t e v z. z;
+  rdm = λ c t z. z;
+  comm = λ t z. z;
+  abtm =
+      λ t z. z;
+  value = λ t x z. z;
+}
+far-message b (Message.Busy hd) far = record {
+  ack = λ t c z. z;
+  pre = λ c t e v z. z;
+  rdm = λ c t z. z;
+  comm = λ t z. z;
+  abtm =
+      λ t z. z;
+  value = λ t x z. z;
+}
+far-message b (Message.ReadReply hd v) far = record {
+  ack = λ t c z. z;
+  pre = λ c t e v z. z;
+  rdm = λ c t z. z;
+  comm = λ t z. z;
+  abtm =
+      λ t z. z;
+  value = λ t x z. far (z .0);
+}
+far-message b (Message.PrewriteReply hd) far = record {
+  ack = λ t c z. far (z .0);
+  pre = λ c t e v z. z;
+  rdm = λ c t z. z;
+  comm =
+      λ t z. z;
+  abtm = λ t z. z;
+  value = λ t x z. z;
+}
 
 -- a reply that is neither a value nor a prewrite reply says nothing of any block
 pub plain-mismatch : (b : ℕ) (hd : Header) → Foreign b (Message.Mismatch hd)
-plain-mismatch b hd = record { ack = λ t c z. z; pre = λ c t e v z. z; rdm = λ c t z. z; comm = λ t z. z; abtm = λ t z. z; value = λ t x z. z }
+plain-mismatch b hd = record {
+  ack = λ t c z. z;
+  pre = λ c t e v z. z;
+  rdm = λ c t z. z;
+  comm = λ t z. z;
+  abtm = λ t z. z;
+  value =
+      λ t x z. z;
+}
 
 -- an error
 pub plain-error : (b : ℕ) (hd : Header) → Foreign b (Message.Error hd)
@@ -246,7 +348,11 @@ module _ (S : ℕ → Type 0) (b : ℕ) where
         ack = λ t c. elim [
           | inl s ↦ inl (sub .ack t c s)
           | inr z ↦ elim (at-split (λ x. HasW b x t × (x .okay ≡ true) × (c among x .out ≡ false)) j y hs (z .0) (z .1, z .2, z .3)) [
-            | inl p ↦ elim (q .out t (p .1 .0) (p .1 .1) c (p .1 .2)) [ inl e ↦ inr (j, q .w t (p .1 .0), q .okay t (p .1 .0) (p .1 .1), e, z .4) | inr e ↦ inl e ]
+            | inl p ↦ elim (q .out t (p .1 .0) (p .1 .1) c (p .1 .2)) [
+              | inl e ↦
+                  inr (j, q .w t (p .1 .0), q .okay t (p .1 .0) (p .1 .1), e, z .4)
+              | inr e ↦ inl e
+            ]
             | inr p ↦ inr (z .0, p .1 .0, p .1 .1, p .1 .2, z .4)
           ]
         ];
@@ -257,7 +363,11 @@ module _ (S : ℕ → Type 0) (b : ℕ) where
         seen = λ t x. elim [
           | inl s ↦ inl (sub .value t x s)
           | inr z ↦ elim z [
-            | inl k ↦ elim (at-split (λ y. HasR b y t x) j y hs (k .0) (k .1)) [ inl p ↦ elim (q .r t x (p .1)) [ inl e ↦ inr (inl (j, e)) | inr e ↦ inl e ] | inr p ↦ inr (inl (k .0, p .1)) ]
+            | inl k ↦ elim (at-split (λ y. HasR b y t x) j y hs (k .0) (k .1)) [
+              | inl p ↦
+                  elim (q .r t x (p .1)) [ inl e ↦ inr (inl (j, e)) | inr e ↦ inl e ]
+              | inr p ↦ inr (inl (k .0, p .1))
+            ]
             | inr k ↦ inr (inr k)
           ]
         ];
@@ -270,11 +380,17 @@ module _ (S : ℕ → Type 0) (b : ℕ) where
           clock = d .clock;
           isT = d .isT;
           small = d .small;
-          past = at-all (λ k x. d .clock ≤ (hs k) .clock → d .clock ≤ x .clock) j y hs (λ e. (let z = q .clock in omega arith)) (λ k _ e. e) (d .by) (d .past);
+          past = at-all (λ k x. d .clock ≤ (hs k) .clock → d .clock ≤ x .clock) j y hs (λ e. (let z = q .clock in omega arith))
+              (λ k _ e. e) (d .by) (d .past);
         })
       ];
-      stamps = at-all Stamped j y hs (elim (q .ts) [ inl e ↦ inl e | inr e ↦ elim (i .stamps j) [ inl z ↦ inl (e ∙ z) | inr z ↦ inr (rw (e, q .clock) (z .0), z .1) ] ]) (λ k _. i .stamps k);
-      mine = at-all (λ k x. (t : ℕ) → HasW b x t → h .value t ≡ x .value) j y hs (λ t z. i .mine j t (q .w t z) ∙ sym (q .value t z)) (λ k _. i .mine k);
+      stamps = at-all Stamped j y hs (elim (q .ts) [
+        | inl e ↦ inl e
+        | inr e ↦
+            elim (i .stamps j) [ inl z ↦ inl (e ∙ z) | inr z ↦ inr (rw (e, q .clock) (z .0), z .1) ]
+      ]) (λ k _. i .stamps k);
+      mine = at-all (λ k x. (t : ℕ) → HasW b x t → h .value t ≡ x .value) j y hs (λ t z. i .mine j t (q .w t z) ∙ sym (q .value t z))
+          (λ k _. i .mine k);
       sane = i .sane;
       known = at-all (λ k x. x .known ≤ ep) j y hs (q .known) (λ k _. i .known k);
     }
@@ -283,4 +399,8 @@ module _ (S : ℕ → Type 0) (b : ℕ) where
         wat t z = elim (at-split (λ x. HasW b x t) j y hs (z .0) (z .1)) [ inl p ↦ (j, q .w t (p .1)) | inr p ↦ (z .0, p .1) ]
 
         at3 : (t : ℕ) → (k : ℕ) × HasW b (at j y hs k) t × ((at j y hs k) .okay ≡ true) → (k : ℕ) × HasW b (hs k) t × ((hs k) .okay ≡ true)
-        at3 t z = elim (at-split (λ x. HasW b x t × (x .okay ≡ true)) j y hs (z .0) (z .1, z .2)) [ inl p ↦ (j, q .w t (p .1 .0), q .okay t (p .1 .0) (p .1 .1)) | inr p ↦ (z .0, p .1 .0, p .1 .1) ]
+        at3 t z = elim (at-split (λ x. HasW b x t × (x .okay ≡ true)) j y hs (z .0) (z .1, z .2)) [
+          | inl p ↦
+              (j, q .w t (p .1 .0), q .okay t (p .1 .0) (p .1 .1))
+          | inr p ↦ (z .0, p .1 .0, p .1 .1)
+        ]
