@@ -1,4 +1,4 @@
--- Moves of one cell: the globals stay.
+-- Moves of one cell: the globals stay
 use mathlib.Core.Path.{_≡_, refl, sym, subst, _∙_, ap}
 use mathlib.Core.Logic.{_⊎_, inl, inr}
 use mathlib.Core.Bool.{true, false, true≢false}

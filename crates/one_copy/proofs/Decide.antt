@@ -1,4 +1,4 @@
--- Moves of the history: a start, a host's commit, a host's abort.
+-- Moves of the history: a start, a host's commit, a host's abort
 use mathlib.Core.Path.{_≡_, sym, _∙_, ap}
 use mathlib.Core.Logic.{_⊎_, inl, inr}
 use Prim.Native.Nat.{ℕ, _≤_}
@@ -78,7 +78,8 @@ module _ (S : ℕ → Type 0) (B : Book) (F : Flow) (cell : ℕ → Cell) (i : I
     | inr q ↦ inl (g .old t a q all)
   ]
 
-  -- a write that a salvage has left out is not listed by its host's commit: that would be a move of its own
+  -- a host commits a write that all copies have answered. (One that a salvage has left out is not listed by it: that would be a move
+  -- of its own)
   pub commit : (t : ℕ) → (B .void t → ⊥) → F .act t → ((c : ℕ) → S c → F .ack t c) → Inv S (listed B t) (committed F t) cell
   commit t nv a all = record {
     home = i .home;

@@ -1,4 +1,4 @@
--- Moves that change what hosts and the network hold.
+-- Moves that change what hosts and the network hold
 use mathlib.Core.Path.{_≡_, refl, sym, _∙_, ap}
 use mathlib.Core.Logic.{_⊎_, inl, inr}
 use mathlib.Core.Bool.{false}

@@ -1,4 +1,4 @@
--- The same facts under another reading of cells and of the list.
+-- The same facts under another reading of cells and of the list
 use mathlib.Core.Path.{_≡_, refl}
 use mathlib.Core.Logic.{_⊎_, inl, inr}
 use mathlib.Core.Bool.{Bool}

@@ -1,4 +1,4 @@
--- The epoch change of one block.
+-- The epoch change of one block
 use mathlib.Core.Path.{_≡_, sym, _∙_, ap}
 use mathlib.Core.Logic.{_⊎_, inl, inr}
 use mathlib.Core.Bool.{true, false, true≢false}
