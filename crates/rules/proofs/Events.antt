@@ -2,13 +2,15 @@
 use Prim.Native.Nat.{ℕ, _≤_}
 use mathlib.Core.Path.{_≡_, refl, sym, ap, _∙_}
 use mathlib.Core.Logic.{_↔_}
-use mathlib.Core.Bool.{Bool, true, false, cond}
+use mathlib.Core.Bool.{Bool, true, false, cond, not}
+use native.Mathlib.Omega.{arith}
 use lib.Dec.{eqb}
 use borrow.Author.Tests.{ne-eqb, eqb-true}
 use Rattle.rules.specs.Types.{Creation, Table, Event}
 use Rattle.rules.specs.Codes.{codeOf}
 use Rattle.rules.specs.Creation.{isCreation, fresh, created}
 use Rattle.rules.specs.Events.{Rule, readRule, writeRule, startRule, deliverRule, dropRule, finishRule, timeoutRule, refreshRule, runRule, stopRule, failRule, recoverRule, takeLeaseRule, giveLeaseRule, epochRule, overdueRule, unknownRule, ruleOf, rows, done, refused, answered, step}
+use Rattle.rules.specs.Formed.{wellFormed}
 use Rattle.rules.specs.Words.{every}
 use Rattle.rules.specs.Zero.{zeroTable}
 use Rattle.rules.proofs.Lists.{walk}
@@ -30,6 +32,18 @@ module _ (P : Rule → Type 0) (t : Table) (e : Event) where
     where
       at : (n : ℕ) {r s : Rule} → P r → P s → P (cond (eqb (e .kind) n) r s)
       at n {r} {s} p q = walk P (eqb (e .kind) n) r s (λ _. p) (λ _. q)
+
+-- ---- what a granted event's rows say: a well-formed table, operands in range, and none of its own refusals
+
+module _ (t : Table) (r : Rule) where
+  pub rows-granted : codeOf (rows t r) ≡ 0 → (wellFormed t ≡ true) × (r .ranges ≡ true) × (codeOf (r .refusals) ≡ 0)
+  unfolding rows codeOf
+  rows-granted = go (wellFormed t) (r .ranges)
+    where
+      go : (b c : Bool) → cond (not b) 8 (cond (not c) 1 (codeOf (r .refusals))) ≡ 0 → (b ≡ true) × (c ≡ true) × (codeOf (r .refusals) ≡ 0)
+      go true true h = (refl, refl, h)
+      go true false h = absurd (omega arith)
+      go false c h = absurd (omega arith)
 
 -- ---- an answer's code
 

@@ -5,7 +5,7 @@ use mathlib.Core.Bool.{Bool, true, false, cond, not, _&&_}
 use mathlib.Core.List.{List, [], _∷_}
 use lib.ListN.{getD-replicate}
 use lib.Dec.{eqb, leb}
-use borrow.Author.Tests.{leb-true, eqb-true, not-false}
+use borrow.Author.Tests.{leb-true, eqb-true}
 use native.Mathlib.Omega.{arith}
 use Rattle.rules.specs.Types.{Creation, Table, Event, Answer}
 use Rattle.rules.specs.Codes.{Row, _gives_⨾_, codeOf}
@@ -17,9 +17,9 @@ use Rattle.rules.specs.Tables.{isHost, isChunk, isBlock, at}
 use Rattle.rules.specs.Words.{every, some, from}
 use Rattle.rules.specs.Zero.{zeroRecord, isZeroRecord, zeroChunk, isZeroChunk, zeroHost, isZeroHost, zeroPlace, zeroTable, noRecord, noChunk, noHost}
 use Rattle.rules.proofs.Lists.{both, walk, each-number}
-use Rattle.rules.proofs.Events.{by-kind}
+use Rattle.rules.proofs.Events.{by-kind, rows-granted}
 use Rattle.rules.proofs.Formed.{well-formed}
-use Rattle.rules.proofs.KeepsParts.{Keeps, passed-second}
+use Rattle.rules.proofs.KeepsParts.{Keeps}
 use Rattle.rules.proofs.KeepsHosts.{read-kept, write-kept, start-kept, finish-kept, timeout-kept, refresh-kept, stop-kept}
 use Rattle.rules.proofs.KeepsChunks.{deliver-kept, drop-kept, run-kept, fail-kept, recover-kept, take-lease-kept, give-lease-kept, overdue-kept}
 use Rattle.rules.proofs.KeepsEpoch.{epoch-kept}
@@ -102,8 +102,8 @@ unfolding step answered rows
 step-formed t e h =
     let r = ruleOf t e in
     walk (λ (a : Answer). wellFormed (a .table) ≡ true) (eqb (codeOf (rows t r)) 0) _ _ (λ done.
-    let own = passed-second (not (wellFormed t)) (not (r .ranges)) 7 0 (r .refusals) (eqb-true (codeOf (rows t r)) 0 done) in
-    rule-keeps t e h (not-false (r .ranges) (own .0)) (own .1))
+    let own = rows-granted t r (eqb-true (codeOf (rows t r)) 0 done) in
+    rule-keeps t e h (own .1) (own .2))
     (λ _. h)
 
 -- the table after the events, each given to the step

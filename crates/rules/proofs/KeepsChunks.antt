@@ -5,7 +5,7 @@ use mathlib.Core.Bool.{Bool, true, false, cond, not, _&&_, true≢false}
 use mathlib.Core.List.{List}
 use lib.ListN.{getD, drop, length-drop, length-set, getD-replicate}
 use lib.Dec.{eqb, ltb, leb}
-use borrow.Author.Tests.{ltb-true, lt-ltb, leb-false, eqb-false, not-false}
+use borrow.Author.Tests.{ltb-true, lt-ltb, leb-false, not-false}
 use native.Mathlib.Omega.{arith}
 use Rattle.rules.specs.Types.{Timestamp, Epoch, Creation, Kind, Entry, Waiting, Record, State, Chunk, Header, Message, Slot, Table, Arrived}
 use Rattle.rules.specs.Chunks.{withState, withValue, withRead, withWrite, withWaiting, answering, silent, isOutOfOrder, entryOf, arrived, decides, atChunk, runs, ran, failed, emptied, recoverRefusals, takeLeaseRefusals, giveLeaseRefusals, overdue}
@@ -17,7 +17,7 @@ use Rattle.rules.specs.Hosts.{atHost}
 use Rattle.rules.specs.Kinds.{isWrite, isNormal, headed, headerOf, epochOf, isForChunk}
 use Rattle.rules.specs.Limits.{blockLimit, waitingLimit, placeLimit, greatestClock, upTo}
 use Rattle.rules.specs.Tables.{isHost, isChunk, isBlock, hostOf, chunkOf, recordOf, slotOf, withChunk, withRecord, withPlaces}
-use Rattle.rules.specs.Network.{removed}
+use Rattle.rules.specs.Network.{removed, freePlaces}
 use Rattle.rules.specs.Timestamps.{never, _is_, _above_, _below_, later, isTimestamp, _same_, isEpoch}
 use Rattle.rules.specs.Waiting.{inOrder, insert, inserted, head, headRemoved, firstWith, decided, mark, marked}
 use Rattle.rules.specs.Words.{every, from, numbers}
@@ -25,7 +25,8 @@ use Rattle.rules.specs.Zero.{noBlocks, zeroEntry, isZeroEntry, zeroWaiti
 use Rattle.rules.proofs.Lists.{three, five, walk, every-drop, every-change, set-all, take-short}
 use Rattle.rules.proofs.Order.{insert-length, insert-every, insert-ordered, tail-ordered, mark-ordered}
 use Rattle.rules.proofs.Formed.{Formed, chunk-place, block-place, chunk-facts, chunk-formed, waiting-facts, entries-length, entries-formed, entries-ordered, waiting-formed, head-formed, FormedRecord, record-facts, record-formed, FormedHeader, message-facts, message-formed, host-of, chunk-of, record-of}
-use Rattle.rules.proofs.KeepsParts.{Keeps, keeps, passed-second, RecordAt, host-kept, chunk-kept, record-kept, records-kept, removed-kept, replied-kept}
+use Rattle.rules.proofs.Relies.{run-head}
+use Rattle.rules.proofs.KeepsParts.{Keeps, keeps, RecordAt, host-kept, chunk-kept, record-kept, records-kept, removed-kept, replied-kept}
 use Rattle.rules.proofs.KeepsHosts.{at-host-formed}
 
 -- the later of two timestamps is one
@@ -288,10 +289,9 @@ module _ (t : Table) where
       let a = ran chunk block r in
       let s = three (isChunk creation chunk) (isBlock creation block) (unused c) e in
       let l = block-place creation block (s .1) (f .creation) in
-      let n = r .waiting .count in
-      let some = eqb-false n 0 (passed-second (not (isNormal (chunkOf t chunk .state))) (eqb n 0) 1 1 _ p .0) in
+      let some = run-head (chunkOf t chunk .state) (r .waiting) (freePlaces (t .places)) p in
       let old = record-of t f chunk block (chunk-place creation chunk (s .0) (f .creation)) l in
-      let g = ran-at creation (f .creation) chunk block (s .0) (s .1) r old (omega arith) in
+      let g = ran-at creation (f .creation) chunk block (s .0) (s .1) r old some in
       replied-kept (withRecord t chunk block (a .block)) (record-kept t f chunk block (a .block) l (g .block)) (a .reply) (g .reply))
 
   -- 11 fail

@@ -4,23 +4,23 @@ use mathlib.Core.Path.{_≡_, refl}
 use mathlib.Core.Bool.{Bool, true, false, cond}
 use mathlib.Core.List.{List}
 use lib.ListN.{getD}
-use lib.Dec.{eqb}
-use borrow.Author.Tests.{leb-true, le-leb, eq-eqb, eqb-false}
-use native.Mathlib.Omega.{arith}
+use borrow.Author.Tests.{eq-eqb}
 use Rattle.rules.specs.Types.{Timestamp, Creation, Entry, Record, State, Chunk, Table, Copy}
 use Rattle.rules.specs.Chunks.{emptied}
 use Rattle.rules.specs.Events.{copyOf, copiesOf, renewed, epochChanged, epochRule}
 use Rattle.rules.specs.Formed.{chunkFormed, entryFormed, recordFormed}
-use Rattle.rules.specs.Kinds.{isWrite, isFailed}
-use Rattle.rules.specs.Limits.{chunkLimit, blockLimit, greatestClock}
+use Rattle.rules.specs.Kinds.{isWrite}
+use Rattle.rules.specs.Limits.{chunkLimit, blockLimit}
 use Rattle.rules.specs.Settlement.{inSet, notLost, lastRead, lastWrite, waiting, writesOf, W, committed, writes, commits, latest, settledRecord, settled}
 use Rattle.rules.specs.Tables.{isHost, isChunk, setOf, chunkOf, recordOf}
 use Rattle.rules.specs.Timestamps.{never, later, greatest, isTimestamp, next, isEpoch}
-use Rattle.rules.specs.Words.{those, each, every, some, numbers}
+use Rattle.rules.specs.Words.{those, each, every, some}
 use Rattle.rules.specs.Zero.{_among_, noBlocks, isZeroChunk, noCopy, noChunk}
 use Rattle.rules.proofs.Lists.{three, walk, every-of-all, every-each, every-each-number, every-joined, fold-keeps, each-number, each-each-number}
 use Rattle.rules.proofs.Formed.{Formed, of-store, set-of-store, set-of-block, waiting-facts, entries-formed, record-facts, record-formed, record-of}
-use Rattle.rules.proofs.KeepsParts.{Keeps, keeps, passed-second, RecordAt, records-kept}
+use Rattle.rules.proofs.Relies.{epoch-next}
+use Rattle.rules.specs.Timestamps.{isEpoch, next}
+use Rattle.rules.proofs.KeepsParts.{Keeps, keeps, RecordAt, records-kept}
 use Rattle.rules.proofs.KeepsChunks.{later-formed, none-waiting, emptied-at, blank-formed}
 
 -- the greatest of timestamps is one
@@ -108,23 +108,19 @@ module _ (t : Table) (f : Formed t) where
       go true h = blank-formed creation (next (t .epoch)) blank (eq-eqb (t .epoch .0 + 1) (t .epoch .0 + 1) refl) refl
       go false h = h
 
-  -- there is a next epoch
-  changed-formed : eqb (t .epoch .0) greatestClock ≡ false → Formed (epochChanged t)
-  changed-formed e =
-      let last = eqb-false (t .epoch .0) greatestClock e in
-      record {
-        creation = f .creation;
-        epoch = le-leb (t .epoch .0 + 1) greatestClock (omega (arith, leb-true (t .epoch .0) greatestClock (f .epoch)));
-        hosts = f .hosts;
-        chunks = λ c l. rw (each-number (renewed t) chunkLimit c noChunk l) (renewed-at c l);
-        records = records-kept t f (λ c b. getD (settled (copiesOf t b)) c noCopy .block) settled-at .records;
-        places = f .places;
-      }
+  -- where there is a next epoch
+  changed-formed : isEpoch (next (t .epoch)) ≡ true → Formed (epochChanged t)
+  changed-formed e = record {
+    creation = f .creation;
+    epoch = e;
+    hosts = f .hosts;
+    chunks = λ c l. rw (each-number (renewed t) chunkLimit c noChunk l) (renewed-at c l);
+    records = records-kept t f (λ c b. getD (settled (copiesOf t b)) c noCopy .block) settled-at .records;
+    places = f .places;
+  }
 
 -- 15 epoch change
 pub epoch-kept : (t : Table) (a b c : ℕ) → Keeps t (epochRule t a b c)
 unfolding epochRule
 epoch-kept t a b c =
-    keeps t (epochRule t a b c) (λ f e p.
-    let anyFailed = some (λ c. isFailed (chunkOf t c .state)) (numbers chunkLimit) in
-    changed-formed t f (passed-second anyFailed (eqb (t .epoch .0) greatestClock) 1 6 _ p .0))
+    keeps t (epochRule t a b c) (λ f e p. changed-formed t f (epoch-next t p (f .epoch)))

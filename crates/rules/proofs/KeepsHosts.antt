@@ -1,27 +1,29 @@
 -- The events of hosts keep well-formedness: read, write, start, finish, timeout, refresh, stop; and so does a reply at a host
 use Prim.Native.Nat.{ℕ, _+_, _*_, _≤_, _<_}
 use mathlib.Core.Path.{_≡_, refl, sym, _∙_}
-use mathlib.Core.Bool.{Bool, true, false, not, false≢true}
+use mathlib.Core.Bool.{Bool, true, false, false≢true}
 use mathlib.Core.List.{List, [], _∷_, _++_}
 use lib.ListN.{length, drop, length-append, length-drop}
-use lib.Dec.{eqb, leb}
-use borrow.Author.Tests.{leb-false, le-leb, lt-ltb, eqb-true, eqb-false, not-true, not-false}
+use lib.Dec.{eqb}
+use borrow.Author.Tests.{le-leb, lt-ltb, eqb-true, not-true}
 use native.Mathlib.Omega.{arith}
 use Rattle.rules.specs.Types.{Timestamp, Epoch, Set, Creation, Action, Operation, Attempt, Host, Header, Message, Table}
 use Rattle.rules.specs.Codes.{Row, codeOf}
 use Rattle.rules.specs.Creation.{isCreation, ofStore}
 use Rattle.rules.specs.Events.{unused, holdersOf, intakeRule, readRule, writeRule, startRule, finishRule, hostRule, timeoutRule, refreshRule, stopRule}
 use Rattle.rules.specs.Formed.{operationFormed, attemptFormed, hostFormed, messageFormed}
-use Rattle.rules.specs.Hosts.{withQueue, withAttempt, withOkay, withRestart, withResult, operationsOf, queueOf, front, hasCurrent, isOutstanding, appended, only, openingTo, opening, started, suits, counts, answeredBy, heard, atHost, closingTo, closing, goesBack, ended, finished, timeoutRefusals, timedOut, workingRefusals, refreshed, stopped}
+use Rattle.rules.specs.Hosts.{withQueue, withAttempt, withOkay, withRestart, withResult, operationsOf, queueOf, front, appended, only, openingTo, opening, started, suits, counts, answeredBy, heard, atHost, closingTo, closing, goesBack, ended, finished, timeoutRefusals, timedOut, workingRefusals, refreshed, stopped}
 use Rattle.rules.specs.Kinds.{isReading, headerOf, headed}
 use Rattle.rules.specs.Limits.{chunkLimit, blockLimit, operationLimit, greatestClock, greatestTimestamp, oneTo}
+use Rattle.rules.specs.Network.{freePlaces, howMany}
 use Rattle.rules.specs.Tables.{isHost, isChunk, isBlock, hostOf, withHost}
 use Rattle.rules.specs.Timestamps.{stamp, never, _is_, _above_, isTimestamp, isEpoch}
 use Rattle.rules.specs.Words.{every, some, from}
 use Rattle.rules.specs.Zero.{_among_, isEmpty, zeroSet, zeroAttempt, isZeroAttempt}
 use Rattle.rules.proofs.Lists.{three, walk, every-one, every-append, every-drop, each-number, set-all, take-short}
 use Rattle.rules.proofs.Formed.{one-to, Formed, host-place, chunk-place, block-place, member-some, of-store, is-of-store, set-of-store, queue-facts, operations-length, operations-formed, queue-formed, front-block, FormedAttempt, attempt-facts, attempt-formed, outstanding-current, host-facts, host-formed, FormedHeader, message-facts, message-formed, host-of, queue-of}
-use Rattle.rules.proofs.KeepsParts.{Keeps, keeps, passed, passed-second, host-kept, sent-to-each-kept}
+use Rattle.rules.proofs.KeepsParts.{Keeps, keeps, host-kept, sent-to-each-kept}
+use Rattle.rules.proofs.Relies.{intake-place, start-front, finish-current, timeout-outstanding}
 
 module _ (k : Creation) where
   -- ---- attempts, and sets of chunks
@@ -73,12 +75,11 @@ module _ (k : Creation) where
 
   -- one operation more
   appended-formed : (h : Host) (o : Operation) → hostFormed k h ≡ true → isBlock k (o .block) ≡ true
-      → leb operationLimit (h .queue .count) ≡ false → hostFormed k (appended h o) ≡ true
+      → h .queue .count < operationLimit → hostFormed k (appended h o) ≡ true
   unfolding appended queueOf
   appended-formed h o f e full =
       let r = host-facts k h f in
       let l = operationsOf h ++ o ∷ [] in
-      let n = leb-false operationLimit (h .queue .count) full in
       let m = length-append (operationsOf h) (o ∷ []) in
       let old = operations-formed k h (queue-facts k (h .queue) (r .queue)) in
       host-formed k (appended h o) (record {
@@ -205,8 +206,7 @@ module _ (t : Table) where
       keeps t (intakeRule t host block inRange o) (λ f e p.
       let r = three (isHost creation host) (isBlock creation block) inRange e in
       let h = hostOf t host in
-      let full = passed-second (not (h .working)) (leb operationLimit (h .queue .count)) 1 3 [] p .0 in
-      host-kept t f host (appended h o) (r .0) (appended-formed creation h o (host-of t f host (r .0)) (rw about (r .1)) full))
+      host-kept t f host (appended h o) (r .0) (appended-formed creation h o (host-of t f host (r .0)) (rw about (r .1)) (intake-place h p)))
 
   -- 1 read
   pub read-kept : (host block c : ℕ) → Keeps t (readRule t host block c)
@@ -243,9 +243,7 @@ module _ (t : Table) where
       let o = front h in
       let to = openingTo (o .action) copy (holdersOf t h) in
       let r = three (isHost creation host) (oneTo greatestClock clock) (isChunk creation copy) e in
-      let n = h .queue .count in
-      let some = eqb-false n 0 (passed (eqb n 0) 1 _ (passed-second (not (h .working)) (hasCurrent h) 1 1 _ p .1) .0) in
-      let one : 1 ≤ n = omega arith in
+      let one = start-front h clock copy (holdersOf t h) (freePlaces (t .places)) (howMany to) p in
       let g = host-of t f host (r .0) in
       let now = stamp clock host in
       let s = stamp-formed creation clock host (f .creation) (r .0) (r .1) in
@@ -264,7 +262,7 @@ module _ (t : Table) where
       let o = front h in
       let to = closingTo (o .action) (holdersOf t h) in
       let r = three (isHost creation host) (unused b) (unused c) e in
-      let has = not-false (hasCurrent h) (passed-second (not (h .working)) (not (hasCurrent h)) 1 1 _ p .0) in
+      let has = finish-current h (freePlaces (t .places)) (howMany to) p in
       let now = h .attempt .timestamp in
       let g = host-of t f host (r .0) in
       let a = attempt-facts creation (h .queue .count) (h .attempt) (host-facts creation h g .attempt) has in
@@ -287,9 +285,7 @@ module _ (t : Table) where
   unfolding timeoutRule
   timeout-kept host b c =
       alone-kept host b c timeoutRefusals timedOut (λ f h g p.
-      let empty = isEmpty (h .attempt .outstanding) in
-      let some = not-false (not empty) (passed-second (not (h .working)) (not (isOutstanding h)) 1 1 [] p .0) in
-      timed-out-formed creation h g (not-true empty some))
+      timed-out-formed creation h g (not-true (isEmpty (h .attempt .outstanding)) (timeout-outstanding h p)))
 
   -- 8 refresh
   pub refresh-kept : (host b c : ℕ) → Keeps t (refreshRule t host b c)

@@ -1,13 +1,13 @@
 -- A formed part put into a well-formed table keeps it well formed
-use Prim.Native.Nat.{ℕ, suc, _<_}
+use Prim.Native.Nat.{ℕ, _<_}
 use mathlib.Core.Path.{_≡_, refl}
 use mathlib.Core.Logic.{_⊎_, inl, inr}
-use mathlib.Core.Bool.{Bool, true, false, cond, _&&_}
+use mathlib.Core.Bool.{true, cond, _&&_}
 use mathlib.Core.List.{List}
 use lib.ListN.{getD, set}
 use native.Mathlib.Omega.{arith}
 use Rattle.rules.specs.Types.{Set, Creation, Record, Chunk, Host, Message, Slot, Place, Table}
-use Rattle.rules.specs.Codes.{Row, _gives_⨾_, codeOf}
+use Rattle.rules.specs.Codes.{codeOf}
 use Rattle.rules.specs.Creation.{ofStore}
 use Rattle.rules.specs.Events.{Rule}
 use Rattle.rules.specs.Formed.{hostFormed, chunkFormed, recordFormed, messageFormed, slotFormed, wellFormed}
@@ -28,17 +28,6 @@ Keeps t r = wellFormed t ≡ true → r .ranges ≡ true → codeOf (r .refusals
 -- the same by facts
 pub keeps : (t : Table) (r : Rule) → (Formed t → r .ranges ≡ true → codeOf (r .refusals) ≡ 0 → Formed (r .effect .table)) → Keeps t r
 keeps t r g h e c = well-formed (r .effect .table) (g (formed t h) e c)
-
--- a row that is passed: its situation does not hold, and the rows after it are passed too
-pub passed : (b : Bool) (n : ℕ) (rows : List Row) → codeOf (b gives suc n ⨾ rows) ≡ 0 → (b ≡ false) × (codeOf rows ≡ 0)
-unfolding codeOf
-passed true n rows h = absurd (omega arith)
-passed false n rows h = (refl, h)
-
--- the same of the second row
-pub passed-second : (a b : Bool) (m n : ℕ) (rows : List Row) → codeOf (a gives suc m ⨾ b gives suc n ⨾ rows) ≡ 0
-    → (b ≡ false) × (codeOf rows ≡ 0)
-passed-second a b m n rows h = passed b n rows (passed a m (b gives suc n ⨾ rows) h .1)
 
 -- ---- what may stand at a place of the table: a formed part of the store's, or zero
 

@@ -11,7 +11,7 @@ use Rattle.rules.specs.Chunks.{runRefusals, overdueRefusals}
 use Rattle.rules.specs.Codes.{codeOf}
 use Rattle.rules.specs.Events.{copiesOf, epochRefusals}
 use Rattle.rules.specs.Formed.{attemptFormed}
-use Rattle.rules.specs.Hosts.{hasCurrent, intakeRefusals, startRefusals, finishRefusals}
+use Rattle.rules.specs.Hosts.{hasCurrent, isOutstanding, intakeRefusals, startRefusals, finishRefusals, timeoutRefusals}
 use Rattle.rules.specs.Kinds.{isRead, isUndecided}
 use Rattle.rules.specs.Limits.{blockLimit, greatestClock}
 use Rattle.rules.specs.Network.{isFree, freePlaces, removed, sent, placeRefusals}
@@ -57,6 +57,11 @@ module _ (h : Host) where
     pub finish-room : messages ≤ free
     unfolding every
     finish-room = ltb-false free messages (granted-exactly (finishRefusals h free messages) refl .0 e 3 (omega arith))
+
+  -- something is outstanding
+  pub timeout-outstanding : codeOf (timeoutRefusals h) ≡ 0 → isOutstanding h ≡ true
+  unfolding every
+  timeout-outstanding e = not-false (isOutstanding h) (granted-exactly (timeoutRefusals h) refl .0 e 1 (omega arith))
 
 -- ---- chunks
 
