@@ -1,26 +1,24 @@
 -- Every event, granted or refused, keeps a table good
 use Prim.Native.Nat.{ℕ, _<_}
 use mathlib.Core.Path.{_≡_, refl, sym, subst⁻¹, _∙_, ap}
-use mathlib.Core.Bool.{Bool, true, false, cond, not, _&&_, false≢true}
+use mathlib.Core.Bool.{Bool, true, false, cond, _&&_, false≢true}
 use mathlib.Core.List.{List, [], append-nil}
 use native.Mathlib.Omega.{arith}
 use lib.Dec.{eqb}
 use lib.ListN.{length-take}
-use borrow.Author.Tests.{ltb-true, eqb-true, not-false}
+use borrow.Author.Tests.{ltb-true, eqb-true}
 use Rattle.one_copy.specs.Types.{Action, Operation, Message, Slot, Table, Event, Outcome, Answer}
 use Rattle.one_copy.specs.Runs.{Write, byHost, isChange, listedAt}
 use Rattle.rules.specs.Codes.{codeOf}
 use Rattle.rules.specs.Events.{Rule, quietly, done, refused, unused, isPlace, holdersOf, readRule, writeRule, startRule, deliverRule, dropRule, finishRule, timeoutRule, refreshRule, runRule, stopRule, failRule, recoverRule, takeLeaseRule, giveLeaseRule, epochRule, overdueRule, unknownRule, ruleOf, rows, answered, step, takes, epochChanged, epochRefusals}
-use Rattle.rules.specs.Formed.{wellFormed}
 use Rattle.rules.specs.Hosts.{front, openingTo, closingTo}
 use Rattle.rules.specs.Kinds.{isNormal, headerOf, isForChunk}
 use Rattle.rules.specs.Limits.{greatestClock, placeLimit, oneTo, upTo}
 use Rattle.rules.specs.Network.{freePlaces, howMany, removed}
 use Rattle.rules.specs.Tables.{isHost, isChunk, isBlock, hostOf, chunkOf, recordOf, slotOf, withPlaces}
 use Rattle.rules.specs.Timestamps.{stamp}
-use Rattle.rules.proofs.Events.{answered-granted, step-code}
+use Rattle.rules.proofs.Events.{rows-granted, answered-granted, step-code}
 use Rattle.rules.proofs.Formed.{Formed, formed, chunk-place, block-place, waiting-of}
-use Rattle.rules.proofs.KeepsParts.{passed, passed-second}
 use Rattle.rules.proofs.Lists.{both, three, walk}
 use Rattle.rules.proofs.Relies.{intake-place, run-head, place-message}
 use Rattle.one_copy.proofs.Tests.{at}
@@ -132,11 +130,9 @@ module _ (b : ℕ) (h : Hist) (blk : ℕ → ℕ) (t : Table) (lb : isBlock (t .
 
   -- granted or refused
   answers : (r : Rule) → Grants r → Stepped b h t e (answered t r)
-  unfolding answered rows
+  unfolding answered
   answers r g = walk (Stepped b h t e) (eqb (codeOf (rows t r)) 0) _ _
-      (λ z. let k = eqb-true (codeOf (rows t r)) 0 z in
-      let own = passed-second (not (wellFormed t)) (not (r .ranges)) 7 0 (r .refusals) k in
-      g (formed t (not-false (wellFormed t) (passed (not (wellFormed t)) 7 _ k .0))) (not-false (r .ranges) (own .0)) (own .1))
+      (λ z. let own = rows-granted t r (eqb-true (codeOf (rows t r)) 0 z) in g (formed t (own .0)) (own .1) (own .2))
       (λ z. refuses (codeOf (rows t r)) z)
 
   -- ---- the sixteen events
@@ -304,14 +300,14 @@ pub record Changed (t t′ : Table) : Type 0 where
 
 -- what its code says
 pub changed : (t : Table) (e : Event) → isChange e (step t e) ≡ true → Changed t (step t e .table)
-unfolding step ruleOf epochRule rows
+unfolding step ruleOf epochRule
 changed t e h =
     let q = both (eqb (e .kind) 15) (eqb (step t e .code) 0) h in
     let k : ruleOf t e ≡ epochRule t (e .a) (e .b) (e .c) = rw (eqb-true (e .kind) 15 (q .0)) refl in
     let z : codeOf (rows t (ruleOf t e)) ≡ 0 = sym (step-code t e) ∙ eqb-true (step t e .code) 0 (q .1) in
     let c : codeOf (rows t (epochRule t (e .a) (e .b) (e .c))) ≡ 0 = rw k at z in
     record {
-      formed = formed t (not-false (wellFormed t) (passed (not (wellFormed t)) 7 _ c .0));
-      refusals = passed-second (not (wellFormed t)) (not (epochRule t (e .a) (e .b) (e .c) .ranges)) 7 0 (epochRefusals t) c .1;
+      formed = formed t (rows-granted t (epochRule t (e .a) (e .b) (e .c)) c .0);
+      refusals = rows-granted t (epochRule t (e .a) (e .b) (e .c)) c .2;
       table = ap (λ (a : Answer). a .table) (answered-granted t (ruleOf t e) z) ∙ ap (λ (r : Rule). r .effect .table) k;
     }
