@@ -7,12 +7,12 @@ use mathlib.Core.List.{List, [], _∷_}
 use native.Mathlib.Omega.{arith}
 use lib.Dec.{eqb}
 use lib.ListN.{length, getD, take, drop}
-use borrow.Author.Tests.{ltb-true, leb-false, not-false}
+use borrow.Author.Tests.{ltb-true, leb-false}
 use Rattle.one_copy.specs.Types.{Timestamp, Epoch, Set, Kind, Entry, Waiting, Record, Action, Operation, Queue, Host, Header, Message, Slot, Place, Table, Arrived}
 use Rattle.rules.specs.Chunks.{withWaiting, emptied, failed, answering, silent, entryOf, waits, arrived, decides, atChunk, runs, ran}
 use Rattle.rules.specs.Codes.{codeOf}
 use Rattle.rules.specs.Events.{holdersOf, hostTakes, takes}
-use Rattle.rules.specs.Hosts.{front, operationsOf, queueOf, hasCurrent, appended, startRefusals, openingTo, opening, started, finishRefusals, closingTo, closing, goesBack, atHost, finished, ended, withQueue, timedOut, refreshed, stopped}
+use Rattle.rules.specs.Hosts.{front, operationsOf, queueOf, appended, startRefusals, openingTo, opening, started, finishRefusals, closingTo, closing, goesBack, atHost, finished, ended, withQueue, timedOut, refreshed, stopped}
 use Rattle.rules.specs.Kinds.{isWrite, isNormal, headerOf, headed, isForChunk}
 use Rattle.rules.specs.Limits.{hostLimit, chunkLimit, blockLimit, operationLimit, placeLimit, waitingLimit}
 use Rattle.rules.specs.Network.{removed, sentToEach, replied}
@@ -25,6 +25,7 @@ use Rattle.rules.proofs.Formed.{Formed, FormedWaiting, FormedMessage, host-plac
 use Rattle.rules.proofs.Lists.{walk, grid-at}
 use Rattle.rules.proofs.Order.{mark-timestamps}
 use Rattle.rules.proofs.Refusals.{granted-exactly}
+use Rattle.rules.proofs.Relies.{finish-current}
 use Rattle.one_copy.proofs.Tests.{at, le-or-lt}
 use Rattle.one_copy.proofs.Lists.{Any, any-each, each-any}
 use Rattle.one_copy.proofs.Net.{ofBoth, sent-each, sent-taken, sent-at}
@@ -97,8 +98,7 @@ module _ (t : Table) (f : Formed t) (j : ℕ) (lj : isHost (t .creation) j ≡ t
   unfolding every finished
   finish-less s free messages e =
       let g = finished-as (goesBack (x .attempt)) s in
-      let p : 0 < x .attempt .timestamp .0 = ltb-true 0 (x .attempt .timestamp .0)
-      (not-false (hasCurrent x) (granted-exactly (finishRefusals x free messages) refl .0 e 1 (omega arith))) in
+      let p : 0 < x .attempt .timestamp .0 = ltb-true 0 (x .attempt .timestamp .0) (finish-current x free messages e) in
       less-host t j (finished x) _ (rested t (finished x) (g .0)) (omega (arith, g .1)) (λ _. g .2)
       (each-ok t _ _ (t .places) (same-net t) (λ a u d z. own (x .attempt .okay) a u d p z))
     where

@@ -12,7 +12,7 @@ use Rattle.one_copy.specs.Types.{Set, Action, Operation, Host, Message, 
 use Rattle.one_copy.specs.Runs.{Write, written, timestampAt, attemptAt, byHost}
 use Rattle.rules.specs.Codes.{codeOf}
 use Rattle.rules.specs.Events.{holdersOf}
-use Rattle.rules.specs.Hosts.{operationsOf, queueOf, front, hasCurrent, appended, startRefusals, only, openingTo, opening, started, finishRefusals, closingTo, closing, doneAs, failedAs, goesBack, finishOutcome, ended, finished, timedOut, refreshed, stopped, withQueue}
+use Rattle.rules.specs.Hosts.{operationsOf, queueOf, front, appended, startRefusals, only, openingTo, opening, started, finishRefusals, closingTo, closing, doneAs, failedAs, goesBack, finishOutcome, ended, finished, timedOut, refreshed, stopped, withQueue}
 use Rattle.rules.specs.Kinds.{isReading, headerOf, headed}
 use Rattle.rules.specs.Limits.{hostLimit, chunkLimit, operationLimit}
 use Rattle.rules.specs.Network.{sentToEach}
@@ -23,6 +23,7 @@ use Rattle.rules.specs.Zero.{_among_, isEmpty, zeroSet}
 use Rattle.rules.proofs.Formed.{Formed, host-place}
 use Rattle.rules.proofs.Lists.{each-number}
 use Rattle.rules.proofs.Refusals.{granted-exactly}
+use Rattle.rules.proofs.Relies.{finish-current}
 use Rattle.one_copy.proofs.Tests.{at, eq-or-ne, not-both}
 use Rattle.one_copy.proofs.Abs.{readK, writeK}
 use Rattle.one_copy.proofs.Net.{sent-each}
@@ -398,6 +399,6 @@ module _ (b : ℕ) (h : Hist) (t : Table) (f : Formed t) (s : Shape t) (lb : isB
   unfolding every finishOutcome
   ev-finish free messages e =
       let row = granted-exactly (finishRefusals x free messages) refl .0 e in
-      finish-as (ltb-true 0 (x .attempt .timestamp .0) (not-false (hasCurrent x) (row 1 (omega arith))))
+      finish-as (ltb-true 0 (x .attempt .timestamp .0) (finish-current x free messages e))
       (not-false (isEmpty (x .attempt .outstanding)) (row 2 (omega arith)))
       (front x .action) refl (x .attempt .okay) refl (eq-or-ne (front x .block) b)
