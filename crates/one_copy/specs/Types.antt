@@ -12,7 +12,6 @@ pub use Rattle.rules.specs.declared.Chunk.{Chunk}
 pub use Rattle.rules.specs.declared.Action.{Action}
 pub use Rattle.rules.specs.declared.Operation.{Operation}
 pub use Rattle.rules.specs.declared.Queue.{Queue}
-pub use Rattle.rules.specs.declared.Attempt.{Attempt}
 pub use Rattle.rules.specs.declared.Host.{Host}
 pub use Rattle.rules.specs.declared.Header.{Header}
 pub use Rattle.rules.specs.declared.Message.{Message}
