@@ -1,0 +1,4 @@
+pub mod Types
+pub mod Runs
+pub mod OneCopy
+pub mod Sessions
