@@ -1,11 +1,10 @@
 -- The dispatch: a kind that no event has is out of range
-use Prim.Native.Nat.{ℕ}
 use mathlib.Core.Path.{_≡_, refl}
 use mathlib.Core.Bool.{true, false}
 use borrow.Author.Tests.{ne-eqb}
 use Rattle.rules.specs.declared.Table.{Table}
 use Rattle.rules.specs.declared.Event.{Event}
-use Rattle.rules.specs.Events.{ruleOf, unknownRule, refused, step}
+use Rattle.rules.specs.Events.{ruleOf, refused, step}
 use Rattle.rules.specs.Formed.{wellFormed}
 use Rattle.rules.proofs.Events.{ill-formed, out-of-range}
 

@@ -21,6 +21,7 @@ use rules::State;
 use rules::Table;
 use rules::Timestamp;
 use rules::Waiting;
+ghost use Prim.Native.Nat.{_<_, _≤_};
 
 // The greatest timestamp, and the greatest clock and epoch.
 const TIMESTAMP: u64 = 34359738367;
@@ -520,9 +521,56 @@ fn with_epochs(stores: u64, chunks: u64) -> Table {
     t
 }
 
+fn epoch_case(n: u64) -> Table {
+    match n {
+        0 => with_epochs(CLOCK, CLOCK),
+        1 => with_epochs(CLOCK + 1, CLOCK + 1),
+        _ => with_epochs(2, 1),
+    }
+}
+
 // ---- the lines
 
-fn line(part: &[u8], n: u64, t: Table) {
+// Case n of a part of the table.
+fn case(part: u64, n: u64) -> Table {
+    match part {
+        0 => with_host(0, host_case(n)),
+        1 => with_host(2, spare_host_case(n)),
+        2 => with_chunk(0, chunk_case(n)),
+        3 => with_chunk(2, spare_chunk_case(n)),
+        4 => with_record(0, record_case(n)),
+        5 => with_record(2, spare_record_case(n)),
+        6 => with_record(32, spare_record_case(n)),
+        7 => with_message(message_case(n)),
+        8 => with_creation(creation_case(n)),
+        _ => epoch_case(n),
+    }
+}
+
+fn name(part: u64) -> bool {
+    match part {
+        0 => io::write_all(1, b"host "),
+        1 => io::write_all(1, b"spare host "),
+        2 => io::write_all(1, b"chunk "),
+        3 => io::write_all(1, b"spare chunk "),
+        4 => io::write_all(1, b"record "),
+        5 => io::write_all(1, b"spare block's record "),
+        6 => io::write_all(1, b"spare chunk's record "),
+        7 => io::write_all(1, b"message "),
+        8 => io::write_all(1, b"creation "),
+        _ => io::write_all(1, b"epoch "),
+    }
+}
+
+fn line(part: u64, n: u64, code: u64) {
+    name(part);
+    io::print_decimal(1, n);
+    io::write_all(1, b" ");
+    io::print_decimal(1, code);
+    io::write_all(1, b"\n");
+}
+
+fn code_of(t: Table) -> u64 {
     let a = engine::step(
         t,
         Event {
@@ -532,74 +580,27 @@ fn line(part: &[u8], n: u64, t: Table) {
             c: 0,
         },
     );
-    io::write_all(1, part);
-    io::print_decimal(1, n);
-    io::write_all(1, b" ");
-    io::print_decimal(1, a.code);
-    io::write_all(1, b"\n");
+    a.code
 }
 
-fn hosts() {
-    for n in 0..20 {
-        line(b"host ", n, with_host(0, host_case(n)));
+// So many cases of a part.
+fn lines(part: u64, count: u64) {
+    let mut n: u64 = 0;
+    while n < count {
+        line(part, n, code_of(case(part, n)));
+        n = n + 1;
     }
-    for n in 0..7 {
-        line(b"spare host ", n, with_host(2, spare_host_case(n)));
-    }
-}
-
-fn chunks() {
-    for n in 0..6 {
-        line(b"chunk ", n, with_chunk(0, chunk_case(n)));
-    }
-    for n in 0..5 {
-        line(b"spare chunk ", n, with_chunk(2, spare_chunk_case(n)));
-    }
-}
-
-fn records() {
-    for n in 0..18 {
-        line(b"record ", n, with_record(0, record_case(n)));
-    }
-    for n in 0..6 {
-        line(
-            b"spare block's record ",
-            n,
-            with_record(2, spare_record_case(n)),
-        );
-    }
-    for n in 0..6 {
-        line(
-            b"spare chunk's record ",
-            n,
-            with_record(32, spare_record_case(n)),
-        );
-    }
-}
-
-fn messages() {
-    for n in 0..11 {
-        line(b"message ", n, with_message(message_case(n)));
-    }
-}
-
-fn creations() {
-    for n in 0..15 {
-        line(b"creation ", n, with_creation(creation_case(n)));
-    }
-}
-
-fn epochs() {
-    line(b"epoch ", 0, with_epochs(CLOCK, CLOCK));
-    line(b"epoch ", 1, with_epochs(CLOCK + 1, CLOCK + 1));
-    line(b"epoch ", 2, with_epochs(2, 1));
 }
 
 fn main() {
-    hosts();
-    chunks();
-    records();
-    messages();
-    creations();
-    epochs();
+    lines(0, 20);
+    lines(1, 7);
+    lines(2, 6);
+    lines(3, 5);
+    lines(4, 18);
+    lines(5, 6);
+    lines(6, 6);
+    lines(7, 11);
+    lines(8, 15);
+    lines(9, 3);
 }

@@ -1,21 +1,9 @@
 -- `engine::act` meets its contract: each kind goes to its function, any other is unknown
-use mathlib.Core.Path.{_≡_, refl, _∙_}
+use mathlib.Core.Path.{refl, _∙_}
 use borrow.Author.Needs.{needs}
 use Rattle.engine.proofs.StepLaws.{unknown}
 use Rattle.engine.proofs.act.Statement.{statement}
 use Rattle.engine.proofs.act.Tie as tie
-use Rattle.engine.proofs.act.Reads as reads
-use Rattle.engine.proofs.act.Lts as lts
-use Rattle.engine.proofs.chunks.change.Reads as chunks-change-reads
-use Rattle.engine.proofs.chunks.fail.Reads as fail-reads
-use Rattle.engine.proofs.chunks.run.Reads as run-reads
-use Rattle.engine.proofs.epoch.change.Reads as epoch-change-reads
-use Rattle.engine.proofs.hosts.change.Reads as hosts-change-reads
-use Rattle.engine.proofs.hosts.finish.Reads as finish-reads
-use Rattle.engine.proofs.hosts.start.Reads as start-reads
-use Rattle.engine.proofs.mail.deliver.Reads as deliver-reads
-use Rattle.engine.proofs.mail.drop.Reads as drop-reads
-use Rattle.engine.proofs.refuse.Reads as refuse-reads
 
 -- src/lib.rt:64:14
 change-requires : tie.Need-change-requires

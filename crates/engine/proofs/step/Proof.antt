@@ -1,15 +1,10 @@
 -- `engine::step` meets its contract: code 8 first, then the event
-use mathlib.Core.Path.{_≡_, sym, _∙_}
+use mathlib.Core.Path.{sym, _∙_}
 use borrow.Author.Tests.{not-true, not-false}
 use borrow.Author.Needs.{needs}
 use Rattle.engine.proofs.StepLaws.{not-formed}
 use Rattle.engine.proofs.step.Statement.{statement}
 use Rattle.engine.proofs.step.Tie as tie
-use Rattle.engine.proofs.step.Reads as reads
-use Rattle.engine.proofs.step.Lts as lts
-use Rattle.engine.proofs.act.Reads as act-reads
-use Rattle.engine.proofs.refuse.Reads as refuse-reads
-use Rattle.sound.proofs.well_formed.Reads as well-formed-reads
 
 -- src/lib.rt:88:9
 well-formed-requires : tie.Need-well-formed-requires
