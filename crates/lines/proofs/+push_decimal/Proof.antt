@@ -1,5 +1,5 @@
 -- `lines::push_decimal` meets its contract. What falls is the number, by its last digit
-use Prim.Native.Nat.{ℕ}
+use Prim.Native.Nat.{ℕ, _<_}
 use mathlib.Core.Path.{_∙_}
 use native.Mathlib.Omega.{arith}
 use borrow.Fn.Kinds.{In}
