@@ -1,12 +1,12 @@
 -- The records of all chunks and blocks, stored block by block; the parts of an epoch change, as the code gathers them, are the rule's
 use Prim.Native.Nat.{ℕ, _+_, _<_}
-use mathlib.Core.Path.{_≡_, refl, sym, _∙_}
+use mathlib.Core.Path.{_≡_, refl, sym, ap, _∙_}
 use mathlib.Core.Bool.{Bool, true, false, cond, _&&_}
-use mathlib.Core.List.{List}
+use mathlib.Core.List.{List, []}
 use native.Mathlib.Decide.{ℕ-discrete}
 use native.Mathlib.Omega.{arith}
 use borrow.Author.Tests.{lt-ltb, le-ltb, eq-eqb, ne-eqb}
-use lib.Dec.{ltb}
+use lib.Dec.{ltb, eqb}
 use lib.ListN.{length, getD, set, length-set}
 use lib.Seq.{getD-set-same, getD-set-other}
 use Rattle.rules.specs.declared.Record.{Record}
@@ -14,24 +14,24 @@ use Rattle.rules.specs.declared.Chunk.{Chunk}
 use Rattle.rules.specs.declared.Copy.{Copy}
 use Rattle.rules.specs.declared.Table.{Table}
 use Rattle.rules.specs.declared.Event.{Event}
-use Rattle.rules.specs.Codes.{codeOf}
-use Rattle.rules.specs.Events.{Rule, quietly, done, refused, unused, copiesOf, renewed, epochRefusals, epochRule, ruleOf, answered, step}
+use Rattle.rules.specs.Codes.{codeOf, _gives_⨾_, granted}
+use Rattle.rules.specs.Events.{Rule, quietly, done, refused, unused, copyOf, copiesOf, renewed, epochRefusals, epochRule, ruleOf, answered, step}
 use Rattle.rules.specs.Formed.{wellFormed}
-use Rattle.rules.specs.Limits.{chunkLimit, blockLimit}
-use Rattle.rules.specs.Settlement.{settled}
-use Rattle.rules.specs.Tables.{at, recordsBy, withEpoch, withChunks, withRecords}
+use Rattle.rules.specs.Limits.{chunkLimit, blockLimit, greatestClock}
+use Rattle.rules.specs.Settlement.{inSet, isLost, settled, allLost}
+use Rattle.rules.specs.Tables.{isBlock, at, recordOf, recordsBy, withEpoch, withChunks, withRecords}
 use Rattle.rules.specs.Timestamps.{next}
-use Rattle.rules.specs.Words.{each, numbers}
+use Rattle.rules.specs.Words.{each, every, some, from, numbers}
 use Rattle.rules.specs.Zero.{noRecord, noCopy}
-use Rattle.rules.proofs.Lists.{grid-at}
+use Rattle.rules.proofs.Lists.{each-number, grid-at}
 use Rattle.rules.proofs.Events.{out-of-range, refused-own, granted-own}
-use Rattle.rules.proofs.Loops.{below-next, grid-length, grid-of, grid-same}
-use Rattle.engine.specs.Epoch.{storedAt, settledAt}
+use Rattle.rules.proofs.Loops.{every-those, some-same, below-next, made, made-next, grid-length, grid-of, grid-same}
+use Rattle.engine.specs.Epoch.{tableOf, failedAt, lostAt, markedOnly, storedAt, settledAt}
 
 -- ---- the records by chunk and block
 
 module _ (f : ℕ → ℕ → Record) where
-  records-length : length (recordsBy f) ≡ 128
+  pub records-length : length (recordsBy f) ≡ 128
   records-length = grid-length chunkLimit blockLimit f
 
   records-at : (c b : ℕ) → c < chunkLimit → b < blockLimit → getD (recordsBy f) (at c b) noRecord ≡ f c b
@@ -42,6 +42,30 @@ module _ (f : ℕ → ℕ → Record) where
 
 records-same : (f g : ℕ → ℕ → Record) → ((c b : ℕ) → c < chunkLimit → b < blockLimit → f c b ≡ g c b) → recordsBy f ≡ recordsBy g
 records-same f g h = grid-same chunkLimit blockLimit noRecord f g h
+
+-- ---- the copies of one block, gathered chunk by chunk: below chunk i they are, the others have their marks alone
+
+module _ (t : Table) (b : ℕ) where
+  abbrev gathered : ℕ → List Copy
+  gathered i = made (copyOf t b) (markedOnly t b) chunkLimit i
+
+  pub gathered-begin : each (markedOnly t b) (numbers chunkLimit) ≡ gathered 0
+  unfolding each from
+  gathered-begin = refl
+
+  pub gathered-next : (i : ℕ) → i < chunkLimit → (copies : List Copy) → copies ≡ gathered i
+      → set copies i (record { member = getD copies i noCopy .member; lost = getD copies i noCopy .lost; block = recordOf t i b }) ≡ gathered (i + 1)
+  gathered-next i h copies is =
+      let e : getD copies i noCopy ≡ markedOnly t b i = ap (λ (l : List Copy). getD l i noCopy) is ∙ here in
+      rw (e, is) (made-next (copyOf t b) (markedOnly t b) chunkLimit i h)
+    where
+      here : getD (gathered i) i noCopy ≡ markedOnly t b i
+      here = each-number (λ j. cond (ltb j i) (copyOf t b j) (markedOnly t b j)) chunkLimit i noCopy h ∙ rw (le-ltb i i (omega arith)) refl
+
+  -- code 6 looks at the marks alone
+  pub lost-marks : allLost (copiesOf t b) ≡ allLost (each (markedOnly t b) (numbers chunkLimit))
+  unfolding allLost every each from
+  lost-marks = every-those isLost inSet (copiesOf t b) ∙ sym (every-those isLost inSet (each (markedOnly t b) (numbers chunkLimit)))
 
 -- ---- one block is stored, chunk by chunk: below chunk i it is
 
@@ -108,6 +132,15 @@ module _ (t : Table) (e : Event) (ok : wellFormed t ≡ true) (kind : e .kind �
   unfolding step ruleOf
   epoch-step = rw kind refl
 
+  -- its code looks at no record
+  abbrev bare : Table
+  bare = withEpoch (tableOf (t .creation) (t .chunks) []) (t .epoch)
+
+  bare-code : codeOf (epochRefusals bare) ≡ codeOf (epochRefusals t)
+  bare-code =
+      ap (λ (x : Bool). codeOf (some (failedAt (t .chunks)) (numbers chunkLimit) gives 2 ⨾ eqb (t .epoch .0) greatestClock gives 7 ⨾ x gives 6 ⨾ granted))
+      (some-same (lostAt bare) (lostAt t) (λ b. ap (λ (x : Bool). isBlock (t .creation) b && x) (lost-marks bare b ∙ sym (lost-marks t b))) (numbers blockLimit))
+
   abbrev operands : Bool
   operands = unused (e .a) && unused (e .b) && unused (e .c)
 
@@ -115,12 +148,12 @@ module _ (t : Table) (e : Event) (ok : wellFormed t ≡ true) (kind : e .kind �
   unfolding epochRule
   change-outside h = out-of-range t rule ok h ∙ epoch-step
 
-  module _ (inside : operands ≡ true) (code : ℕ) (is : code ≡ codeOf (epochRefusals t)) where
+  module _ (inside : operands ≡ true) (code : ℕ) (is : code ≡ codeOf (epochRefusals bare)) where
     pub change-refused : (code ≡ 0 → ⊥) → refused t code ≡ step t e
     unfolding epochRule
-    change-refused n = refused-own t rule ok inside code is n ∙ epoch-step
+    change-refused n = refused-own t rule ok inside code (is ∙ bare-code) n ∙ epoch-step
 
     pub change-granted : code ≡ 0 → (records : List Record) (chunks : List Chunk) → records ≡ recordsBy (settledAt t) → chunks ≡ each (renewed t) (numbers chunkLimit)
         → done (quietly (withEpoch (withChunks (withRecords t records) chunks) (next (t .epoch)))) ≡ step t e
     unfolding epochRule
-    change-granted z records chunks hr hc = rw (hr, hc) (granted-own t rule ok inside (sym is ∙ z) ∙ epoch-step)
+    change-granted z records chunks hr hc = rw (hr, hc) (granted-own t rule ok inside (sym (is ∙ bare-code) ∙ z) ∙ epoch-step)

@@ -9,13 +9,13 @@ use Rattle.rules.specs.declared.Record.{Record}
 use Rattle.rules.specs.declared.Chunk.{Chunk}
 use Rattle.rules.specs.declared.Table.{Table}
 use Rattle.rules.specs.declared.Copy.{Copy}
-use Rattle.rules.specs.Events.{copiesOf}
+use Rattle.rules.specs.Events.{copyOf, copiesOf}
 use Rattle.rules.specs.Kinds.{isFailed}
 use Rattle.rules.specs.Settlement.{settled, allLost}
 use Rattle.rules.specs.Tables.{isBlock, at}
 use Rattle.rules.specs.Timestamps.{noEpoch}
 use Rattle.rules.specs.Words.{if_then_else_}
-use Rattle.rules.specs.Zero.{noRecord, noCopy, noChunk}
+use Rattle.rules.specs.Zero.{zeroRecord, noRecord, noCopy, noChunk}
 
 -- a table of these parts: the rules about the epoch change look at no more of it
 abbrev pub tableOf : Creation → List Chunk → List Record → Table
@@ -27,6 +27,10 @@ failedAt chunks c = isFailed (getD chunks c noChunk .state)
 
 abbrev pub lostAt : Table → (block : ℕ) → Bool
 lostAt t b = isBlock (t .creation) b && allLost (copiesOf t b)
+
+-- a block's copy by its marks, with a zero record
+abbrev pub markedOnly : Table → (block chunk : ℕ) → Copy
+markedOnly t b c = record { member = copyOf t b c .member; lost = copyOf t b c .lost; block = zeroRecord }
 
 -- the record of chunk c and block b when block `block` is stored back from its copies
 abbrev pub storedAt : List Record → (block : ℕ) → List Copy → (c b : ℕ) → Record

@@ -556,3 +556,8 @@ module _ {A : Type 0} (m n : ℕ) where
 
   pub grid-same : A → (f g : ℕ → ℕ → A) → ((c b : ℕ) → c < m → b < n → f c b ≡ g c b) → grid f ≡ grid g
   grid-same d f g h = grid-of d g (grid f) (grid-length f) (λ c b k q. grid-at f m n c b d k q ∙ h c b k q)
+
+pub some-same : {A : Type 0} (p q : A → Bool) → ((x : A) → p x ≡ q x) → (l : List A) → some p l ≡ some q l
+unfolding some
+some-same p q h [] = refl
+some-same p q h (x ∷ xs) = rw (h x, some-same p q h xs) refl
