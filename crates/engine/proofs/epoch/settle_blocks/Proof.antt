@@ -149,12 +149,11 @@ loop-again c =
     let l = s .before .before .before .before .before in
     let t = table (l .before) in
     let i = l .loop .b in
-    let e : g .loop3 .d ≡ 8 = omega arith in
-    (
+    let e : g .loop3 .d ≡ 8 = omega arith in (
       omega arith,
       g .loop3 .inv .1 ∙ ap (λ (n : ℕ). recordsBy (storedTo (l .loop .out) i (s .settle .result) n)) e
-      ∙ stored-end (l .loop .out) i (s .settle .result)
-      ∙ settled-next t i (l .loop .out) (s .settle .result) (l .loop .inv .1) (is-settled s),
+          ∙ stored-end (l .loop .out) i (s .settle .result)
+          ∙ settled-next t i (l .loop .out) (s .settle .result) (l .loop .inv .1) (is-settled s),
     )
 
 returns : tie.Need-returns Inv-loop2 μ-loop2 Inv-loop3 μ-loop3 Inv-loop μ-loop
