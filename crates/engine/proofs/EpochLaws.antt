@@ -26,7 +26,7 @@ use Rattle.rules.specs.Zero.{noRecord, noCopy}
 use Rattle.rules.proofs.Lists.{each-number, grid-at}
 use Rattle.rules.proofs.Events.{out-of-range, refused-own, granted-own}
 use Rattle.rules.proofs.Loops.{every-those, some-same, below-next, made, made-next, grid-length, grid-of, grid-same}
-use Rattle.engine.specs.Epoch.{tableOf, failedAt, lostAt, markedOnly, storedAt, settledAt}
+use Rattle.engine.specs.Epoch.{tableOf, failedAt, lostAt, markedOnly, settledAt}
 
 -- ---- the records by chunk and block
 
@@ -70,8 +70,11 @@ module _ (t : Table) (b : ℕ) where
 -- ---- one block is stored, chunk by chunk: below chunk i it is
 
 module _ (records : List Record) (block : ℕ) (copies : List Copy) where
+  abbrev storedAt : (c b : ℕ) → Record
+  storedAt c b = cond (eqb b block) (getD copies c noCopy .block) (getD records (at c b) noRecord)
+
   abbrev pub storedTo : ℕ → (c b : ℕ) → Record
-  storedTo i c b = cond (ltb c i) (storedAt records block copies c b) (getD records (at c b) noRecord)
+  storedTo i c b = cond (ltb c i) (storedAt c b) (getD records (at c b) noRecord)
 
   pub stored-begin : length records ≡ 128 → records ≡ recordsBy (storedTo 0)
   stored-begin len = records-of (storedTo 0) records len (λ c b _ _. rw (le-ltb c 0 (omega arith)) refl)
@@ -98,8 +101,8 @@ module _ (records : List Record) (block : ℕ) (copies : List Copy) where
           other c b k m (λ x. d (omega arith)) ∙ rw (e, le-ltb i i (omega arith), lt-ltb i (i + 1) (omega arith), ne-eqb b block d) refl
       go c b k m (no e) _ = other c b k m (λ x. e (omega arith)) ∙ rw (below-next i c e) refl
 
-  pub stored-end : recordsBy (storedTo chunkLimit) ≡ recordsBy (storedAt records block copies)
-  stored-end = records-same (storedTo chunkLimit) (storedAt records block copies) (λ c b k _. rw (lt-ltb c chunkLimit k) refl)
+  pub stored-end : recordsBy (storedTo chunkLimit) ≡ recordsBy storedAt
+  stored-end = records-same (storedTo chunkLimit) storedAt (λ c b k _. rw (lt-ltb c chunkLimit k) refl)
 
 -- ---- the blocks are settled one after the other: below block i they are
 
