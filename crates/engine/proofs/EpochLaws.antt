@@ -1,12 +1,12 @@
 -- The records of all chunks and blocks, stored block by block; the parts of an epoch change, as the code gathers them, are the rule's
 use Prim.Native.Nat.{ℕ, _+_, _<_}
-use mathlib.Core.Path.{_≡_, refl, sym, _∙_}
+use mathlib.Core.Path.{_≡_, refl, sym, ap, _∙_, fun-ext}
 use mathlib.Core.Bool.{Bool, true, false, cond, _&&_}
-use mathlib.Core.List.{List}
+use mathlib.Core.List.{List, []}
 use native.Mathlib.Decide.{ℕ-discrete}
 use native.Mathlib.Omega.{arith}
 use borrow.Author.Tests.{lt-ltb, le-ltb, eq-eqb, ne-eqb}
-use lib.Dec.{ltb}
+use lib.Dec.{ltb, eqb}
 use lib.ListN.{length, getD, set, length-set}
 use lib.Seq.{getD-set-same, getD-set-other}
 use Rattle.rules.specs.declared.Record.{Record}
@@ -14,24 +14,24 @@ use Rattle.rules.specs.declared.Chunk.{Chunk}
 use Rattle.rules.specs.declared.Copy.{Copy}
 use Rattle.rules.specs.declared.Table.{Table}
 use Rattle.rules.specs.declared.Event.{Event}
-use Rattle.rules.specs.Codes.{codeOf}
-use Rattle.rules.specs.Events.{Rule, quietly, done, refused, unused, copiesOf, renewed, epochRefusals, epochRule, ruleOf, answered, step}
+use Rattle.rules.specs.Codes.{codeOf, _gives_⨾_, granted}
+use Rattle.rules.specs.Events.{Rule, quietly, done, refused, unused, copyOf, copiesOf, renewed, epochRefusals, epochRule, ruleOf, answered, step}
 use Rattle.rules.specs.Formed.{wellFormed}
-use Rattle.rules.specs.Limits.{chunkLimit, blockLimit}
-use Rattle.rules.specs.Settlement.{settled}
-use Rattle.rules.specs.Tables.{at, recordsBy, withEpoch, withChunks, withRecords}
+use Rattle.rules.specs.Limits.{chunkLimit, blockLimit, greatestClock}
+use Rattle.rules.specs.Settlement.{inSet, isLost, settled, allLost}
+use Rattle.rules.specs.Tables.{isBlock, at, recordOf, recordsBy, withEpoch, withChunks, withRecords}
 use Rattle.rules.specs.Timestamps.{next}
-use Rattle.rules.specs.Words.{each, numbers}
+use Rattle.rules.specs.Words.{each, every, some, from, numbers}
 use Rattle.rules.specs.Zero.{noRecord, noCopy}
-use Rattle.rules.proofs.Lists.{grid-at}
+use Rattle.rules.proofs.Lists.{each-number, grid-at}
 use Rattle.rules.proofs.Events.{out-of-range, refused-own, granted-own}
-use Rattle.rules.proofs.Loops.{below-next, grid-length, grid-of, grid-same}
-use Rattle.engine.specs.Epoch.{storedAt, settledAt}
+use Rattle.rules.proofs.Loops.{every-those, below-next, made, made-next, grid-length, grid-of, grid-same}
+use Rattle.engine.specs.Epoch.{tableOf, failedAt, lostAt, markedOnly, settledAt}
 
 -- ---- the records by chunk and block
 
 module _ (f : ℕ → ℕ → Record) where
-  records-length : length (recordsBy f) ≡ 128
+  pub records-length : length (recordsBy f) ≡ 128
   records-length = grid-length chunkLimit blockLimit f
 
   records-at : (c b : ℕ) → c < chunkLimit → b < blockLimit → getD (recordsBy f) (at c b) noRecord ≡ f c b
@@ -43,11 +43,38 @@ module _ (f : ℕ → ℕ → Record) where
 records-same : (f g : ℕ → ℕ → Record) → ((c b : ℕ) → c < chunkLimit → b < blockLimit → f c b ≡ g c b) → recordsBy f ≡ recordsBy g
 records-same f g h = grid-same chunkLimit blockLimit noRecord f g h
 
+-- ---- the copies of one block, gathered chunk by chunk: below chunk i they are, the others have their marks alone
+
+module _ (t : Table) (b : ℕ) where
+  abbrev gathered : ℕ → List Copy
+  gathered i = made (copyOf t b) (markedOnly t b) chunkLimit i
+
+  pub gathered-begin : each (markedOnly t b) (numbers chunkLimit) ≡ gathered 0
+  unfolding each from
+  gathered-begin = refl
+
+  pub gathered-next : (i : ℕ) → i < chunkLimit → (copies : List Copy) → copies ≡ gathered i
+      → set copies i (record { member = getD copies i noCopy .member; lost = getD copies i noCopy .lost; block = recordOf t i b }) ≡ gathered (i + 1)
+  gathered-next i h copies is =
+      let e : getD copies i noCopy ≡ markedOnly t b i = ap (λ (l : List Copy). getD l i noCopy) is ∙ here in
+      rw (e, is) (made-next (copyOf t b) (markedOnly t b) chunkLimit i h)
+    where
+      here : getD (gathered i) i noCopy ≡ markedOnly t b i
+      here = each-number (λ j. cond (ltb j i) (copyOf t b j) (markedOnly t b j)) chunkLimit i noCopy h ∙ rw (le-ltb i i (omega arith)) refl
+
+  -- code 6 looks at the marks alone
+  pub lost-marks : allLost (copiesOf t b) ≡ allLost (each (markedOnly t b) (numbers chunkLimit))
+  unfolding allLost every each from
+  lost-marks = every-those isLost inSet (copiesOf t b) ∙ sym (every-those isLost inSet (each (markedOnly t b) (numbers chunkLimit)))
+
 -- ---- one block is stored, chunk by chunk: below chunk i it is
 
 module _ (records : List Record) (block : ℕ) (copies : List Copy) where
+  abbrev storedAt : (c b : ℕ) → Record
+  storedAt c b = cond (eqb b block) (getD copies c noCopy .block) (getD records (at c b) noRecord)
+
   abbrev pub storedTo : ℕ → (c b : ℕ) → Record
-  storedTo i c b = cond (ltb c i) (storedAt records block copies c b) (getD records (at c b) noRecord)
+  storedTo i c b = cond (ltb c i) (storedAt c b) (getD records (at c b) noRecord)
 
   pub stored-begin : length records ≡ 128 → records ≡ recordsBy (storedTo 0)
   stored-begin len = records-of (storedTo 0) records len (λ c b _ _. rw (le-ltb c 0 (omega arith)) refl)
@@ -74,8 +101,8 @@ module _ (records : List Record) (block : ℕ) (copies : List Copy) where
           other c b k m (λ x. d (omega arith)) ∙ rw (e, le-ltb i i (omega arith), lt-ltb i (i + 1) (omega arith), ne-eqb b block d) refl
       go c b k m (no e) _ = other c b k m (λ x. e (omega arith)) ∙ rw (below-next i c e) refl
 
-  pub stored-end : recordsBy (storedTo chunkLimit) ≡ recordsBy (storedAt records block copies)
-  stored-end = records-same (storedTo chunkLimit) (storedAt records block copies) (λ c b k _. rw (lt-ltb c chunkLimit k) refl)
+  pub stored-end : recordsBy (storedTo chunkLimit) ≡ recordsBy storedAt
+  stored-end = records-same (storedTo chunkLimit) storedAt (λ c b k _. rw (lt-ltb c chunkLimit k) refl)
 
 -- ---- the blocks are settled one after the other: below block i they are
 
@@ -108,6 +135,15 @@ module _ (t : Table) (e : Event) (ok : wellFormed t ≡ true) (kind : e .kind �
   unfolding step ruleOf
   epoch-step = rw kind refl
 
+  -- its code looks at no record
+  abbrev bare : Table
+  bare = withEpoch (tableOf (t .creation) (t .chunks) []) (t .epoch)
+
+  bare-code : codeOf (epochRefusals bare) ≡ codeOf (epochRefusals t)
+  bare-code =
+      ap (λ (x : Bool). codeOf (some (failedAt (t .chunks)) (numbers chunkLimit) gives 2 ⨾ eqb (t .epoch .0) greatestClock gives 7 ⨾ x gives 6 ⨾ granted))
+      (ap (λ (p : ℕ → Bool). some p (numbers blockLimit)) (fun-ext (λ b. ap (λ (x : Bool). isBlock (t .creation) b && x) (lost-marks bare b ∙ sym (lost-marks t b)))))
+
   abbrev operands : Bool
   operands = unused (e .a) && unused (e .b) && unused (e .c)
 
@@ -115,12 +151,12 @@ module _ (t : Table) (e : Event) (ok : wellFormed t ≡ true) (kind : e .kind �
   unfolding epochRule
   change-outside h = out-of-range t rule ok h ∙ epoch-step
 
-  module _ (inside : operands ≡ true) (code : ℕ) (is : code ≡ codeOf (epochRefusals t)) where
+  module _ (inside : operands ≡ true) (code : ℕ) (is : code ≡ codeOf (epochRefusals bare)) where
     pub change-refused : (code ≡ 0 → ⊥) → refused t code ≡ step t e
     unfolding epochRule
-    change-refused n = refused-own t rule ok inside code is n ∙ epoch-step
+    change-refused n = refused-own t rule ok inside code (is ∙ bare-code) n ∙ epoch-step
 
     pub change-granted : code ≡ 0 → (records : List Record) (chunks : List Chunk) → records ≡ recordsBy (settledAt t) → chunks ≡ each (renewed t) (numbers chunkLimit)
         → done (quietly (withEpoch (withChunks (withRecords t records) chunks) (next (t .epoch)))) ≡ step t e
     unfolding epochRule
-    change-granted z records chunks hr hc = rw (hr, hc) (granted-own t rule ok inside (sym is ∙ z) ∙ epoch-step)
+    change-granted z records chunks hr hc = rw (hr, hc) (granted-own t rule ok inside (sym (is ∙ bare-code) ∙ z) ∙ epoch-step)

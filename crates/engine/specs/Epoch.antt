@@ -1,21 +1,19 @@
--- What the epoch change is given of the table, and how far its loops are
+-- What the epoch change is given of the table, and what it makes of a block and a record
 use Prim.Native.Nat.{ℕ}
 use mathlib.Core.Bool.{Bool, _&&_}
 use mathlib.Core.List.{List, []}
-use lib.Dec.{eqb}
 use lib.ListN.{getD}
 use Rattle.rules.specs.declared.Creation.{Creation}
 use Rattle.rules.specs.declared.Record.{Record}
 use Rattle.rules.specs.declared.Chunk.{Chunk}
 use Rattle.rules.specs.declared.Table.{Table}
 use Rattle.rules.specs.declared.Copy.{Copy}
-use Rattle.rules.specs.Events.{copiesOf}
+use Rattle.rules.specs.Events.{copyOf, copiesOf}
 use Rattle.rules.specs.Kinds.{isFailed}
 use Rattle.rules.specs.Settlement.{settled, allLost}
-use Rattle.rules.specs.Tables.{isBlock, at}
+use Rattle.rules.specs.Tables.{isBlock}
 use Rattle.rules.specs.Timestamps.{noEpoch}
-use Rattle.rules.specs.Words.{if_then_else_}
-use Rattle.rules.specs.Zero.{noRecord, noCopy, noChunk}
+use Rattle.rules.specs.Zero.{zeroRecord, noCopy, noChunk}
 
 -- a table of these parts: the rules about the epoch change look at no more of it
 abbrev pub tableOf : Creation → List Chunk → List Record → Table
@@ -28,10 +26,10 @@ failedAt chunks c = isFailed (getD chunks c noChunk .state)
 abbrev pub lostAt : Table → (block : ℕ) → Bool
 lostAt t b = isBlock (t .creation) b && allLost (copiesOf t b)
 
--- the record of chunk c and block b when block `block` is stored back from its copies
-abbrev pub storedAt : List Record → (block : ℕ) → List Copy → (c b : ℕ) → Record
-storedAt records block copies c b = if eqb b block then getD copies c noCopy .block else getD records (at c b) noRecord
+-- a block's copy by its marks, with a zero record
+abbrev pub markedOnly : Table → (block chunk : ℕ) → Copy
+markedOnly t b c = record { member = copyOf t b c .member; lost = copyOf t b c .lost; block = zeroRecord }
 
--- .. and when every block is settled
+-- the record of chunk c and block b when every block is settled
 abbrev pub settledAt : Table → (c b : ℕ) → Record
 settledAt t c b = getD (settled (copiesOf t b)) c noCopy .block

@@ -40,7 +40,7 @@ fn zero_set() -> Set
     }
 }
 
-fn zero_record() -> Record
+pub fn zero_record() -> Record
     ensures { λ r. ⌜ r ≡ zeroRecord ⌝ }
 {
     let e = Entry {

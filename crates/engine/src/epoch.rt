@@ -16,13 +16,13 @@ ghost use mathlib.Core.Path.{_≡_};
 ghost use mathlib.Core.Bool.{true};
 ghost use mathlib.Core.List.{[]};
 ghost use Rattle.rules.specs.Codes.{codeOf};
-ghost use Rattle.rules.specs.Events.{copiesOf, epochRefusals, renewed, step};
+ghost use Rattle.rules.specs.Events.{epochRefusals, renewed, step};
 ghost use Rattle.rules.specs.Formed.{wellFormed};
 ghost use Rattle.rules.specs.Kinds.{isFailed};
 ghost use Rattle.rules.specs.Limits.{chunkLimit, blockLimit, greatestClock};
 ghost use Rattle.rules.specs.Tables.{recordsBy, withEpoch};
 ghost use Rattle.rules.specs.Words.{each, some, numbers};
-ghost use Rattle.engine.specs.Epoch.{tableOf, failedAt, lostAt, storedAt, settledAt};
+ghost use Rattle.engine.specs.Epoch.{tableOf, failedAt, lostAt, markedOnly, settledAt};
 
 // "Clocks and epochs go up to 4,294,967,295".
 const GREATEST_CLOCK: u64 = 4294967295;
@@ -53,33 +53,27 @@ fn any_failed(chunks: [Chunk; CHUNKS]) -> bool
     false
 }
 
-// A block's copies, one a chunk; what stands in their places at first is written over.
-fn copies_of(
-    k: Creation,
-    chunks: [Chunk; CHUNKS],
-    records: [Record; RECORDS],
-    b: usize,
-) -> [Copy; CHUNKS]
+// A block's copies, one a chunk, by their marks alone: each has a zero record.
+fn marks_of(k: Creation, chunks: [Chunk; CHUNKS], b: usize) -> [Copy; CHUNKS]
     requires { ⌜ b < blockLimit ⌝ }
-    ensures { λ r. ⌜ r ≡ copiesOf (tableOf k chunks records) b ⌝ }
+    ensures { λ r. ⌜ r ≡ each (markedOnly (tableOf k chunks []) b) (numbers chunkLimit) ⌝ }
 {
     let set = k.sets[b];
-    let any = records[b];
-    let begun = Copy {
+    let zero = super::creation::zero_record();
+    let blank = Copy {
         member: false,
         lost: false,
-        block: any,
+        block: zero,
     };
-    let mut out = [begun; CHUNKS];
+    let mut out = [blank; CHUNKS];
     let mut c: usize = 0;
     while c < CHUNKS {
         let member = set.chunks[c];
         let chunk = chunks[c];
-        let held = records[c * BLOCKS + b];
         out[c] = Copy {
             member: member,
             lost: chunk.lost,
-            block: held,
+            block: zero,
         };
         c = c + 1;
     }
@@ -87,12 +81,12 @@ fn copies_of(
 }
 
 // "for some block every chunk of its set is lost"; a block that the store lacks has no set to lose.
-fn any_all_lost(k: Creation, chunks: [Chunk; CHUNKS], records: [Record; RECORDS]) -> bool
-    ensures { λ r. ⌜ r ≡ some (lostAt (tableOf k chunks records)) (numbers blockLimit) ⌝ }
+fn any_all_lost(k: Creation, chunks: [Chunk; CHUNKS]) -> bool
+    ensures { λ r. ⌜ r ≡ some (lostAt (tableOf k chunks [])) (numbers blockLimit) ⌝ }
 {
     let mut b: usize = 0;
     while b < BLOCKS {
-        let copies = copies_of(k, chunks, records, b);
+        let copies = marks_of(k, chunks, b);
         if ((b as u64) < k.blocks) & settle::all_lost(copies) {
             return true;
         }
@@ -102,13 +96,8 @@ fn any_all_lost(k: Creation, chunks: [Chunk; CHUNKS], records: [Record; RECORDS]
 }
 
 // "15 epoch change: no chunk failed (2), then 7, then 6".
-fn change_code(
-    k: Creation,
-    epoch: Epoch,
-    chunks: [Chunk; CHUNKS],
-    records: [Record; RECORDS],
-) -> u64
-    ensures { λ r. ⌜ r ≡ codeOf (epochRefusals (withEpoch (tableOf k chunks records) epoch)) ⌝ }
+fn change_code(k: Creation, epoch: Epoch, chunks: [Chunk; CHUNKS]) -> u64
+    ensures { λ r. ⌜ r ≡ codeOf (epochRefusals (withEpoch (tableOf k chunks []) epoch)) ⌝ }
 {
     if any_failed(chunks) {
         return 2;
@@ -116,29 +105,14 @@ fn change_code(
     if epoch.0 == GREATEST_CLOCK {
         return 7;
     }
-    if any_all_lost(k, chunks, records) {
+    if any_all_lost(k, chunks) {
         return 6;
     }
     0
 }
 
-// The records with one block's copies stored back, a record a chunk.
-fn store_block(records: [Record; RECORDS], b: usize, copies: [Copy; CHUNKS]) -> [Record; RECORDS]
-    requires { ⌜ b < blockLimit ⌝ }
-    ensures { λ r. ⌜ r ≡ recordsBy (storedAt records b copies) ⌝ }
-{
-    let mut out = records;
-    let mut c: usize = 0;
-    while c < CHUNKS {
-        let copy = copies[c];
-        let held = copy.block;
-        out[c * BLOCKS + b] = held;
-        c = c + 1;
-    }
-    out
-}
-
-// "Settling takes all copies of one block together": each block's copies are gathered, settled and stored back.
+// "Settling takes all copies of one block together": they are gathered, settled and stored back. The inner loops stand
+// here and in no function of their own, since the records are too large to hand over for each block.
 fn settle_blocks(
     k: Creation,
     chunks: [Chunk; CHUNKS],
@@ -149,10 +123,23 @@ fn settle_blocks(
     let mut out = records;
     let mut b: usize = 0;
     while b < BLOCKS {
-        let copies = copies_of(k, chunks, records, b);
+        let mut copies = marks_of(k, chunks, b);
+        let mut c: usize = 0;
+        while c < CHUNKS {
+            let held = records[c * BLOCKS + b];
+            let mut copy = copies[c];
+            copy.block = held;
+            copies[c] = copy;
+            c = c + 1;
+        }
         let settled = settle::settle(copies);
-        let next = store_block(out, b, settled);
-        out = next;
+        let mut d: usize = 0;
+        while d < CHUNKS {
+            let copy = settled[d];
+            let held = copy.block;
+            out[d * BLOCKS + b] = held;
+            d = d + 1;
+        }
         b = b + 1;
     }
     out
@@ -192,11 +179,11 @@ pub fn change(t: Table, e: Event) -> Answer
     let k = t.creation;
     let epoch = t.epoch;
     let chunks = t.chunks;
-    let records = t.records;
-    let code = change_code(k, epoch, chunks, records);
+    let code = change_code(k, epoch, chunks);
     if code != 0 {
         return super::refuse(t, code);
     }
+    let records = t.records;
     let settled = settle_blocks(k, chunks, records);
     let renewed = renew(k, epoch, chunks);
     let next = Epoch(epoch.0 + 1);

@@ -1,6 +1,7 @@
 use Prim.Native.Nat.{_-_, _≤_}
 use mathlib.Core.Path.{_≡_, sym, ap, _∙_}
 use mathlib.Core.Bool.{Bool, false, _&&_}
+use mathlib.Core.List.{[]}
 use native.Mathlib.Omega.{arith}
 use Rattle.rules.specs.declared.Table.{Table}
 use Rattle.rules.specs.Settlement.{allLost}
@@ -8,18 +9,19 @@ use Rattle.rules.specs.Tables.{isBlock}
 use Rattle.rules.specs.Words.{some, numbers}
 use Rattle.rules.proofs.Loops.{some-begin, some-next, some-stop}
 use Rattle.engine.specs.Epoch.{tableOf, lostAt}
+use Rattle.engine.proofs.EpochLaws.{lost-marks}
 use borrow.Author.Needs.{needs}
 use Rattle.engine.proofs.epoch.any_all_lost.Statement.{statement}
 use Rattle.engine.proofs.epoch.any_all_lost.Tie as tie
 
 abbrev Inv-loop : tie.InvT-loop
-Inv-loop k chunks records b₀ b = (b ≤ 16) × (some (lostAt (tableOf k chunks records)) (numbers b) ≡ false)
+Inv-loop k chunks b₀ b = (b ≤ 16) × (some (lostAt (tableOf k chunks [])) (numbers b) ≡ false)
 
 abbrev μ-loop : tie.MeasureT-loop
-μ-loop k chunks records b₀ b = 16 - b
+μ-loop k chunks b₀ b = 16 - b
 
 abbrev table : tie.Start Inv-loop μ-loop → Table
-table c = tableOf (c .args .k) (c .args .chunks) (c .args .records)
+table c = tableOf (c .args .k) (c .args .chunks) []
 
 -- what the code asks of a block is the rule's question
 lost : (c : tie.After-all-lost Inv-loop μ-loop) →
@@ -27,13 +29,14 @@ lost : (c : tie.After-all-lost Inv-loop μ-loop) →
     lostAt (table (l .before)) (l .loop .b) ≡ isBlock (l .before .args .k) (l .loop .b) && c .all-lost .result
 lost c =
     let l = c .before .before .before .before in
-    ap (λ (x : Bool). isBlock (l .before .args .k) (l .loop .b) && x) (ap allLost (sym (c .before .before .copies-of .ensures)) ∙ sym (c .all-lost .ensures))
+    ap (λ (x : Bool). isBlock (l .before .args .k) (l .loop .b) && x) (lost-marks (table (l .before)) (l .loop .b)
+    ∙ ap allLost (sym (c .before .before .marks-of .ensures)) ∙ sym (c .all-lost .ensures))
 
 loop-holds : tie.Need-loop-holds Inv-loop μ-loop
 loop-holds c = (search needs, some-begin _)
 
-copies-of-requires : tie.Need-copies-of-requires Inv-loop μ-loop
-copies-of-requires c κs = search needs
+marks-of-requires : tie.Need-marks-of-requires Inv-loop μ-loop
+marks-of-requires c κs = search needs
 
 all-lost-requires : tie.Need-all-lost-requires Inv-loop μ-loop
 all-lost-requires c κs = search needs
@@ -66,7 +69,7 @@ any-all-lost-spec =
     Inv-loop
     μ-loop
     loop-holds
-    copies-of-requires
+    marks-of-requires
     all-lost-requires
     returns
     add-b

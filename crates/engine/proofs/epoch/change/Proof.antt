@@ -39,7 +39,7 @@ refuse-requires-2 c κs = search needs
 returns-2 : tie.Need-returns-2
 returns-2 c =
     let k = c .before .before in
-    let i = k .before .before .before .before .before in
+    let i = k .before .before .before .before in
     let s = i .before .before .before .before in
     c .refuse2 .ensures ∙ change-refused (s .args .t) (s .args .e) (s .pre .0) (s .pre .1) (inside i) _ (k .change-code .ensures) (c .before .if2 .taken)
 
@@ -61,9 +61,9 @@ grant-requires c κs = search needs
 returns-3 : tie.Need-returns-3
 returns-3 c =
     let r = c .before .before in
-    let n = r .before .before in
+    let n = r .before .before .before in
     let k = n .before in
-    let i = k .before .before .before .before .before in
+    let i = k .before .before .before .before in
     let s = i .before .before .before .before in
     c .grant .ensures
     ∙ change-granted (s .args .t) (s .args .e) (s .pre .0) (s .pre .1) (inside i) _ (k .change-code .ensures) (n .if2 .left) _ _ (r .before .settle-blocks .ensures) (r .renew .ensures)
