@@ -19,9 +19,6 @@ ghost use Rattle.rules.specs.Limits.{chunkLimit};
 ghost use Rattle.rules.specs.Zero.{zeroWaiting};
 ghost use Rattle.engine.specs.Parts.{isChunkChange, chunkRanges, changedChunk, withoutWaiting};
 
-// "Clocks .. go up to 4,294,967,295".
-const GREATEST_CLOCK: u64 = 4294967295;
-
 // What an event makes of its chunk: a refusal's code, or 0 and the chunk after it.
 struct Changed {
     code: u64,
@@ -34,7 +31,7 @@ fn in_range(k: Creation, e: Event) -> bool
 {
     let kind = e.kind;
     if kind == 16 {
-        return (e.a < k.chunks) & (e.b < k.blocks) & (e.c <= GREATEST_CLOCK);
+        return (e.a < k.chunks) & (e.b < k.blocks) & (e.c <= rules::GREATEST_CLOCK);
     }
     if kind == 9 {
         return (e.a < k.chunks) & (e.b < k.blocks) & (e.c == 0);

@@ -24,9 +24,6 @@ ghost use Rattle.rules.specs.Tables.{recordsBy, withEpoch};
 ghost use Rattle.rules.specs.Words.{each, some, numbers};
 ghost use Rattle.engine.specs.Epoch.{tableOf, failedAt, lostAt, markedOnly, settledAt};
 
-// "Clocks and epochs go up to 4,294,967,295".
-const GREATEST_CLOCK: u64 = 4294967295;
-
 fn is_failed(state: State) -> bool
     ensures { λ r. ⌜ r ≡ isFailed state ⌝ }
 {
@@ -102,7 +99,7 @@ fn change_code(k: Creation, epoch: Epoch, chunks: [Chunk; CHUNKS]) -> u64
     if any_failed(chunks) {
         return 2;
     }
-    if epoch.0 == GREATEST_CLOCK {
+    if epoch.0 == rules::GREATEST_CLOCK {
         return 7;
     }
     if any_all_lost(k, chunks) {

@@ -19,9 +19,6 @@ ghost use Rattle.rules.specs.Limits.{blockLimit};
 ghost use Rattle.rules.specs.Tables.{setOf};
 ghost use Rattle.engine.specs.Parts.{isHostChange, hostRanges, changeRefusals, changedHost};
 
-// "Clocks .. go up to 4,294,967,295".
-const GREATEST_CLOCK: u64 = 4294967295;
-
 // "number outside its range .. unused operand not 0" (1): most kinds have the host alone.
 fn in_range(k: Creation, e: Event) -> bool
     ensures { λ r. ⌜ r ≡ hostRanges k e ⌝ }
@@ -30,7 +27,7 @@ fn in_range(k: Creation, e: Event) -> bool
     match kind {
         1 => (e.a < k.hosts) & (e.b < k.blocks) & (e.c == 0),
         2 => (e.a < k.hosts) & (e.b < k.blocks),
-        3 => (e.a < k.hosts) & ((1 <= e.b) & (e.b <= GREATEST_CLOCK)) & (e.c < k.chunks),
+        3 => (e.a < k.hosts) & ((1 <= e.b) & (e.b <= rules::GREATEST_CLOCK)) & (e.c < k.chunks),
         _ => (e.a < k.hosts) & (e.b == 0) & (e.c == 0),
     }
 }

@@ -25,9 +25,6 @@ use rules::Queue;
 use rules::Set;
 use rules::Timestamp;
 
-// "Clocks .. go up to 4,294,967,295".
-const GREATEST_CLOCK: u64 = 4294967295;
-
 // An operation is a read or a write.
 fn is_reading(a: Action) -> bool
     ensures { λ r. ⌜ r ≡ isReading a ⌝ }
@@ -306,7 +303,7 @@ pub fn draw(k: Keeper, clock: u64) -> Drawn
     if rules::HOSTS as u64 <= k.host {
         return refuse(k, 1);
     }
-    if GREATEST_CLOCK < clock {
+    if rules::GREATEST_CLOCK < clock {
         return refuse(k, 1);
     }
     if clock <= k.last {

@@ -16,6 +16,11 @@ pub const PLACES: usize = 64;
 
 pub const RECORDS: usize = 128;
 
+// "Clocks and epochs go up to 4,294,967,295"; a timestamp is clock x 8 + host number.
+pub const GREATEST_CLOCK: u64 = 4294967295;
+
+pub const GREATEST_TIMESTAMP: u64 = 34359738367;
+
 // Clock x 8 + host number; 0 means "never".
 pub struct Timestamp(pub u64);
 

@@ -32,12 +32,6 @@ use rules::Table;
 use rules::Timestamp;
 use rules::Waiting;
 
-// "Clocks and epochs go up to 4,294,967,295"; the age limit too.
-const GREATEST_CLOCK: u64 = 4294967295;
-
-// "a timestamp anything up to 34,359,738,367"
-const GREATEST_TIMESTAMP: u64 = 34359738367;
-
 // The store's counts: all that its parts are held to.
 struct Counts {
     hosts: u64,
@@ -144,7 +138,7 @@ pub fn is_creation(k: Creation) -> bool
         & ((1 <= k.chunks) & (k.chunks <= rules::CHUNKS as u64))
         & ((1 <= k.blocks) & (k.blocks <= rules::BLOCKS as u64))
         & sets_formed(k)
-        & (k.age <= GREATEST_CLOCK)
+        & (k.age <= rules::GREATEST_CLOCK)
 }
 
 // ---- a host
@@ -201,7 +195,7 @@ fn attempt_formed(n: Counts, count: u64, a: Attempt) -> bool
 {
     if 0 < a.timestamp.0 {
         let s = a.outstanding;
-        return (1 <= count) & (a.timestamp.0 <= GREATEST_TIMESTAMP) & of_store(n, s);
+        return (1 <= count) & (a.timestamp.0 <= rules::GREATEST_TIMESTAMP) & of_store(n, s);
     }
     is_zero_attempt(a)
 }
@@ -214,8 +208,8 @@ fn host_formed(n: Counts, h: Host) -> bool
     let a = h.attempt;
     queue_formed(n, q)
         & attempt_formed(n, q.count, a)
-        & (h.epoch.0 <= GREATEST_CLOCK)
-        & (h.clock <= GREATEST_CLOCK)
+        & (h.epoch.0 <= rules::GREATEST_CLOCK)
+        & (h.clock <= rules::GREATEST_CLOCK)
 }
 
 // A queue of none has every place unused.
@@ -325,7 +319,9 @@ fn is_zero_entry(e: Entry) -> bool
 fn entry_formed(n: Counts, e: Entry) -> bool
     ensures { λ r. ⌜ r ≡ entryFormed (counted n) e ⌝ }
 {
-    (e.timestamp.0 <= GREATEST_TIMESTAMP) & (e.sender < n.hosts) & (e.epoch.0 <= GREATEST_CLOCK)
+    (e.timestamp.0 <= rules::GREATEST_TIMESTAMP)
+        & (e.sender < n.hosts)
+        & (e.epoch.0 <= rules::GREATEST_CLOCK)
 }
 
 // One of the count, not below the one ahead of it, or an unused place.
@@ -373,7 +369,9 @@ fn record_formed(n: Counts, x: Record) -> bool
     ensures { λ r. ⌜ r ≡ recordFormed (counted n) x ⌝ }
 {
     let w = x.waiting;
-    (x.read.0 <= GREATEST_TIMESTAMP) & (x.write.0 <= GREATEST_TIMESTAMP) & waiting_formed(n, w)
+    (x.read.0 <= rules::GREATEST_TIMESTAMP)
+        & (x.write.0 <= rules::GREATEST_TIMESTAMP)
+        & waiting_formed(n, w)
 }
 
 // A waiting list of none has every place unused.
@@ -420,8 +418,8 @@ fn header_formed(n: Counts, h: Header, epoch: Epoch) -> bool
     (h.host < n.hosts)
         & (h.chunk < n.chunks)
         & (h.block < rules::BLOCKS as u64)
-        & (h.timestamp.0 <= GREATEST_TIMESTAMP)
-        & (epoch.0 <= GREATEST_CLOCK)
+        & (h.timestamp.0 <= rules::GREATEST_TIMESTAMP)
+        & (epoch.0 <= rules::GREATEST_CLOCK)
 }
 
 // "the first four also the epoch the host knows"
@@ -477,7 +475,7 @@ pub fn well_formed(t: Table) -> bool
     if !is_creation(k) {
         return false;
     }
-    if GREATEST_CLOCK < t.epoch.0 {
+    if rules::GREATEST_CLOCK < t.epoch.0 {
         return false;
     }
     let n = Counts {
