@@ -2,17 +2,25 @@
 use Prim.Native.Nat.{ℕ, _≤_, _<_}
 use mathlib.Core.Path.{_≡_, refl, sym, ap, _∙_}
 use mathlib.Core.Bool.{Bool, true, false}
+use mathlib.Core.List.{List}
+use lib.Dec.{eqb}
 use borrow.Author.Tests.{eq-eqb, ne-eqb, lt-ltb, le-ltb, le-leb, lt-leb}
 use Rattle.rules.specs.declared.Epoch.{Epoch}
 use Rattle.rules.specs.declared.Kind.{Kind}
 use Rattle.rules.specs.declared.Entry.{Entry}
 use Rattle.rules.specs.declared.Waiting.{Waiting}
 use Rattle.rules.specs.declared.Record.{Record}
+use Rattle.rules.specs.declared.Chunk.{Chunk}
 use Rattle.rules.specs.declared.Header.{Header}
 use Rattle.rules.specs.declared.Message.{Message}
-use Rattle.rules.specs.Chunks.{withWaiting, answering, silent, isOutOfOrder, waits, arrived, decides, entryOf, runs, ran}
-use Rattle.rules.specs.Kinds.{isRead}
+use Rattle.rules.specs.declared.Slot.{Slot}
+use Rattle.rules.specs.declared.Arrived.{Arrived}
+use Rattle.rules.specs.Chunks.{withWaiting, answering, silent, isOutOfOrder, waits, arrived, decides, entryOf, atChunk, runs, ran}
+use Rattle.rules.specs.Codes.{Row, codeOf}
+use Rattle.rules.specs.Kinds.{isRead, isNormal}
 use Rattle.rules.specs.Waiting.{inserted, head, headRemoved, marked}
+use Rattle.rules.specs.Words.{if_then_else_}
+use Rattle.chunk.specs.Changes.{changed, arrives, ranOr}
 
 -- ---- "Read or prewrite at a chunk, in this order"
 
@@ -66,3 +74,25 @@ unfolding ran
 ran-as chunk block r e w he hw kind hk =
     ap (runs chunk block (withWaiting r w) e) (sym hk) ∙ ap (λ (x : Entry). runs chunk block (withWaiting r w) x (x .kind)) he
     ∙ ap (λ (x : Waiting). runs chunk block (withWaiting r x) (head (r .waiting)) (head (r .waiting) .kind)) hw
+
+-- ---- a message at a chunk, by its state
+
+module _ (blocks : ℕ) (c : Chunk) (r : Record) (m : Message) where
+  pub noticed : isNormal (c .state) ≡ true → atChunk blocks (c .epoch) r m ≡ arrives blocks c r m
+  noticed h = rw h refl
+
+  pub unnoticed : isNormal (c .state) ≡ false → silent r ≡ arrives blocks c r m
+  unnoticed h = rw h refl
+
+-- ---- a refusal leaves all as it was
+
+module _ (rows : List Row) (code : ℕ) (is : code ≡ codeOf rows) where
+  pub changed-as : (old now new : Chunk) → now ≡ new → record { code = code; chunk = if eqb code 0 then now else old } ≡ changed rows old new
+  changed-as old now new h = rw (is, h) refl
+
+  module _ (old : Record) (new : Arrived) where
+    pub run-refused : (code ≡ 0 → ⊥) → record { code = code; block = old; reply = Slot.Empty } ≡ ranOr rows old new
+    run-refused h = rw (sym is, ne-eqb _ _ h) refl
+
+    pub run-granted : (now : Arrived) → code ≡ 0 → now ≡ new → record { code = code; block = now .block; reply = now .reply } ≡ ranOr rows old new
+    run-granted now h e = rw (sym is, eq-eqb _ _ h, e) refl

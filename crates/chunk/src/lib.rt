@@ -2,6 +2,7 @@
 ghost use mathlib.Core.Path.{_≡_};
 ghost use mathlib.Core.Bool.{true, false};
 ghost use Prim.Native.Nat.{_<_, _^_};
+ghost use lib.Dec.{eqb};
 ghost use lib.IntN.{pos, _-ℤ_};
 ghost use lib.Signed.{ltZ};
 ghost use Rattle.rules.specs.declared.Kind.{Kind};
@@ -9,6 +10,8 @@ ghost use Rattle.rules.specs.Codes.{codeOf};
 ghost use Rattle.rules.specs.Kinds.{isRead, isUndecided, isNormal, isNolease, isFailed};
 ghost use Rattle.rules.specs.Timestamps.{later};
 ghost use Rattle.rules.specs.Chunks.{withState, withValue, withWrite, answering, silent, isOutOfOrder, waits, arrived, decides, atChunk, runRefusals, runs, ran, failRefusals, failed, recoverRefusals, recovered, takeLeaseRefusals, leaseTaken, giveLeaseRefusals, leaseGiven, isOverdue, overdueRefusals, overdue};
+ghost use Rattle.rules.specs.Words.{if_then_else_};
+ghost use Rattle.chunk.specs.Changes.{changed, arrives, ranOr};
 use rules::Arrived;
 use rules::Chunk;
 use rules::Entry;
@@ -21,6 +24,19 @@ use rules::Slot;
 use rules::State;
 use rules::Timestamp;
 use rules::Waiting;
+
+// What an event makes of its chunk: 0 and the chunk after it, or a refusal's code and the chunk as it was.
+pub struct Changed {
+    pub code: u64,
+    pub chunk: Chunk,
+}
+
+// What a run makes of its record: 0, the record after it and the reply, if any; or a refusal's code, the record as it was, no reply.
+pub struct Ran {
+    pub code: u64,
+    pub block: Record,
+    pub reply: Slot,
+}
 
 // The greatest number that an i64 holds.
 const GREATEST_SIGNED: u64 = 9223372036854775807;
@@ -122,6 +138,22 @@ fn with_state(c: Chunk, state: State) -> Chunk
     }
 }
 
+// "0 done", the new chunk; else the refusal's code, and the old one.
+fn unless_refused(code: u64, old: Chunk, new: Chunk) -> Changed
+    ensures { λ r. ⌜ r ≡ record { code = code; chunk = if eqb code 0 then new else old } ⌝ }
+{
+    if code != 0 {
+        return Changed {
+            code: code,
+            chunk: old,
+        };
+    }
+    Changed {
+        code: code,
+        chunk: new,
+    }
+}
+
 // "timestamp below last write (a prewrite: or below last read), out of order".
 fn is_out_of_order(k: Kind, t: Timestamp, r: Record) -> bool
     ensures { λ b. ⌜ b ≡ isOutOfOrder k t r ⌝ }
@@ -194,7 +226,7 @@ fn commit_or_abort(blocks: u64, r: Record, header: Header, commit: bool) -> Arri
 }
 
 // A message at a chunk of the given epoch, with its record of the message's block. (Replies go to hosts.)
-pub fn arrive(blocks: u64, current: Epoch, r: Record, m: Message) -> Arrived
+fn at_chunk(blocks: u64, current: Epoch, r: Record, m: Message) -> Arrived
     ensures { λ a. ⌜ a ≡ atChunk blocks current r m ⌝ }
 {
     match m {
@@ -222,8 +254,19 @@ pub fn arrive(blocks: u64, current: Epoch, r: Record, m: Message) -> Arrived
     }
 }
 
+// A message at a chunk, with its record of the message's block. "A failed or nolease chunk .. take no notice".
+pub fn arrive(blocks: u64, c: Chunk, r: Record, m: Message) -> Arrived
+    ensures { λ a. ⌜ a ≡ arrives blocks c r m ⌝ }
+{
+    let state = c.state;
+    if is_normal(state) {
+        return at_chunk(blocks, c.epoch, r, m);
+    }
+    silent(r)
+}
+
 // "normal, head exists and isn't undecided (2); room if the head is a read (5)".
-pub fn run_code(state: State, w: Waiting, free: u64) -> u64
+fn run_code(state: State, w: Waiting, free: u64) -> u64
     ensures { λ r. ⌜ r ≡ codeOf (runRefusals state w free) ⌝ }
 {
     if !is_normal(state) {
@@ -281,7 +324,7 @@ fn run_committed(r: Record, t: Timestamp, v: u64) -> Arrived
 }
 
 // "The head is removed; for an aborted one that is all". (An undecided head is refused.)
-pub fn run(chunk: u64, block: u64, r: Record) -> Arrived
+fn run_head(chunk: u64, block: u64, r: Record) -> Arrived
     ensures { λ a. ⌜ a ≡ ran chunk block r ⌝ }
 {
     let w = r.waiting;
@@ -299,8 +342,31 @@ pub fn run(chunk: u64, block: u64, r: Record) -> Arrived
     }
 }
 
+// The head of a waiting list runs, or is refused.
+pub fn run(chunk: u64, block: u64, state: State, r: Record, free: u64) -> Ran
+    ensures { λ a. ⌜ a ≡ ranOr (runRefusals state (r .waiting) free) r (ran chunk block r) ⌝ }
+{
+    let w = r.waiting;
+    let code = run_code(state, w, free);
+    if code != 0 {
+        return Ran {
+            code: code,
+            block: r,
+            reply: Slot::Empty,
+        };
+    }
+    let a = run_head(chunk, block, r);
+    let next = a.block;
+    let reply = a.reply;
+    Ran {
+        code: code,
+        block: next,
+        reply: reply,
+    }
+}
+
 // "from normal or nolease".
-pub fn fail_code(state: State) -> u64
+fn fail_code(state: State) -> u64
     ensures { λ r. ⌜ r ≡ codeOf (failRefusals state) ⌝ }
 {
     if is_failed(state) {
@@ -310,7 +376,7 @@ pub fn fail_code(state: State) -> u64
 }
 
 // "its reconciliation set go, lost is set; .. epoch persist". (The waiting entries are the records'.)
-pub fn fail(c: Chunk) -> Chunk
+fn failed(c: Chunk) -> Chunk
     ensures { λ r. ⌜ r ≡ failed c ⌝ }
 {
     let epoch = c.epoch;
@@ -322,8 +388,16 @@ pub fn fail(c: Chunk) -> Chunk
     }
 }
 
+// The chunk fails.
+pub fn fail(c: Chunk) -> Changed
+    ensures { λ r. ⌜ r ≡ changed (failRefusals (c .state)) c (failed c) ⌝ }
+{
+    let state = c.state;
+    unless_refused(fail_code(state), c, failed(c))
+}
+
 // "failed to nolease. .. Else 2".
-pub fn recover_code(state: State) -> u64
+fn recover_code(state: State) -> u64
     ensures { λ r. ⌜ r ≡ codeOf (recoverRefusals state) ⌝ }
 {
     if !is_failed(state) {
@@ -333,14 +407,15 @@ pub fn recover_code(state: State) -> u64
 }
 
 // "failed to nolease": what it lost stays lost.
-pub fn recover(c: Chunk) -> Chunk
-    ensures { λ r. ⌜ r ≡ recovered c ⌝ }
+pub fn recover(c: Chunk) -> Changed
+    ensures { λ r. ⌜ r ≡ changed (recoverRefusals (c .state)) c (recovered c) ⌝ }
 {
-    with_state(c, State::Nolease)
+    let state = c.state;
+    unless_refused(recover_code(state), c, with_state(c, State::Nolease))
 }
 
 // "normal to nolease. .. Else 2".
-pub fn take_lease_code(state: State) -> u64
+fn take_lease_code(state: State) -> u64
     ensures { λ r. ⌜ r ≡ codeOf (takeLeaseRefusals state) ⌝ }
 {
     if !is_normal(state) {
@@ -350,14 +425,15 @@ pub fn take_lease_code(state: State) -> u64
 }
 
 // "normal to nolease".
-pub fn take_lease(c: Chunk) -> Chunk
-    ensures { λ r. ⌜ r ≡ leaseTaken c ⌝ }
+pub fn take_lease(c: Chunk) -> Changed
+    ensures { λ r. ⌜ r ≡ changed (takeLeaseRefusals (c .state)) c (leaseTaken c) ⌝ }
 {
-    with_state(c, State::Nolease)
+    let state = c.state;
+    unless_refused(take_lease_code(state), c, with_state(c, State::Nolease))
 }
 
 // "nolease to normal, if not lost. Else 2".
-pub fn give_lease_code(state: State, lost: bool) -> u64
+fn give_lease_code(state: State, lost: bool) -> u64
     ensures { λ r. ⌜ r ≡ codeOf (giveLeaseRefusals state lost) ⌝ }
 {
     if !is_nolease(state) {
@@ -370,10 +446,15 @@ pub fn give_lease_code(state: State, lost: bool) -> u64
 }
 
 // "nolease to normal".
-pub fn give_lease(c: Chunk) -> Chunk
-    ensures { λ r. ⌜ r ≡ leaseGiven c ⌝ }
+pub fn give_lease(c: Chunk) -> Changed
+    ensures { λ r. ⌜ r ≡ changed (giveLeaseRefusals (c .state) (c .lost)) c (leaseGiven c) ⌝ }
 {
-    with_state(c, State::Normal)
+    let state = c.state;
+    unless_refused(
+        give_lease_code(state, c.lost),
+        c,
+        with_state(c, State::Normal),
+    )
 }
 
 // "The difference may be below zero, and then nothing is overdue": a signed difference, of numbers that an i64 holds.
@@ -401,7 +482,7 @@ fn is_overdue(now: u64, t: Timestamp, age: u64) -> bool
 }
 
 // "normal, head undecided, and now minus the head's clock above the age limit, else 2".
-pub fn overdue_code(state: State, w: Waiting, now: u64, age: u64) -> u64
+fn overdue_code(state: State, w: Waiting, now: u64, age: u64) -> u64
     ensures { λ r. ⌜ r ≡ codeOf (overdueRefusals state w now age) ⌝ }
 {
     if !is_normal(state) {
@@ -420,7 +501,7 @@ pub fn overdue_code(state: State, w: Waiting, now: u64, age: u64) -> u64
 }
 
 // "The block joins the set". (A store's block is below 16; of any other there is no mark.)
-pub fn overdue(c: Chunk, block: u64) -> Chunk
+fn join_set(c: Chunk, block: u64) -> Chunk
     ensures { λ r. ⌜ r ≡ overdue c block ⌝ }
 {
     let mut out = c;
@@ -429,4 +510,12 @@ pub fn overdue(c: Chunk, block: u64) -> Chunk
         out.reconcile[b] = true;
     }
     out
+}
+
+// A block is overdue.
+pub fn overdue(c: Chunk, block: u64, w: Waiting, now: u64, age: u64) -> Changed
+    ensures { λ r. ⌜ r ≡ changed (overdueRefusals (c .state) w now age) c (overdue c block) ⌝ }
+{
+    let state = c.state;
+    unless_refused(overdue_code(state, w, now, age), c, join_set(c, block))
 }

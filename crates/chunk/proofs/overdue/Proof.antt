@@ -1,28 +1,22 @@
 -- `chunk::overdue` meets its contract
-use mathlib.Core.Path.{_≡_, sym, ap}
-use mathlib.Core.Bool.{true}
-use native.Mathlib.Omega.{arith}
+use mathlib.Core.Path.{_∙_}
+use Rattle.chunk.proofs.Laws.{changed-as}
 use borrow.Author.Needs.{needs}
-use lib.ListN.{length, length-map}
-use lib.Seq.{set-out}
-use Rattle.rules.specs.Chunks.{withReconcile}
 use Rattle.chunk.proofs.overdue.Statement.{statement}
 use Rattle.chunk.proofs.overdue.Tie as tie
 
-len : (c : tie.Start) → length (c .args .c .reconcile) ≡ 16
-len c = simp length-map at (c .good .0 .1 .1 .1 .1 .1 .0 .1 .0 .1)
+overdue-code-requires : tie.Need-overdue-code-requires
+overdue-code-requires c κs = search needs
 
-element-write-out : tie.Need-element-write-out
-element-write-out c = search needs
+join-set-requires : tie.Need-join-set-requires
+join-set-requires c κs = search needs
+
+unless-refused-requires : tie.Need-unless-refused-requires
+unless-refused-requires c κs = search needs
 
 returns : tie.Need-returns
-returns c = search needs
-
-returns-2 : tie.Need-returns-2
-returns-2 c =
-    let a = c .before .args in
-    let k = len (c .before) in
-    ap (withReconcile (a .c)) (sym (set-out (a .c .reconcile) (a .block) true (omega arith)))
+returns c = c .unless-refused .ensures ∙ changed-as _ _ (c .before .before .overdue-code .ensures) _ _ _ (c .before .join-set .ensures)
 
 pub overdue-spec : {M : Type 1} → statement M
-overdue-spec = tie.close (tie.spec element-write-out returns returns-2)
+overdue-spec =
+    tie.close (tie.spec overdue-code-requires join-set-requires unless-refused-requires returns)
