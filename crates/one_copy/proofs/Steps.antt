@@ -17,7 +17,7 @@ use Rattle.rules.specs.Limits.{greatestClock, placeLimit, oneTo, upTo}
 use Rattle.rules.specs.Network.{freePlaces, howMany, removed}
 use Rattle.rules.specs.Tables.{isHost, isChunk, isBlock, hostOf, chunkOf, recordOf, slotOf, withPlaces}
 use Rattle.rules.specs.Timestamps.{stamp}
-use Rattle.rules.proofs.Events.{rows-granted, answered-granted, step-code}
+use Rattle.rules.proofs.Events.{by-number, rows-granted, answered-granted, step-code}
 use Rattle.rules.proofs.Formed.{Formed, formed, chunk-place, block-place, waiting-of}
 use Rattle.rules.proofs.Lists.{both, three, walk}
 use Rattle.rules.proofs.Relies.{intake-place, run-head, place-message}
@@ -31,29 +31,6 @@ use Rattle.one_copy.proofs.EvHost.{ev-intake, ev-timeout, ev-refresh, e
 use Rattle.one_copy.proofs.EvChunk.{ev-run, ev-recover, ev-take, ev-give, ev-overdue, ev-fail}
 use Rattle.one_copy.proofs.EvEpoch.{committedBy, ev-epoch, epoch-less}
 use Rattle.one_copy.proofs.EvNet.{ev-deliver, ev-drop}
-
--- what holds of each rule at its kind holds of an event's rule
-module _ (P : Rule → Type 0) (t : Table) (e : Event) where
-  -- the sixteen kinds, and any other
-  by-number : (e .kind ≡ 1 → P (readRule t (e .a) (e .b) (e .c))) → (e .kind ≡ 2 → P (writeRule t (e .a) (e .b) (e .c)))
-      → (e .kind ≡ 3 → P (startRule t (e .a) (e .b) (e .c)))
-      → (e .kind ≡ 4 → P (deliverRule t (e .a) (e .b) (e .c))) → (e .kind ≡ 5 → P (dropRule t (e .a) (e .b) (e .c)))
-      → (e .kind ≡ 6 → P (finishRule t (e .a) (e .b) (e .c)))
-      → (e .kind ≡ 7 → P (timeoutRule t (e .a) (e .b) (e .c))) → (e .kind ≡ 8 → P (refreshRule t (e .a) (e .b) (e .c)))
-      → (e .kind ≡ 9 → P (runRule t (e .a) (e .b) (e .c)))
-      → (e .kind ≡ 10 → P (stopRule t (e .a) (e .b) (e .c))) → (e .kind ≡ 11 → P (failRule t (e .a) (e .b) (e .c)))
-      → (e .kind ≡ 12 → P (recoverRule t (e .a) (e .b) (e .c)))
-      → (e .kind ≡ 13 → P (takeLeaseRule t (e .a) (e .b) (e .c))) → (e .kind ≡ 14 → P (giveLeaseRule t (e .a) (e .b) (e .c)))
-      → (e .kind ≡ 15 → P (epochRule t (e .a) (e .b) (e .c)))
-      → (e .kind ≡ 16 → P (overdueRule t (e .a) (e .b) (e .c))) → P (unknownRule t) → P (ruleOf t e)
-  unfolding ruleOf
-  by-number p1 p2 p3 p4 p5 p6 p7 p8 p9 p10 p11 p12 p13 p14 p15 p16 p =
-      kind 1 p1 (kind 2 p2 (kind 3 p3
-      (kind 4 p4 (kind 5 p5 (kind 6 p6 (kind 7 p7 (kind 8 p8 (kind 9 p9 (kind 10 p10 (kind 11 p11 (kind 12 p12
-      (kind 13 p13 (kind 14 p14 (kind 15 p15 (kind 16 p16 p)))))))))))))))
-    where
-      kind : (n : ℕ) {r s : Rule} → (e .kind ≡ n → P r) → P s → P (cond (eqb (e .kind) n) r s)
-      kind n {r} {s} p q = walk P (eqb (e .kind) n) r s (λ k. p (eqb-true (e .kind) n k)) (λ _. q)
 
 -- a good table: its history, the block of each timestamp, its shape
 pub record Whole (b : ℕ) (h : Hist) (blk : ℕ → ℕ) (t : Table) : Type 0 where

@@ -20,19 +20,22 @@ use Rattle.rules.proofs.Refusals.{First, Free, coded, refused-exactly, 
 -- ---- what holds of each of the sixteen rules, and of the one for unknown kinds, holds of an event's rule
 
 module _ (P : Rule → Type 0) (t : Table) (e : Event) where
-  pub by-kind : P (readRule t (e .a) (e .b) (e .c)) → P (writeRule t (e .a) (e .b) (e .c)) → P (startRule t (e .a) (e .b) (e .c))
-      → P (deliverRule t (e .a) (e .b) (e .c)) → P (dropRule t (e .a) (e .b) (e .c)) → P (finishRule t (e .a) (e .b) (e .c))
-      → P (timeoutRule t (e .a) (e .b) (e .c)) → P (refreshRule t (e .a) (e .b) (e .c)) → P (runRule t (e .a) (e .b) (e .c))
-      → P (stopRule t (e .a) (e .b) (e .c)) → P (failRule t (e .a) (e .b) (e .c)) → P (recoverRule t (e .a) (e .b) (e .c))
-      → P (takeLeaseRule t (e .a) (e .b) (e .c)) → P (giveLeaseRule t (e .a) (e .b) (e .c)) → P (epochRule t (e .a) (e .b) (e .c))
-      → P (overdueRule t (e .a) (e .b) (e .c)) → P (unknownRule t) → P (ruleOf t e)
+  pub by-number : (e .kind ≡ 1 → P (readRule t (e .a) (e .b) (e .c))) → (e .kind ≡ 2 → P (writeRule t (e .a) (e .b) (e .c)))
+      → (e .kind ≡ 3 → P (startRule t (e .a) (e .b) (e .c))) → (e .kind ≡ 4 → P (deliverRule t (e .a) (e .b) (e .c)))
+      → (e .kind ≡ 5 → P (dropRule t (e .a) (e .b) (e .c))) → (e .kind ≡ 6 → P (finishRule t (e .a) (e .b) (e .c)))
+      → (e .kind ≡ 7 → P (timeoutRule t (e .a) (e .b) (e .c))) → (e .kind ≡ 8 → P (refreshRule t (e .a) (e .b) (e .c)))
+      → (e .kind ≡ 9 → P (runRule t (e .a) (e .b) (e .c))) → (e .kind ≡ 10 → P (stopRule t (e .a) (e .b) (e .c)))
+      → (e .kind ≡ 11 → P (failRule t (e .a) (e .b) (e .c))) → (e .kind ≡ 12 → P (recoverRule t (e .a) (e .b) (e .c)))
+      → (e .kind ≡ 13 → P (takeLeaseRule t (e .a) (e .b) (e .c))) → (e .kind ≡ 14 → P (giveLeaseRule t (e .a) (e .b) (e .c)))
+      → (e .kind ≡ 15 → P (epochRule t (e .a) (e .b) (e .c))) → (e .kind ≡ 16 → P (overdueRule t (e .a) (e .b) (e .c)))
+      → P (unknownRule t) → P (ruleOf t e)
   unfolding ruleOf
-  by-kind p1 p2 p3 p4 p5 p6 p7 p8 p9 p10 p11 p12 p13 p14 p15 p16 p =
-      at 1 p1 (at 2 p2 (at 3 p3 (at 4 p4 (at 5 p5 (at 6 p6 (at 7 p7 (at 8 p8 (at 9 p9 (at 10 p10 (at 11 p11 (at 12 p12
-      (at 13 p13 (at 14 p14 (at 15 p15 (at 16 p16 p)))))))))))))))
+  by-number p1 p2 p3 p4 p5 p6 p7 p8 p9 p10 p11 p12 p13 p14 p15 p16 p =
+      kind 1 p1 (kind 2 p2 (kind 3 p3 (kind 4 p4 (kind 5 p5 (kind 6 p6 (kind 7 p7 (kind 8 p8 (kind 9 p9 (kind 10 p10 (kind 11 p11
+      (kind 12 p12 (kind 13 p13 (kind 14 p14 (kind 15 p15 (kind 16 p16 p)))))))))))))))
     where
-      at : (n : ℕ) {r s : Rule} → P r → P s → P (cond (eqb (e .kind) n) r s)
-      at n {r} {s} p q = walk P (eqb (e .kind) n) r s (λ _. p) (λ _. q)
+      kind : (n : ℕ) {r s : Rule} → (e .kind ≡ n → P r) → P s → P (cond (eqb (e .kind) n) r s)
+      kind n {r} {s} p q = walk P (eqb (e .kind) n) r s (λ k. p (eqb-true (e .kind) n k)) (λ _. q)
 
 -- ---- what a granted event's rows say: a well-formed table, operands in range, and none of its own refusals
 
@@ -51,7 +54,8 @@ module _ (t : Table) (r : Rule) where
 rule-coded : (t : Table) (e : Event) → coded (ruleOf t e .refusals) ≡ true
 unfolding every readRule writeRule startRule deliverRule dropRule finishRule timeoutRule refreshRule runRule stopRule failRule recoverRule takeLeaseRule giveLeaseRule epochRule overdueRule
 rule-coded t e =
-    by-kind (λ r. coded (r .refusals) ≡ true) t e refl refl refl refl refl refl refl refl refl refl refl refl refl refl refl refl refl
+    by-number (λ r. coded (r .refusals) ≡ true) t e (λ _. refl) (λ _. refl) (λ _. refl) (λ _. refl) (λ _. refl) (λ _. refl) (λ _. refl) (λ _. refl)
+    (λ _. refl) (λ _. refl) (λ _. refl) (λ _. refl) (λ _. refl) (λ _. refl) (λ _. refl) (λ _. refl) refl
 
 rows-coded : (t : Table) (e : Event) → coded (rows t (ruleOf t e)) ≡ true
 unfolding every rows

@@ -17,7 +17,7 @@ use Rattle.rules.specs.Tables.{isHost, isChunk, isBlock, at}
 use Rattle.rules.specs.Words.{every, some, from}
 use Rattle.rules.specs.Zero.{zeroRecord, isZeroRecord, zeroChunk, isZeroChunk, zeroHost, isZeroHost, zeroPlace, zeroTable, noRecord, noChunk, noHost}
 use Rattle.rules.proofs.Lists.{both, walk, each-number}
-use Rattle.rules.proofs.Events.{by-kind, rows-granted}
+use Rattle.rules.proofs.Events.{by-number, rows-granted}
 use Rattle.rules.proofs.Formed.{well-formed}
 use Rattle.rules.proofs.KeepsParts.{Keeps}
 use Rattle.rules.proofs.KeepsHosts.{read-kept, write-kept, start-kept, finish-kept, timeout-kept, refresh-kept, stop-kept}
@@ -50,15 +50,15 @@ rule-keeps t e =
     let a = e .a in
     let b = e .b in
     let c = e .c in
-    by-kind (Keeps t) t e (read-kept t a b c) (write-kept t a b c) (start-kept t a b c) (deliver-kept t a b c) (drop-kept t a b c)
-    (finish-kept t a b c) (timeout-kept t a b c) (refresh-kept t a b c) (run-kept t a b c) (stop-kept t a b c) (fail-kept t a b c)
-    (recover-kept t a b c) (take-lease-kept t a b c) (give-lease-kept t a b c) (epoch-kept t a b c) (overdue-kept t a b c) (λ h _ _. h)
+    by-number (Keeps t) t e (λ _. read-kept t a b c) (λ _. write-kept t a b c) (λ _. start-kept t a b c) (λ _. deliver-kept t a b c) (λ _. drop-kept t a b c)
+    (λ _. finish-kept t a b c) (λ _. timeout-kept t a b c) (λ _. refresh-kept t a b c) (λ _. run-kept t a b c) (λ _. stop-kept t a b c) (λ _. fail-kept t a b c)
+    (λ _. recover-kept t a b c) (λ _. take-lease-kept t a b c) (λ _. give-lease-kept t a b c) (λ _. epoch-kept t a b c) (λ _. overdue-kept t a b c) (λ h _ _. h)
 
 rule-codes : (t : Table) (e : Event) → every (λ row. leb (row .code) 7) (ruleOf t e .refusals) ≡ true
 unfolding every readRule writeRule startRule finishRule timeoutRule refreshRule stopRule deliverRule dropRule runRule failRule recoverRule takeLeaseRule giveLeaseRule overdueRule epochRule
 rule-codes t e =
-    by-kind (λ r. every (λ row. leb (row .code) 7) (r .refusals) ≡ true) t e
-    refl refl refl refl refl refl refl refl refl refl refl refl refl refl refl refl refl
+    by-number (λ r. every (λ row. leb (row .code) 7) (r .refusals) ≡ true) t e (λ _. refl) (λ _. refl) (λ _. refl) (λ _. refl) (λ _. refl) (λ _. refl)
+    (λ _. refl) (λ _. refl) (λ _. refl) (λ _. refl) (λ _. refl) (λ _. refl) (λ _. refl) (λ _. refl) (λ _. refl) (λ _. refl) refl
 
 -- no row above n, no code above n
 code-most : (n : ℕ) (l : List Row) → every (λ row. leb (row .code) n) l ≡ true → codeOf l ≤ n

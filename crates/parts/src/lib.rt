@@ -1,0 +1,379 @@
+// One event on the parts of the table that it touches: a host, a chunk, a record, the network. Failure and epoch change touch more.
+use rules::Action;
+use rules::Chunk;
+use rules::Creation;
+use rules::Epoch;
+use rules::Event;
+use rules::Header;
+use rules::Host;
+use rules::Operation;
+use rules::Outcome;
+use rules::Place;
+use rules::Record;
+use rules::Set;
+use rules::Slot;
+use rules::Timestamp;
+use rules::Waiting;
+use chunk::Changed;
+use chunk::Ran;
+use host::Moved;
+use host::Sent;
+ghost use mathlib.Core.Path.{_≡_};
+ghost use Rattle.parts.specs.Address.{addressOf, isMailEvent, isHostEvent, isChunkEvent, placeAt, hostAt, chunkAt, blockAt, rangesOf};
+ghost use Rattle.parts.specs.Acts.{byHost, byMessages, byChunk, byRun, byMail, unchanged, hostMoved, chunkChanged, delivered, taken, mailTaken, acted};
+
+// What an event looks at: numbers of the store, the place's slot, and the parts.
+pub struct Parts {
+    pub blocks: u64,
+    pub age: u64,
+    pub epoch: Epoch,
+    pub slot: Slot,
+    pub host: Host,
+    pub chunk: Chunk,
+    pub set: Set,
+    pub block: Record,
+    pub places: [Place; rules::PLACES],
+}
+
+// What it leaves: 0 and the parts after it, or a refusal's code and the parts as they were.
+pub struct Acted {
+    pub code: u64,
+    pub host: Host,
+    pub chunk: Chunk,
+    pub block: Record,
+    pub places: [Place; rules::PLACES],
+    pub outcome: Outcome,
+}
+
+// What a delivery leaves of the host and the record that the message names, and the reply, if any.
+struct Delivered {
+    host: Host,
+    block: Record,
+    reply: Slot,
+}
+
+// ---- the operands
+
+// "number outside its range, unknown kind, unused operand not 0".
+pub fn in_range(k: Creation, e: Event) -> bool
+    ensures { λ r. ⌜ r ≡ rangesOf k e ⌝ }
+{
+    let kind = e.kind;
+    match kind {
+        1 => (e.a < k.hosts) & (e.b < k.blocks) & (e.c == 0),
+        2 => (e.a < k.hosts) & (e.b < k.blocks),
+        3 => (e.a < k.hosts) & ((1 <= e.b) & (e.b <= rules::GREATEST_CLOCK)) & (e.c < k.chunks),
+        4 | 5 => (e.a < rules::PLACES as u64) & (e.b == 0) & (e.c == 0),
+        6 | 7 | 8 | 10 => (e.a < k.hosts) & (e.b == 0) & (e.c == 0),
+        9 => (e.a < k.chunks) & (e.b < k.blocks) & (e.c == 0),
+        11 | 12 | 13 | 14 => (e.a < k.chunks) & (e.b == 0) & (e.c == 0),
+        15 => (e.a == 0) & (e.b == 0) & (e.c == 0),
+        16 => (e.a < k.chunks) & (e.b < k.blocks) & (e.c <= rules::GREATEST_CLOCK),
+        _ => false,
+    }
+}
+
+// ---- whom an event is about: a place, a host, a chunk, a block; 0 where it is about none
+
+fn is_mail_event(kind: u64) -> bool
+    ensures { λ r. ⌜ r ≡ isMailEvent kind ⌝ }
+{
+    (kind == 4) | (kind == 5)
+}
+
+fn is_host_event(kind: u64) -> bool
+    ensures { λ r. ⌜ r ≡ isHostEvent kind ⌝ }
+{
+    (kind == 1) | (kind == 2) | (kind == 3) | (kind == 6) | (kind == 7) | (kind == 8) | (kind == 10)
+}
+
+fn is_chunk_event(kind: u64) -> bool
+    ensures { λ r. ⌜ r ≡ isChunkEvent kind ⌝ }
+{
+    (kind == 9) | (kind == 12) | (kind == 13) | (kind == 14) | (kind == 16)
+}
+
+// Which host, chunk and block a place's message names; an empty place names none, that is zeros.
+fn address(s: Slot) -> Header
+    ensures { λ r. ⌜ r ≡ addressOf s ⌝ }
+{
+    match s {
+        Slot::Empty => Header {
+            host: 0,
+            chunk: 0,
+            block: 0,
+            timestamp: Timestamp(0),
+        },
+        Slot::Full(m) => network::header_of(m),
+    }
+}
+
+pub fn place_at(e: Event) -> u64
+    ensures { λ r. ⌜ r ≡ placeAt e ⌝ }
+{
+    if is_mail_event(e.kind) {
+        return e.a;
+    }
+    0
+}
+
+pub fn host_at(e: Event, s: Slot) -> u64
+    ensures { λ r. ⌜ r ≡ hostAt e s ⌝ }
+{
+    if is_mail_event(e.kind) {
+        let to = address(s);
+        return to.host;
+    }
+    if is_host_event(e.kind) {
+        return e.a;
+    }
+    0
+}
+
+pub fn chunk_at(e: Event, s: Slot) -> u64
+    ensures { λ r. ⌜ r ≡ chunkAt e s ⌝ }
+{
+    if is_mail_event(e.kind) {
+        let to = address(s);
+        return to.chunk;
+    }
+    if is_chunk_event(e.kind) {
+        return e.a;
+    }
+    0
+}
+
+// A start and a finish are about the block of the host's front operation.
+pub fn block_at(e: Event, s: Slot, h: Host) -> u64
+    ensures { λ r. ⌜ r ≡ blockAt e s h ⌝ }
+{
+    if is_mail_event(e.kind) {
+        let to = address(s);
+        return to.block;
+    }
+    if (e.kind == 3) | (e.kind == 6) {
+        let o = host::front(h);
+        return o.block;
+    }
+    if (e.kind == 9) | (e.kind == 16) {
+        return e.b;
+    }
+    0
+}
+
+// ---- what is left where an event changes the host alone, the host and the network, the chunk alone, ..
+
+fn by_host(p: Parts, m: Moved) -> Acted
+    ensures { λ r. ⌜ r ≡ byHost p m ⌝ }
+{
+    Acted {
+        code: m.code,
+        host: m.host,
+        chunk: p.chunk,
+        block: p.block,
+        places: p.places,
+        outcome: Outcome::None,
+    }
+}
+
+fn by_messages(p: Parts, s: Sent) -> Acted
+    ensures { λ r. ⌜ r ≡ byMessages p s ⌝ }
+{
+    Acted {
+        code: s.code,
+        host: s.host,
+        chunk: p.chunk,
+        block: p.block,
+        places: s.places,
+        outcome: s.outcome,
+    }
+}
+
+fn by_chunk(p: Parts, c: Changed) -> Acted
+    ensures { λ r. ⌜ r ≡ byChunk p c ⌝ }
+{
+    Acted {
+        code: c.code,
+        host: p.host,
+        chunk: c.chunk,
+        block: p.block,
+        places: p.places,
+        outcome: Outcome::None,
+    }
+}
+
+fn by_run(p: Parts, r: Ran) -> Acted
+    ensures { λ a. ⌜ a ≡ byRun p r ⌝ }
+{
+    let reply = r.reply;
+    let places = network::reply(p.places, reply);
+    Acted {
+        code: r.code,
+        host: p.host,
+        chunk: p.chunk,
+        block: r.block,
+        places: places,
+        outcome: Outcome::None,
+    }
+}
+
+fn by_mail(p: Parts, place: u64, d: Delivered) -> Acted
+    ensures { λ r. ⌜ r ≡ byMail p place d ⌝ }
+{
+    let left = network::remove(p.places, place);
+    let reply = d.reply;
+    let places = network::reply(left, reply);
+    Acted {
+        code: 0,
+        host: d.host,
+        chunk: p.chunk,
+        block: d.block,
+        places: places,
+        outcome: Outcome::None,
+    }
+}
+
+// "same table, zeros".
+fn unchanged(p: Parts, code: u64) -> Acted
+    ensures { λ r. ⌜ r ≡ unchanged p code ⌝ }
+{
+    Acted {
+        code: code,
+        host: p.host,
+        chunk: p.chunk,
+        block: p.block,
+        places: p.places,
+        outcome: Outcome::None,
+    }
+}
+
+// ---- the events
+
+// "1 read (host, block); 2 write (host, block, value)"; "7 timeout (host)"; "8 refresh (host)"; "10 stop (host)".
+fn host_event(e: Event, h: Host, epoch: Epoch) -> Moved
+    ensures { λ r. ⌜ r ≡ hostMoved e h epoch ⌝ }
+{
+    let kind = e.kind;
+    match kind {
+        1 => host::intake(
+            h,
+            Operation {
+                block: e.b,
+                action: Action::Read,
+            },
+        ),
+        2 => host::intake(
+            h,
+            Operation {
+                block: e.b,
+                action: Action::Write(e.c),
+            },
+        ),
+        7 => host::time_out(h),
+        8 => host::refresh(h, epoch),
+        _ => host::stop(h),
+    }
+}
+
+// "12 recover", "13 take lease", "14 give lease", "16 overdue (chunk, block, now)"; w waits for the event's block.
+fn chunk_event(e: Event, c: Chunk, w: Waiting, age: u64) -> Changed
+    ensures { λ r. ⌜ r ≡ chunkChanged e c w age ⌝ }
+{
+    let kind = e.kind;
+    match kind {
+        12 => chunk::recover(c),
+        13 => chunk::take_lease(c),
+        14 => chunk::give_lease(c),
+        _ => chunk::overdue(c, e.b, w, e.c, age),
+    }
+}
+
+// A request is the chunk's, a reply the host's.
+fn deliver(blocks: u64, h: Host, c: Chunk, r: Record, s: Slot) -> Delivered
+    ensures { λ d. ⌜ d ≡ delivered blocks h c r s ⌝ }
+{
+    match s {
+        Slot::Empty => Delivered {
+            host: h,
+            block: r,
+            reply: Slot::Empty,
+        },
+        Slot::Full(m) => {
+            if network::is_for_chunk(m) {
+                let a = chunk::arrive(blocks, c, r, m);
+                Delivered {
+                    host: h,
+                    block: a.block,
+                    reply: a.reply,
+                }
+            } else {
+                let new = host::at_host(h, m);
+                Delivered {
+                    host: new,
+                    block: r,
+                    reply: Slot::Empty,
+                }
+            }
+        }
+    }
+}
+
+// A dropped message reaches nobody.
+fn taken(kind: u64, blocks: u64, h: Host, c: Chunk, r: Record, s: Slot) -> Delivered
+    ensures { λ d. ⌜ d ≡ taken kind blocks h c r s ⌝ }
+{
+    if kind == 4 {
+        return deliver(blocks, h, c, r, s);
+    }
+    Delivered {
+        host: h,
+        block: r,
+        reply: Slot::Empty,
+    }
+}
+
+// "4 deliver (place)", "5 drop (place)": "The message is removed. Its reply, if any, takes the lowest free place".
+fn mail_event(e: Event, p: Parts) -> Acted
+    ensures { λ r. ⌜ r ≡ mailTaken e p ⌝ }
+{
+    let slot = p.slot;
+    let code = network::place_code(slot);
+    if code != 0 {
+        return unchanged(p, code);
+    }
+    let d = taken(e.kind, p.blocks, p.host, p.chunk, p.block, slot);
+    by_mail(p, e.a, d)
+}
+
+// The event's refusals and effect. (Kinds that this is not about are taken for 16; the engine has looked.)
+pub fn act(e: Event, p: Parts) -> Acted
+    ensures { λ r. ⌜ r ≡ acted e p ⌝ }
+{
+    let kind = e.kind;
+    let h = p.host;
+    let c = p.chunk;
+    let r = p.block;
+    let places = p.places;
+    if is_mail_event(kind) {
+        return mail_event(e, p);
+    }
+    if kind == 3 {
+        let s = host::start(e.a, e.b, e.c, p.set, h, places);
+        return by_messages(p, s);
+    }
+    if kind == 6 {
+        let s = host::finish(e.a, p.set, h, places);
+        return by_messages(p, s);
+    }
+    if is_host_event(kind) {
+        let m = host_event(e, h, p.epoch);
+        return by_host(p, m);
+    }
+    if kind == 9 {
+        let free = network::free_places(places);
+        let a = chunk::run(e.a, e.b, c.state, r, free);
+        return by_run(p, a);
+    }
+    let d = chunk_event(e, c, r.waiting, p.age);
+    by_chunk(p, d)
+}
