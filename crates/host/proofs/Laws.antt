@@ -1,31 +1,33 @@
 -- What the crate's functions cite of the rules
 use Prim.Native.Nat.{ℕ, _≤_, _<_}
-use mathlib.Core.Path.{_≡_, refl}
-use mathlib.Core.Bool.{true, false}
-use mathlib.Core.List.{List, _∷_}
+use mathlib.Core.Path.{_≡_, refl, sym, _∙_}
+use mathlib.Core.Bool.{Bool, true, false, cond, _&&_, true≢false}
+use mathlib.Core.List.{List}
 use lib.ListN.{length}
-use borrow.Author.Tests.{lt-ltb, le-ltb, lt-leb, le-leb}
+use borrow.Author.Tests.{lt-ltb, le-ltb, lt-leb, le-leb, ne-eqb}
+use Rattle.rules.specs.declared.Set.{Set}
 use Rattle.rules.specs.declared.Operation.{Operation}
 use Rattle.rules.specs.declared.Queue.{Queue}
+use Rattle.rules.specs.declared.Attempt.{Attempt}
+use Rattle.rules.specs.declared.Host.{Host}
+use Rattle.rules.specs.declared.Header.{Header}
+use Rattle.rules.specs.declared.Message.{Message}
+use Rattle.rules.specs.declared.Outcome.{Outcome}
+use Rattle.rules.specs.declared.Place.{Place}
 use Rattle.rules.specs.Codes.{Row, codeOf}
-use Rattle.rules.specs.Hosts.{queueOf}
+use Rattle.rules.specs.Hosts.{queueOf, front, startRefusals, openingTo, opening, started, counts, answeredBy, heard, atHost, finishRefusals, closingTo, closing, finishOutcome, finished}
+use Rattle.rules.specs.Kinds.{headed, headerOf}
 use Rattle.rules.specs.Limits.{hostLimit, operationLimit, greatestClock}
+use Rattle.rules.specs.Network.{freePlaces, howMany, sentToEach}
 use Rattle.rules.specs.Timestamps.{stamp}
 use Rattle.rules.specs.Words.{filled}
 use Rattle.rules.specs.Zero.{zeroOperation}
 use Rattle.host.specs.declared.Drawn.{Drawn}
 use Rattle.host.specs.declared.Keeper.{Keeper}
+use Rattle.host.specs.declared.Moved.{Moved}
+use Rattle.host.specs.declared.Sent.{Sent}
 use Rattle.host.specs.Keeper.{refused, drawn}
-
--- the first row of the refusals holds, or it is passed over
-module _ (r : Row) (rs : List Row) where
-  pub row-holds : r .holds ≡ true → codeOf (r ∷ rs) ≡ r .code
-  unfolding codeOf
-  row-holds h = rw h refl
-
-  pub row-passes : r .holds ≡ false → codeOf (r ∷ rs) ≡ codeOf rs
-  unfolding codeOf
-  row-passes h = rw h refl
+use Rattle.host.specs.Moves.{moved, hears, sentOr, starts, finishes}
 
 -- a queue that has the operations of l is l's
 pub queue-is : (l : List Operation) (n : ℕ) (array : List Operation) → n ≡ length l → array ≡ filled operationLimit zeroOperation l
@@ -53,3 +55,81 @@ module _ (k : Keeper) (clock : ℕ) where
           → _≡_ {A = Drawn} (record { keeper = record { host = k .host; last = clock }; code = 0; timestamp = stamp clock (k .host) }) (drawn k clock)
       unfolding codeOf drawn
       draw-new-clock h = rw (lt-leb _ _ host, le-ltb _ _ range, lt-leb _ _ h) refl
+
+-- ---- an event of one host: its code is 0, or not
+
+module _ (rows : List Row) (old new : Host) (code : ℕ) (code-is : code ≡ codeOf rows) where
+  pub unmoved : (code ≡ 0 → ⊥) → _≡_ {A = Moved} (record { code = code; host = old }) (moved rows old new)
+  unmoved h = rw (← code-is, ne-eqb code 0 h) refl
+
+  pub moves : code ≡ 0 → _≡_ {A = Moved} (record { code = 0; host = new }) (moved rows old new)
+  moves h = rw (← code-is, h) refl
+
+-- ---- a reply: two tests in one
+
+both-hold : (a b : Bool) (x y : Host) → a && b ≡ true → x ≡ cond a (cond b x y) y
+both-hold true b x y h = rw h refl
+both-hold false b x y h = absurd (true≢false (sym h))
+
+one-fails : (a b : Bool) (x y : Host) → a && b ≡ false → y ≡ cond a (cond b x y) y
+one-fails true b x y h = rw h refl
+one-fails false b x y h = refl
+
+module _ (h : Host) (m : Message) (counted : Bool) (counted-is : counted ≡ counts h m) where
+  pub noticed : (header : Header) (a : Attempt) (new : Host) → h .working && counted ≡ true → header ≡ headerOf m
+      → a ≡ answeredBy (h .attempt) (header .chunk) → new ≡ heard h a m → new ≡ hears h m
+  unfolding atHost
+  noticed header a new k header-is a-is new-is = new-is ∙ rw (a-is, header-is) (both-hold (h .working) (counts h m) _ h (rw counted-is at k))
+
+  pub unnoticed : h .working && counted ≡ false → h ≡ hears h m
+  unfolding atHost
+  unnoticed k = one-fails (h .working) (counts h m) _ h (rw counted-is at k)
+
+-- ---- start and finish
+
+module _ (rows : List Row) (old new : Host) (before after : List Place) (x : Outcome) (code : ℕ) (code-is : code ≡ codeOf rows) where
+  unsent : (code ≡ 0 → ⊥) → _≡_ {A = Sent} (record { code = code; host = old; places = before; outcome = Outcome.None }) (sentOr rows old new before after x)
+  unsent h = rw (← code-is, ne-eqb code 0 h) refl
+
+  sends : code ≡ 0 → _≡_ {A = Sent} (record { code = 0; host = new; places = after; outcome = x }) (sentOr rows old new before after x)
+  sends h = rw (← code-is, h) refl
+
+-- o, to, free and n are what the code gathers
+
+module _ (number clock copy : ℕ) (holders : Set) (h : Host) (places : List Place) (o : Operation) (to : Set) (free n code : ℕ)
+    (o-is : o ≡ front h) (to-is : to ≡ openingTo (o .action) copy holders) (free-is : free ≡ freePlaces places) (n-is : n ≡ howMany to)
+    (code-is : code ≡ codeOf (startRefusals h clock copy holders free n)) where
+  start-code : code ≡ codeOf (startRefusals h clock copy holders (freePlaces places) (howMany (openingTo (front h .action) copy holders)))
+  start-code = rw (code-is, free-is, n-is, to-is, o-is) refl
+
+  pub start-refused : (code ≡ 0 → ⊥)
+      → _≡_ {A = Sent} (record { code = code; host = h; places = places; outcome = Outcome.None }) (starts number clock copy holders h places)
+  unfolding starts
+  start-refused k = unsent _ _ _ _ _ _ code start-code k
+
+  pub start-granted : code ≡ 0 → (d : Drawn) (new : Host) (after : List Place)
+      → d ≡ drawn (record { host = number; last = h .clock }) clock
+      → new ≡ started h (d .timestamp) (d .keeper .last) to
+      → after ≡ sentToEach places to (λ chunk. opening (headed number chunk (o .block) (d .timestamp)) (h .epoch) (o .action))
+      → _≡_ {A = Sent} (record { code = 0; host = new; places = after; outcome = Outcome.None }) (starts number clock copy holders h places)
+  unfolding starts
+  start-granted k d new after d-is new-is after-is = rw (new-is, after-is, d-is, to-is, o-is) (sends _ _ _ _ _ _ code start-code k)
+
+module _ (number : ℕ) (holders : Set) (h : Host) (places : List Place) (o : Operation) (to : Set) (free n code : ℕ)
+    (o-is : o ≡ front h) (to-is : to ≡ closingTo (o .action) holders) (free-is : free ≡ freePlaces places) (n-is : n ≡ howMany to)
+    (code-is : code ≡ codeOf (finishRefusals h free n)) where
+  finish-code : code ≡ codeOf (finishRefusals h (freePlaces places) (howMany (closingTo (front h .action) holders)))
+  finish-code = rw (code-is, free-is, n-is, to-is, o-is) refl
+
+  pub finish-refused : (code ≡ 0 → ⊥)
+      → _≡_ {A = Sent} (record { code = code; host = h; places = places; outcome = Outcome.None }) (finishes number holders h places)
+  unfolding finishes
+  finish-refused k = unsent _ _ _ _ _ _ code finish-code k
+
+  pub finish-granted : code ≡ 0 → (new : Host) (after : List Place) (x : Outcome)
+      → new ≡ finished h
+      → after ≡ sentToEach places to (λ chunk. closing (h .attempt .okay) (headed number chunk (o .block) (h .attempt .timestamp)) (h .epoch))
+      → x ≡ finishOutcome number h
+      → _≡_ {A = Sent} (record { code = 0; host = new; places = after; outcome = x }) (finishes number holders h places)
+  unfolding finishes
+  finish-granted k new after x new-is after-is x-is = rw (new-is, after-is, x-is, to-is, o-is) (sends _ _ _ _ _ _ code finish-code k)

@@ -7,13 +7,14 @@ ghost use lib.ListN.{length, getD, set, take, drop};
 ghost use Rattle.rules.specs.Codes.{codeOf};
 ghost use Rattle.rules.specs.Hosts.{queueOf, front, hasCurrent, isOutstanding, only};
 ghost use Rattle.rules.specs.Hosts.{intakeRefusals, appended, startRefusals, openingTo, started, suits, counts, answeredBy};
-ghost use Rattle.rules.specs.Hosts.{heard, atHost, finishRefusals, closingTo, doneAs, failedAs, finishOutcome, finished};
+ghost use Rattle.rules.specs.Hosts.{heard, finishRefusals, closingTo, doneAs, failedAs, finishOutcome, finished};
 ghost use Rattle.rules.specs.Hosts.{timeoutRefusals, timedOut, workingRefusals, refreshed, stopped};
 ghost use Rattle.rules.specs.Kinds.{isReading};
 ghost use Rattle.rules.specs.Limits.{operationLimit};
 ghost use Rattle.rules.specs.Words.{filled};
-ghost use Rattle.rules.specs.Zero.{_among_, zeroSet, zeroOperation, zeroAttempt};
+ghost use Rattle.rules.specs.Zero.{_among_, zeroOperation};
 ghost use Rattle.host.specs.Keeper.{refused, drawn};
+ghost use Rattle.host.specs.Moves.{moved, hears, starts, finishes};
 use rules::Action;
 use rules::Attempt;
 use rules::Epoch;
@@ -21,9 +22,24 @@ use rules::Host;
 use rules::Message;
 use rules::Operation;
 use rules::Outcome;
+use rules::Place;
 use rules::Queue;
 use rules::Set;
 use rules::Timestamp;
+
+// What an event makes of its host: 0 and the host after it, or a refusal's code and the host as it was.
+pub struct Moved {
+    pub code: u64,
+    pub host: Host,
+}
+
+// What a start or a finish makes of its host and the network, and the outcome; a refusal leaves both as they were.
+pub struct Sent {
+    pub code: u64,
+    pub host: Host,
+    pub places: [Place; rules::PLACES],
+    pub outcome: Outcome,
+}
 
 // An operation is a read or a write.
 fn is_reading(a: Action) -> bool
@@ -36,15 +52,6 @@ fn is_reading(a: Action) -> bool
 }
 
 // ---- sets of chunks
-
-// The empty set.
-fn no_chunks() -> Set
-    ensures { λ r. ⌜ r ≡ zeroSet ⌝ }
-{
-    Set {
-        chunks: [false; rules::CHUNKS],
-    }
-}
 
 // Beyond the last chunk's number there is none in the set.
 fn among(chunk: u64, s: Set) -> bool
@@ -61,7 +68,7 @@ fn among(chunk: u64, s: Set) -> bool
 fn only(chunk: u64) -> Set
     ensures { λ r. ⌜ r ≡ only chunk ⌝ }
 {
-    let mut out = no_chunks();
+    let mut out = zero::set();
     let i = chunk as usize;
     if i < rules::CHUNKS {
         out.chunks[i] = true;
@@ -124,10 +131,7 @@ fn operation(q: Queue, i: u64) -> Operation
         let p = i as usize;
         return q.operations[p];
     }
-    Operation {
-        block: 0,
-        action: Action::Read,
-    }
+    zero::operation()
 }
 
 // The operation that is current, or would become it.
@@ -190,7 +194,7 @@ fn without_front(q: Queue) -> Queue
 // ---- intake
 
 // "Stopped: 2. Full: 4".
-pub fn intake_code(h: Host) -> u64
+fn intake_code(h: Host) -> u64
     ensures { λ r. ⌜ r ≡ codeOf (intakeRefusals h) ⌝ }
 {
     if !h.working {
@@ -202,76 +206,25 @@ pub fn intake_code(h: Host) -> u64
     0
 }
 
-// "Else appended".
-pub fn append(h: Host, o: Operation) -> Host
-    ensures { λ r. ⌜ r ≡ appended h o ⌝ }
+// "1 read (host, block); 2 write (host, block, value) .. Else appended".
+pub fn intake(h: Host, o: Operation) -> Moved
+    ensures { λ r. ⌜ r ≡ moved (intakeRefusals h) h (appended h o) ⌝ }
 {
+    let code = intake_code(h);
+    if code != 0 {
+        return Moved {
+            code: code,
+            host: h,
+        };
+    }
     let q = h.queue;
     let longer = with_last(q, o);
     let mut out = h;
     out.queue = longer;
-    out
+    Moved { code: 0, host: out }
 }
 
-// ---- start
-
-// "Needs working, no current operation, one waiting, map current (2); .. a read's copy must be in the set (1); clock (3);
-// room (5)".
-pub fn start_code(h: Host, clock: u64, copy: u64, holders: Set, free: u64, messages: u64) -> u64
-    ensures { λ r. ⌜ r ≡ codeOf (startRefusals h clock copy holders free messages) ⌝ }
-{
-    if !h.working {
-        return 2;
-    }
-    if has_current(h) {
-        return 2;
-    }
-    if h.queue.count == 0 {
-        return 2;
-    }
-    if !h.mapped {
-        return 2;
-    }
-    let o = front(h);
-    let a = o.action;
-    if is_reading(a) & !among(copy, holders) {
-        return 1;
-    }
-    if clock <= h.clock {
-        return 3;
-    }
-    if free < messages {
-        return 5;
-    }
-    0
-}
-
-// "A read sends one read to the copy; a write sends a prewrite to each chunk of the set".
-pub fn opening_to(action: Action, copy: u64, holders: Set) -> Set
-    ensures { λ r. ⌜ r ≡ openingTo action copy holders ⌝ }
-{
-    match action {
-        Action::Read => only(copy),
-        Action::Write(_) => holders,
-    }
-}
-
-// "Okay and restart become true, the result value 0 .. Those are outstanding".
-pub fn start(h: Host, t: Timestamp, clock: u64, to: Set) -> Host
-    ensures { λ r. ⌜ r ≡ started h t clock to ⌝ }
-{
-    let a = Attempt {
-        timestamp: t,
-        outstanding: to,
-        okay: true,
-        restart: true,
-        result: 0,
-    };
-    let mut out = h;
-    out.attempt = a;
-    out.clock = clock;
-    out
-}
+// ---- the clock keeper
 
 // "each host's clock keeper hands out a number and remembers it".
 pub struct Keeper {
@@ -315,6 +268,108 @@ pub fn draw(k: Keeper, clock: u64) -> Drawn
         keeper: kept,
         code: 0,
         timestamp: Timestamp(clock * 8 + k.host),
+    }
+}
+
+// ---- start
+
+// "Needs working, no current operation, one waiting, map current (2); .. a read's copy must be in the set (1); clock (3);
+// room (5)".
+fn start_code(h: Host, clock: u64, copy: u64, holders: Set, free: u64, messages: u64) -> u64
+    ensures { λ r. ⌜ r ≡ codeOf (startRefusals h clock copy holders free messages) ⌝ }
+{
+    if !h.working {
+        return 2;
+    }
+    if has_current(h) {
+        return 2;
+    }
+    if h.queue.count == 0 {
+        return 2;
+    }
+    if !h.mapped {
+        return 2;
+    }
+    let o = front(h);
+    let a = o.action;
+    if is_reading(a) & !among(copy, holders) {
+        return 1;
+    }
+    if clock <= h.clock {
+        return 3;
+    }
+    if free < messages {
+        return 5;
+    }
+    0
+}
+
+// "A read sends one read to the copy; a write sends a prewrite to each chunk of the set".
+fn opening_to(action: Action, copy: u64, holders: Set) -> Set
+    ensures { λ r. ⌜ r ≡ openingTo action copy holders ⌝ }
+{
+    match action {
+        Action::Read => only(copy),
+        Action::Write(_) => holders,
+    }
+}
+
+// "Okay and restart become true, the result value 0 .. Those are outstanding".
+fn begin(h: Host, t: Timestamp, clock: u64, to: Set) -> Host
+    ensures { λ r. ⌜ r ≡ started h t clock to ⌝ }
+{
+    let a = Attempt {
+        timestamp: t,
+        outstanding: to,
+        okay: true,
+        restart: true,
+        result: 0,
+    };
+    let mut out = h;
+    out.attempt = a;
+    out.clock = clock;
+    out
+}
+
+// "3 start (host, clock from 1, copy)", with the clock that the host's keeper hands out.
+pub fn start(
+    number: u64,
+    clock: u64,
+    copy: u64,
+    holders: Set,
+    h: Host,
+    places: [Place; rules::PLACES],
+) -> Sent
+    ensures { λ r. ⌜ r ≡ starts number clock copy holders h places ⌝ }
+{
+    let o = front(h);
+    let action = o.action;
+    let to = opening_to(action, copy, holders);
+    let free = network::free_places(places);
+    let messages = network::how_many(to);
+    let code = start_code(h, clock, copy, holders, free, messages);
+    if code != 0 {
+        return Sent {
+            code: code,
+            host: h,
+            places: places,
+            outcome: Outcome::None,
+        };
+    }
+    let keeper = Keeper {
+        host: number,
+        last: h.clock,
+    };
+    let d = draw(keeper, clock);
+    let now = d.timestamp;
+    let epoch = h.epoch;
+    let new = begin(h, now, d.keeper.last, to);
+    let after = network::open(places, to, number, o.block, now, epoch, action);
+    Sent {
+        code: 0,
+        host: new,
+        places: after,
+        outcome: Outcome::None,
     }
 }
 
@@ -397,11 +452,11 @@ fn heard(h: Host, a: Attempt, m: Message) -> Host
     out
 }
 
-// A reply that does not count changes nothing.
+// ".. and a stopped host take no notice"; a reply that does not count changes nothing.
 pub fn at_host(h: Host, m: Message) -> Host
-    ensures { λ r. ⌜ r ≡ atHost h m ⌝ }
+    ensures { λ r. ⌜ r ≡ hears h m ⌝ }
 {
-    if counts(h, m) {
+    if h.working & counts(h, m) {
         let header = network::header_of(m);
         let a = h.attempt;
         return heard(h, answered_by(a, header.chunk), m);
@@ -412,7 +467,7 @@ pub fn at_host(h: Host, m: Message) -> Host
 // ---- finish
 
 // "Needs working, a current operation, nothing outstanding (2); room for a write's messages (5)".
-pub fn finish_code(h: Host, free: u64, messages: u64) -> u64
+fn finish_code(h: Host, free: u64, messages: u64) -> u64
     ensures { λ r. ⌜ r ≡ codeOf (finishRefusals h free messages) ⌝ }
 {
     if !h.working {
@@ -431,11 +486,11 @@ pub fn finish_code(h: Host, free: u64, messages: u64) -> u64
 }
 
 // A write's messages go to each chunk of the set; a read has none.
-pub fn closing_to(action: Action, holders: Set) -> Set
+fn closing_to(action: Action, holders: Set) -> Set
     ensures { λ r. ⌜ r ≡ closingTo action holders ⌝ }
 {
     match action {
-        Action::Read => no_chunks(),
+        Action::Read => zero::set(),
         Action::Write(_) => holders,
     }
 }
@@ -476,7 +531,7 @@ fn failed_as(host: u64, o: Operation) -> Outcome
 }
 
 // "with restart the operation goes back to the front, otherwise it has failed".
-pub fn finish_outcome(host: u64, h: Host) -> Outcome
+fn finish_outcome(host: u64, h: Host) -> Outcome
     ensures { λ r. ⌜ r ≡ finishOutcome host h ⌝ }
 {
     let o = front(h);
@@ -489,25 +544,11 @@ pub fn finish_outcome(host: u64, h: Host) -> Outcome
     failed_as(host, o)
 }
 
-// "current timestamp, outstanding chunks, okay, restart and result value all zero or false".
-fn no_attempt() -> Attempt
-    ensures { λ r. ⌜ r ≡ zeroAttempt ⌝ }
-{
-    let none = no_chunks();
-    Attempt {
-        timestamp: Timestamp(0),
-        outstanding: none,
-        okay: false,
-        restart: false,
-        result: 0,
-    }
-}
-
 // "No current operation remains, and its fields become zero or false".
-pub fn finish(h: Host) -> Host
+fn end(h: Host) -> Host
     ensures { λ r. ⌜ r ≡ finished h ⌝ }
 {
-    let none = no_attempt();
+    let none = zero::attempt();
     let mut out = h;
     out.attempt = none;
     if !h.attempt.okay & h.attempt.restart {
@@ -519,10 +560,41 @@ pub fn finish(h: Host) -> Host
     out
 }
 
+// "6 finish (host)".
+pub fn finish(number: u64, holders: Set, h: Host, places: [Place; rules::PLACES]) -> Sent
+    ensures { λ r. ⌜ r ≡ finishes number holders h places ⌝ }
+{
+    let o = front(h);
+    let action = o.action;
+    let to = closing_to(action, holders);
+    let free = network::free_places(places);
+    let messages = network::how_many(to);
+    let code = finish_code(h, free, messages);
+    if code != 0 {
+        return Sent {
+            code: code,
+            host: h,
+            places: places,
+            outcome: Outcome::None,
+        };
+    }
+    let now = h.attempt.timestamp;
+    let epoch = h.epoch;
+    let new = end(h);
+    let after = network::close(places, to, number, o.block, now, epoch, h.attempt.okay);
+    let outcome = finish_outcome(number, h);
+    Sent {
+        code: 0,
+        host: new,
+        places: after,
+        outcome: outcome,
+    }
+}
+
 // ---- timeout, refresh, stop
 
 // "needs working, something outstanding (2)".
-pub fn timeout_code(h: Host) -> u64
+fn timeout_code(h: Host) -> u64
     ensures { λ r. ⌜ r ≡ codeOf (timeoutRefusals h) ⌝ }
 {
     if !h.working {
@@ -535,20 +607,27 @@ pub fn timeout_code(h: Host) -> u64
 }
 
 // "Okay false, nothing outstanding".
-pub fn time_out(h: Host) -> Host
-    ensures { λ r. ⌜ r ≡ timedOut h ⌝ }
+pub fn time_out(h: Host) -> Moved
+    ensures { λ r. ⌜ r ≡ moved (timeoutRefusals h) h (timedOut h) ⌝ }
 {
-    let none = no_chunks();
+    let code = timeout_code(h);
+    if code != 0 {
+        return Moved {
+            code: code,
+            host: h,
+        };
+    }
+    let none = zero::set();
     let mut a = h.attempt;
     a.okay = false;
     a.outstanding = none;
     let mut out = h;
     out.attempt = a;
-    out
+    Moved { code: 0, host: out }
 }
 
 // "8 refresh (host): working (2)"; "10 stop (host), once".
-pub fn working_code(h: Host) -> u64
+fn working_code(h: Host) -> u64
     ensures { λ r. ⌜ r ≡ codeOf (workingRefusals h) ⌝ }
 {
     if !h.working {
@@ -558,20 +637,34 @@ pub fn working_code(h: Host) -> u64
 }
 
 // "Epoch known becomes the store's, map current".
-pub fn refresh(h: Host, epoch: Epoch) -> Host
-    ensures { λ r. ⌜ r ≡ refreshed h epoch ⌝ }
+pub fn refresh(h: Host, epoch: Epoch) -> Moved
+    ensures { λ r. ⌜ r ≡ moved (workingRefusals h) h (refreshed h epoch) ⌝ }
 {
+    let code = working_code(h);
+    if code != 0 {
+        return Moved {
+            code: code,
+            host: h,
+        };
+    }
     let mut out = h;
     out.epoch = epoch;
     out.mapped = true;
-    out
+    Moved { code: 0, host: out }
 }
 
 // "its other fields stay".
-pub fn stop(h: Host) -> Host
-    ensures { λ r. ⌜ r ≡ stopped h ⌝ }
+pub fn stop(h: Host) -> Moved
+    ensures { λ r. ⌜ r ≡ moved (workingRefusals h) h (stopped h) ⌝ }
 {
+    let code = working_code(h);
+    if code != 0 {
+        return Moved {
+            code: code,
+            host: h,
+        };
+    }
     let mut out = h;
     out.working = false;
-    out
+    Moved { code: 0, host: out }
 }

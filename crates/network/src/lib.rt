@@ -52,7 +52,7 @@ pub fn is_for_chunk(m: Message) -> bool
 }
 
 // A slot holds a message or nothing.
-pub fn is_empty(s: Slot) -> bool
+fn is_empty(s: Slot) -> bool
     ensures { λ r. ⌜ r ≡ isEmptySlot s ⌝ }
 {
     match s {
@@ -123,7 +123,7 @@ pub fn remove(places: [Place; rules::PLACES], p: u64) -> [Place; rules::PLACES]
 }
 
 // "New messages go to the lowest free places"; a full network stays as it is.
-pub fn send(places: [Place; rules::PLACES], m: Message) -> [Place; rules::PLACES]
+fn send(places: [Place; rules::PLACES], m: Message) -> [Place; rules::PLACES]
     ensures { λ r. ⌜ r ≡ sent places m ⌝ }
 {
     let mut out = places;

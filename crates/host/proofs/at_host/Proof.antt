@@ -1,6 +1,5 @@
 -- `host::at_host` meets its contract
-use mathlib.Core.Path.{refl, sym, _∙_}
-use Rattle.rules.specs.Hosts.{atHost}
+use Rattle.host.proofs.Laws.{noticed, unnoticed}
 use borrow.Author.Needs.{needs}
 use Rattle.host.proofs.at_host.Statement.{statement}
 use Rattle.host.proofs.at_host.Tie as tie
@@ -18,15 +17,16 @@ heard-requires : tie.Need-heard-requires
 heard-requires c κs = search needs
 
 returns : tie.Need-returns
-unfolding atHost
 returns c =
     let m = c .before .before .before in
     let t = m .before in
-    rw (sym (t .before .counts .ensures) ∙ t .if1 .taken, ← m .header-of .ensures, ← c .before .answered-by .ensures) (c .heard .ensures)
+    let n = t .before .before in
+    noticed (n .before .args .h) (n .before .args .m) _ (n .counts .ensures) _ _ _ (t .if1 .taken) (m .header-of .ensures) (c .before .answered-by .ensures) (c .heard .ensures)
 
 returns-2 : tie.Need-returns-2
-unfolding atHost
-returns-2 c = rw (sym (c .before .counts .ensures) ∙ c .if1 .left) refl
+returns-2 c =
+    let n = c .before .before in
+    unnoticed (n .before .args .h) (n .before .args .m) _ (n .counts .ensures) (c .if1 .left)
 
 pub at-host-spec : {M : Type 1} → statement M
 at-host-spec =

@@ -1,25 +1,58 @@
 -- `host::finish` meets its contract
-use mathlib.Core.Path.{refl}
-use Rattle.rules.specs.Hosts.{finished}
+use Rattle.host.proofs.Laws.{finish-refused, finish-granted}
 use borrow.Author.Needs.{needs}
 use Rattle.host.proofs.finish.Statement.{statement}
 use Rattle.host.proofs.finish.Tie as tie
 
-no-attempt-requires : tie.Need-no-attempt-requires
-no-attempt-requires c κs = search needs
+front-requires : tie.Need-front-requires
+front-requires c κs = search needs
+
+closing-to-requires : tie.Need-closing-to-requires
+closing-to-requires c κs = search needs
+
+free-places-requires : tie.Need-free-places-requires
+free-places-requires c κs = search needs
+
+how-many-requires : tie.Need-how-many-requires
+how-many-requires c κs = search needs
+
+finish-code-requires : tie.Need-finish-code-requires
+finish-code-requires c κs = search needs
 
 returns : tie.Need-returns
-unfolding finished
-returns c = rw (c .if1 .taken, c .before .before .before .no-attempt .ensures) refl
+returns c =
+    let k = c .before in
+    let to = k .before .before .before in
+    finish-refused _ _ _ _ _ _ _ _ _ (to .before .front .ensures) (to .closing-to .ensures) (k .before .before .free-places .ensures) (k .before .how-many .ensures) (k .finish-code .ensures) (c .if1 .taken)
 
-without-front-requires : tie.Need-without-front-requires
-without-front-requires c κs = search needs
+end-requires : tie.Need-end-requires
+end-requires c κs = search needs
+
+close-requires : tie.Need-close-requires
+close-requires c κs = search needs
+
+finish-outcome-requires : tie.Need-finish-outcome-requires
+finish-outcome-requires c κs = search needs
 
 returns-2 : tie.Need-returns-2
-unfolding finished
 returns-2 c =
-    let e = c .before .before in
-    rw (e .if1 .left, e .before .before .before .no-attempt .ensures, c .without-front .ensures) refl
+    let e = c .before .before .before .before .before in
+    let k = e .before in
+    let to = k .before .before .before in
+    finish-granted _ _ _ _ _ _ _ _ _ (to .before .front .ensures) (to .closing-to .ensures) (k .before .before .free-places .ensures) (k .before .how-many .ensures) (k .finish-code .ensures) (e .if1 .left)
+    _ _ _ (c .before .before .end .ensures) (c .before .close .ensures) (c .finish-outcome .ensures)
 
 pub finish-spec : {M : Type 1} → statement M
-finish-spec = tie.close (tie.spec no-attempt-requires returns without-front-requires returns-2)
+finish-spec =
+    tie.close
+    (tie.spec
+    front-requires
+    closing-to-requires
+    free-places-requires
+    how-many-requires
+    finish-code-requires
+    returns
+    end-requires
+    close-requires
+    finish-outcome-requires
+    returns-2)

@@ -1,12 +1,13 @@
 -- `host::finish_code` meets its contract
+use Prim.Native.Nat.{ℕ}
 use mathlib.Core.Path.{_≡_, sym, ap, _∙_}
 use mathlib.Core.Bool.{not}
 use mathlib.Core.List.{List}
 use borrow.Author.Tests.{lt-ltb, le-ltb}
 use lib.ListN.{drop}
-use Rattle.rules.specs.Codes.{Row, granted, codeOf}
+use Rattle.rules.specs.Codes.{Row, codeOf}
 use Rattle.rules.specs.Hosts.{finishRefusals}
-use Rattle.host.proofs.Laws.{row-holds, row-passes}
+use Rattle.rules.proofs.Loops.{refused-here, refused-later, refused-nowhere}
 use borrow.Author.Needs.{needs}
 use Rattle.host.proofs.finish_code.Statement.{statement}
 use Rattle.host.proofs.finish_code.Tie as tie
@@ -14,36 +15,35 @@ use Rattle.host.proofs.finish_code.Tie as tie
 abbrev rows : tie.Start → List Row
 rows c = finishRefusals (c .args .h) (c .args .free) (c .args .messages)
 
-past1 : (c : tie.Else1) → let r = rows (c .before .before) in codeOf r ≡ codeOf (drop 1 r)
-past1 c = row-passes _ _ (c .if1 .left)
+past1 : (c : tie.Else1) (n : ℕ) → let r = rows (c .before .before) in n ≡ codeOf (drop 1 r) → n ≡ codeOf r
+past1 c n e = refused-later _ _ _ n (c .if1 .left) e
 
-past2 : (c : tie.Else2) → let r = rows (c .before .before .before .before) in codeOf r ≡ codeOf (drop 2 r)
-past2 c = past1 (c .before .before) ∙ row-passes _ _ (sym (ap not (c .before .has-current .ensures)) ∙ c .if2 .left)
+past2 : (c : tie.Else2) (n : ℕ) → let r = rows (c .before .before .before .before) in n ≡ codeOf (drop 2 r) → n ≡ codeOf r
+past2 c n e = past1 (c .before .before) n (refused-later _ _ _ n (sym (ap not (c .before .has-current .ensures)) ∙ c .if2 .left) e)
 
-past3 : (c : tie.Else3) → let r = rows (c .before .before .before .before .before .before) in codeOf r ≡ codeOf (drop 3 r)
-past3 c = past2 (c .before .before) ∙ row-passes _ _ (sym (c .before .is-outstanding .ensures) ∙ c .if3 .left)
+past3 : (c : tie.Else3) (n : ℕ) → let r = rows (c .before .before .before .before .before .before) in n ≡ codeOf (drop 3 r) → n ≡ codeOf r
+past3 c n e = past2 (c .before .before) n (refused-later _ _ _ n (sym (c .before .is-outstanding .ensures) ∙ c .if3 .left) e)
 
 returns : tie.Need-returns
-returns c = sym (row-holds _ _ (c .if1 .taken))
+returns c = refused-here _ _ _ (c .if1 .taken)
 
 has-current-requires : tie.Need-has-current-requires
 has-current-requires c κs = search needs
 
 returns-2 : tie.Need-returns-2
-returns-2 c = sym (past1 (c .before .before) ∙ row-holds _ _ (sym (ap not (c .before .has-current .ensures)) ∙ c .if2 .taken))
+returns-2 c = past1 (c .before .before) 2 (refused-here _ _ _ (sym (ap not (c .before .has-current .ensures)) ∙ c .if2 .taken))
 
 is-outstanding-requires : tie.Need-is-outstanding-requires
 is-outstanding-requires c κs = search needs
 
 returns-3 : tie.Need-returns-3
-returns-3 c = sym (past2 (c .before .before) ∙ row-holds _ _ (sym (c .before .is-outstanding .ensures) ∙ c .if3 .taken))
+returns-3 c = past2 (c .before .before) 2 (refused-here _ _ _ (sym (c .before .is-outstanding .ensures) ∙ c .if3 .taken))
 
 returns-4 : tie.Need-returns-4
-returns-4 c = sym (past3 (c .before) ∙ row-holds _ _ (lt-ltb _ _ (c .if4 .taken)))
+returns-4 c = past3 (c .before) 5 (refused-here _ _ _ (lt-ltb _ _ (c .if4 .taken)))
 
 returns-5 : tie.Need-returns-5
-unfolding codeOf
-returns-5 c = sym (past3 (c .before) ∙ row-passes _ granted (le-ltb _ _ (c .if4 .left)))
+returns-5 c = past3 (c .before) 0 (refused-later _ _ _ 0 (le-ltb _ _ (c .if4 .left)) refused-nowhere)
 
 pub finish-code-spec : {M : Type 1} → statement M
 finish-code-spec =

@@ -10,20 +10,20 @@ use borrow.Author.Needs.{needs}
 use Rattle.host.proofs.only.Statement.{statement}
 use Rattle.host.proofs.only.Tie as tie
 
-no-chunks-requires : tie.Need-no-chunks-requires
-no-chunks-requires c κs = search needs
+set-requires : tie.Need-set-requires
+set-requires c κs = search needs
 
 element-write-out : tie.Need-element-write-out
 element-write-out c = search needs
 
 returns : tie.Need-returns
-returns c = rw (c .before .no-chunks .ensures, ← marked-only 8 (c .before .before .args .chunk)) refl
+returns c = rw (c .before .set .ensures, ← marked-only 8 (c .before .before .args .chunk)) refl
 
 returns-2 : tie.Need-returns-2
 returns-2 c =
     let n = c .before .before .args .chunk in
     let k : length (replicate 8 false) ≤ n = omega arith in
-    rw (c .before .no-chunks .ensures, ← marked-only 8 n, set-out (replicate 8 false) n true k) refl
+    rw (c .before .set .ensures, ← marked-only 8 n, set-out (replicate 8 false) n true k) refl
 
 pub only-spec : {M : Type 1} → statement M
-only-spec = tie.close (tie.spec no-chunks-requires element-write-out returns returns-2)
+only-spec = tie.close (tie.spec set-requires element-write-out returns returns-2)

@@ -1,6 +1,6 @@
 -- `host::operation` meets its contract
 use Prim.Native.Nat.{_≤_, _<_}
-use mathlib.Core.Path.{sym}
+use mathlib.Core.Path.{sym, _∙_}
 use native.Mathlib.Omega.{arith}
 use lib.ListN.{length, take, length-take, List·getD-eq-default}
 use lib.Seq.{getD-take}
@@ -25,13 +25,17 @@ returns c =
     let k : a .i < a .t1 .count = omega (arith, length-take (a .t1 .count) (a .t1 .operations), h .held .ensures .0) in
     sym (getD-take (a .t1 .count) (a .t1 .operations) (a .i) zeroOperation k)
 
+operation-requires : tie.Need-operation-requires
+operation-requires c κs = search needs
+
 returns-2 : tie.Need-returns-2
 returns-2 c =
-    let h = c .before in
+    let h = c .before .before in
     let a = h .before .args in
     let k : length (take (a .t1 .count) (a .t1 .operations)) ≤ a .i = omega (arith, h .held .ensures .0) in
-    sym (List·getD-eq-default (take (a .t1 .count) (a .t1 .operations)) zeroOperation k)
+    c .operation .ensures
+    ∙ sym (List·getD-eq-default (take (a .t1 .count) (a .t1 .operations)) zeroOperation k)
 
 pub operation-spec : {M : Type 1} → statement M
 operation-spec =
-    tie.close (tie.spec held-requires mul-result element-copy-out-result returns returns-2)
+    tie.close (tie.spec held-requires mul-result element-copy-out-result returns operation-requires returns-2)
