@@ -1,0 +1,14 @@
+-- `creation::empty` meets its contract
+use mathlib.Core.Path.{refl}
+use borrow.Author.Needs.{needs}
+use Rattle.creation.proofs.empty.Statement.{statement}
+use Rattle.creation.proofs.empty.Tie as tie
+
+record-requires : tie.Need-record-requires
+record-requires c κs = search needs
+
+returns : tie.Need-returns
+returns c = rw (c .record .ensures) refl
+
+pub empty-spec : {M : Type 1} → statement M
+empty-spec = tie.close (tie.spec record-requires returns)

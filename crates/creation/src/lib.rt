@@ -1,0 +1,118 @@
+// What a created store begins with: fresh parts, and zero in unused places.
+ghost use mathlib.Core.Path.{_≡_};
+ghost use mathlib.Core.Bool.{true};
+ghost use Rattle.rules.specs.Creation.{isCreation, fresh, created};
+ghost use Rattle.rules.specs.Zero.{zeroTable};
+ghost use Rattle.creation.specs.Fresh.{emptyTable};
+use rules::BLOCKS;
+use rules::CHUNKS;
+use rules::Chunk;
+use rules::Created;
+use rules::Creation;
+use rules::Epoch;
+use rules::HOSTS;
+use rules::Host;
+use rules::PLACES;
+use rules::Place;
+use rules::RECORDS;
+use rules::Slot;
+use rules::State;
+use rules::Table;
+
+// "hosts working with map not current and epoch known 0".
+fn fresh_hosts(k: Creation) -> [Host; HOSTS]
+    requires { ⌜ isCreation k ≡ true ⌝ }
+    ensures { λ r. ⌜ r ≡ fresh k .hosts ⌝ }
+{
+    let unused = zero::host();
+    let mut new = unused;
+    new.working = true;
+    let n = k.hosts as usize;
+    let mut out = [unused; HOSTS];
+    let mut h: usize = 0;
+    while h < n {
+        out[h] = new;
+        h = h + 1;
+    }
+    out
+}
+
+// "epoch 1, chunks nolease and not lost".
+fn fresh_chunks(k: Creation) -> [Chunk; CHUNKS]
+    requires { ⌜ isCreation k ≡ true ⌝ }
+    ensures { λ r. ⌜ r ≡ fresh k .chunks ⌝ }
+{
+    let unused = zero::chunk();
+    let none = unused.reconcile;
+    let new = Chunk {
+        state: State::Nolease,
+        lost: false,
+        epoch: Epoch(1),
+        reconcile: none,
+    };
+    let n = k.chunks as usize;
+    let mut out = [unused; CHUNKS];
+    let mut c: usize = 0;
+    while c < n {
+        out[c] = new;
+        c = c + 1;
+    }
+    out
+}
+
+// "all values and timestamps 0, queues and network empty".
+fn empty(k: Creation, epoch: Epoch, hosts: [Host; HOSTS], chunks: [Chunk; CHUNKS]) -> Table
+    ensures { λ r. ⌜ r ≡ emptyTable k epoch hosts chunks ⌝ }
+{
+    let r = zero::record();
+    let p = Place { slot: Slot::Empty };
+    Table {
+        creation: k,
+        epoch: epoch,
+        hosts: hosts,
+        chunks: chunks,
+        records: [r; RECORDS],
+        places: [p; PLACES],
+    }
+}
+
+fn fresh(k: Creation) -> Table
+    requires { ⌜ isCreation k ≡ true ⌝ }
+    ensures { λ r. ⌜ r ≡ fresh k ⌝ }
+{
+    let hosts = fresh_hosts(k);
+    let chunks = fresh_chunks(k);
+    empty(k, Epoch(1), hosts, chunks)
+}
+
+// A refused creation "gives no store": a table of zeros.
+fn no_store() -> Table
+    ensures { λ r. ⌜ r ≡ zeroTable ⌝ }
+{
+    let s = zero::set();
+    let k = Creation {
+        hosts: 0,
+        chunks: 0,
+        blocks: 0,
+        age: 0,
+        sets: [s; BLOCKS],
+    };
+    let h = zero::host();
+    let c = zero::chunk();
+    empty(k, Epoch(0), [h; HOSTS], [c; CHUNKS])
+}
+
+// "Any other creation is refused with code 1 and gives no store".
+pub fn create(k: Creation) -> Created
+    ensures { λ r. ⌜ r ≡ created k ⌝ }
+{
+    if !sound::is_creation(k) {
+        let none = no_store();
+        return Created {
+            table: none,
+            code: 1,
+        };
+    }
+    let t = fresh(k);
+    Created { table: t, code: 0 }
+}

@@ -1,0 +1,120 @@
+-- The records of all chunks and blocks, stored block by block; the copies of a block, gathered chunk by chunk
+use Prim.Native.Nat.{ℕ, _+_, _<_}
+use mathlib.Core.Path.{_≡_, refl, sym, ap, _∙_}
+use mathlib.Core.Bool.{cond}
+use mathlib.Core.List.{List}
+use native.Mathlib.Decide.{ℕ-discrete}
+use native.Mathlib.Omega.{arith}
+use borrow.Author.Tests.{lt-ltb, le-ltb, eq-eqb, ne-eqb}
+use lib.Dec.{ltb, eqb}
+use lib.ListN.{length, getD, set, length-set}
+use lib.Seq.{getD-set-same, getD-set-other}
+use Rattle.rules.specs.declared.Record.{Record}
+use Rattle.rules.specs.declared.Copy.{Copy}
+use Rattle.rules.specs.declared.Table.{Table}
+use Rattle.rules.specs.Events.{copyOf, copiesOf}
+use Rattle.rules.specs.Limits.{chunkLimit, blockLimit}
+use Rattle.rules.specs.Settlement.{inSet, isLost, settled, allLost}
+use Rattle.rules.specs.Tables.{at, recordOf, recordsBy}
+use Rattle.rules.specs.Words.{each, every, from, numbers}
+use Rattle.rules.specs.Zero.{noRecord, noCopy}
+use Rattle.rules.proofs.Lists.{each-number, grid-at}
+use Rattle.rules.proofs.Loops.{every-those, below-next, made, made-next, grid-length, grid-of, grid-same}
+use Rattle.epoch.specs.Parts.{markedOnly, settledAt}
+
+-- ---- the records by chunk and block
+
+module _ (f : ℕ → ℕ → Record) where
+  pub records-length : length (recordsBy f) ≡ 128
+  records-length = grid-length chunkLimit blockLimit f
+
+  records-at : (c b : ℕ) → c < chunkLimit → b < blockLimit → getD (recordsBy f) (at c b) noRecord ≡ f c b
+  records-at c b h k = grid-at f chunkLimit blockLimit c b noRecord h k
+
+  records-of : (l : List Record) → length l ≡ 128 → ((c b : ℕ) → c < chunkLimit → b < blockLimit → getD l (at c b) noRecord ≡ f c b) → l ≡ recordsBy f
+  records-of l e h = grid-of chunkLimit blockLimit noRecord f l e h
+
+records-same : (f g : ℕ → ℕ → Record) → ((c b : ℕ) → c < chunkLimit → b < blockLimit → f c b ≡ g c b) → recordsBy f ≡ recordsBy g
+records-same f g h = grid-same chunkLimit blockLimit noRecord f g h
+
+-- ---- the copies of one block, gathered chunk by chunk: below chunk i they are, the others have their marks alone
+
+module _ (t : Table) (b : ℕ) where
+  abbrev gathered : ℕ → List Copy
+  gathered i = made (copyOf t b) (markedOnly t b) chunkLimit i
+
+  pub gathered-begin : each (markedOnly t b) (numbers chunkLimit) ≡ gathered 0
+  unfolding each from
+  gathered-begin = refl
+
+  pub gathered-next : (i : ℕ) → i < chunkLimit → (copies : List Copy) → copies ≡ gathered i
+      → set copies i (record { member = getD copies i noCopy .member; lost = getD copies i noCopy .lost; block = recordOf t i b }) ≡ gathered (i + 1)
+  gathered-next i h copies is =
+      let e : getD copies i noCopy ≡ markedOnly t b i = ap (λ (l : List Copy). getD l i noCopy) is ∙ here in
+      rw (e, is) (made-next (copyOf t b) (markedOnly t b) chunkLimit i h)
+    where
+      here : getD (gathered i) i noCopy ≡ markedOnly t b i
+      here = each-number (λ j. cond (ltb j i) (copyOf t b j) (markedOnly t b j)) chunkLimit i noCopy h ∙ rw (le-ltb i i (omega arith)) refl
+
+  -- code 6 looks at the marks alone
+  pub lost-marks : allLost (copiesOf t b) ≡ allLost (each (markedOnly t b) (numbers chunkLimit))
+  unfolding allLost every each from
+  lost-marks = every-those isLost inSet (copiesOf t b) ∙ sym (every-those isLost inSet (each (markedOnly t b) (numbers chunkLimit)))
+
+-- ---- one block is stored, chunk by chunk: below chunk i it is
+
+module _ (records : List Record) (block : ℕ) (copies : List Copy) where
+  abbrev storedAt : (c b : ℕ) → Record
+  storedAt c b = cond (eqb b block) (getD copies c noCopy .block) (getD records (at c b) noRecord)
+
+  abbrev pub storedTo : ℕ → (c b : ℕ) → Record
+  storedTo i c b = cond (ltb c i) (storedAt c b) (getD records (at c b) noRecord)
+
+  pub stored-begin : length records ≡ 128 → records ≡ recordsBy (storedTo 0)
+  stored-begin len = records-of (storedTo 0) records len (λ c b _ _. rw (le-ltb c 0 (omega arith)) refl)
+
+  pub stored-next : (i : ℕ) → i < chunkLimit → block < blockLimit → set (recordsBy (storedTo i)) (at i block) (getD copies i noCopy .block) ≡ recordsBy (storedTo (i + 1))
+  stored-next i h inside =
+      records-of (storedTo (i + 1)) (set old (at i block) new) (length-set old (at i block) new ∙ records-length (storedTo i))
+      (λ c b k m. go c b k m (ℕ-discrete c i) (ℕ-discrete b block))
+    where
+      old : List Record
+      old = recordsBy (storedTo i)
+
+      new : Record
+      new = getD copies i noCopy .block
+
+      other : (c b : ℕ) → c < chunkLimit → b < blockLimit → (at c b ≡ at i block → ⊥) → getD (set old (at i block) new) (at c b) noRecord ≡ storedTo i c b
+      other c b k m e = getD-set-other old (at i block) (at c b) new noRecord e ∙ records-at (storedTo i) c b k m
+
+      go : (c b : ℕ) → c < chunkLimit → b < blockLimit → Dec (c ≡ i) → Dec (b ≡ block) → getD (set old (at i block) new) (at c b) noRecord ≡ storedTo (i + 1) c b
+      go c b k m (yes e) (yes d) =
+          rw (e, d, lt-ltb i (i + 1) (omega arith), eq-eqb block block refl)
+          (getD-set-same old (at i block) new noRecord (omega (arith, records-length (storedTo i))))
+      go c b k m (yes e) (no d) =
+          other c b k m (λ x. d (omega arith)) ∙ rw (e, le-ltb i i (omega arith), lt-ltb i (i + 1) (omega arith), ne-eqb b block d) refl
+      go c b k m (no e) _ = other c b k m (λ x. e (omega arith)) ∙ rw (below-next i c e) refl
+
+  pub stored-end : recordsBy (storedTo chunkLimit) ≡ recordsBy storedAt
+  stored-end = records-same (storedTo chunkLimit) storedAt (λ c b k _. rw (lt-ltb c chunkLimit k) refl)
+
+-- ---- the blocks are settled one after the other: below block i they are
+
+module _ (t : Table) where
+  abbrev pub settledTo : ℕ → (c b : ℕ) → Record
+  settledTo i c b = cond (ltb b i) (settledAt t c b) (getD (t .records) (at c b) noRecord)
+
+  pub settled-begin : length (t .records) ≡ 128 → t .records ≡ recordsBy (settledTo 0)
+  settled-begin len = records-of (settledTo 0) (t .records) len (λ c b _ _. rw (le-ltb b 0 (omega arith)) refl)
+
+  pub settled-next : (i : ℕ) (old : List Record) (copies : List Copy) → old ≡ recordsBy (settledTo i) → copies ≡ settled (copiesOf t i)
+      → recordsBy (storedAt old i copies) ≡ recordsBy (settledTo (i + 1))
+  settled-next i old copies ho hc =
+      rw (ho, hc) (records-same (storedAt (recordsBy (settledTo i)) i (settled (copiesOf t i))) (settledTo (i + 1)) (λ c b k m. go c b k m (ℕ-discrete b i)))
+    where
+      go : (c b : ℕ) → c < chunkLimit → b < blockLimit → Dec (b ≡ i) → storedAt (recordsBy (settledTo i)) i (settled (copiesOf t i)) c b ≡ settledTo (i + 1) c b
+      go c b k m (yes e) = rw (e, eq-eqb i i refl, lt-ltb i (i + 1) (omega arith)) refl
+      go c b k m (no e) = rw (ne-eqb b i e) (records-at (settledTo i) c b k m ∙ rw (below-next i b e) refl)
+
+  pub settled-end : recordsBy (settledTo blockLimit) ≡ recordsBy (settledAt t)
+  settled-end = records-same (settledTo blockLimit) (settledAt t) (λ c b _ m. rw (lt-ltb b blockLimit m) refl)
