@@ -91,10 +91,12 @@ fn any_all_lost(k: Creation, chunks: [Chunk; CHUNKS]) -> bool
 pub fn change_code(k: Creation, epoch: Epoch, chunks: [Chunk; CHUNKS]) -> u64
     ensures { λ r. ⌜ r ≡ codeOf (epochRefusals (withEpoch (tableOf k chunks []) epoch)) ⌝ }
 {
-    if any_failed(chunks) {
+    let failed = any_failed(chunks);
+    let last = epoch.0 == rules::GREATEST_CLOCK;
+    if failed {
         return 2;
     }
-    if epoch.0 == rules::GREATEST_CLOCK {
+    if last {
         return 7;
     }
     if any_all_lost(k, chunks) {
