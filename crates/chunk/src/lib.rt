@@ -138,7 +138,7 @@ fn with_state(c: Chunk, state: State) -> Chunk
     }
 }
 
-// "0 done", the new chunk; else the refusal's code, and the old one.
+// Code 0, "done": the new chunk; a refusal: the "same".
 fn unless_refused(code: u64, old: Chunk, new: Chunk) -> Changed
     ensures { λ r. ⌜ r ≡ record { code = code; chunk = if eqb code 0 then new else old } ⌝ }
 {
