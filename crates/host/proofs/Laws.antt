@@ -15,7 +15,7 @@ use Rattle.rules.specs.declared.Message.{Message}
 use Rattle.rules.specs.declared.Outcome.{Outcome}
 use Rattle.rules.specs.declared.Place.{Place}
 use Rattle.rules.specs.Codes.{Row, codeOf}
-use Rattle.rules.specs.Hosts.{queueOf, front, startRefusals, openingTo, opening, started, counts, answeredBy, heard, atHost, finishRefusals, closingTo, closing, finishOutcome, finished}
+use Rattle.rules.specs.Hosts.{queueOf, front, startRefusals, openingTo, opening, counts, answeredBy, heard, atHost, finishRefusals, closingTo, closing, finishOutcome, finished}
 use Rattle.rules.specs.Kinds.{headed, headerOf}
 use Rattle.rules.specs.Limits.{hostLimit, operationLimit, greatestClock}
 use Rattle.rules.specs.Network.{freePlaces, howMany, sentToEach}
@@ -27,7 +27,7 @@ use Rattle.host.specs.declared.Keeper.{Keeper}
 use Rattle.host.specs.declared.Moved.{Moved}
 use Rattle.host.specs.declared.Sent.{Sent}
 use Rattle.host.specs.Keeper.{refused, drawn}
-use Rattle.host.specs.Moves.{moved, hears, sentOr, starts, finishes}
+use Rattle.host.specs.Moves.{moved, hears, begun, sentOr, starts, finishes}
 
 -- a queue that has the operations of l is l's
 pub queue-is : (l : List Operation) (n : ℕ) (array : List Operation) → n ≡ length l → array ≡ filled operationLimit zeroOperation l
@@ -94,32 +94,31 @@ module _ (rows : List Row) (old new : Host) (before after : List Place) (x : Out
   sends : code ≡ 0 → _≡_ {A = Sent} (record { code = 0; host = new; places = after; outcome = x }) (sentOr rows old new before after x)
   sends h = rw (← code-is, h) refl
 
--- o, to, free and n are what the code gathers
+-- o and to are what the code gathers
 
-module _ (number clock copy : ℕ) (holders : Set) (h : Host) (places : List Place) (o : Operation) (to : Set) (free n code : ℕ)
-    (o-is : o ≡ front h) (to-is : to ≡ openingTo (o .action) copy holders) (free-is : free ≡ freePlaces places) (n-is : n ≡ howMany to)
-    (code-is : code ≡ codeOf (startRefusals h clock copy holders free n)) where
+module _ (number clock copy : ℕ) (holders : Set) (h : Host) (places : List Place) (o : Operation) (to : Set) (code : ℕ)
+    (o-is : o ≡ front h) (to-is : to ≡ openingTo (o .action) copy holders)
+    (code-is : code ≡ codeOf (startRefusals h clock copy holders (freePlaces places) (howMany to))) where
   start-code : code ≡ codeOf (startRefusals h clock copy holders (freePlaces places) (howMany (openingTo (front h .action) copy holders)))
-  start-code = rw (code-is, free-is, n-is, to-is, o-is) refl
+  start-code = rw (code-is, to-is, o-is) refl
 
   pub start-refused : (code ≡ 0 → ⊥)
       → _≡_ {A = Sent} (record { code = code; host = h; places = places; outcome = Outcome.None }) (starts number clock copy holders h places)
   unfolding starts
   start-refused k = unsent _ _ _ _ _ _ code start-code k
 
-  pub start-granted : code ≡ 0 → (d : Drawn) (new : Host) (after : List Place)
-      → d ≡ drawn (record { host = number; last = h .clock }) clock
-      → new ≡ started h (d .timestamp) (d .keeper .last) to
-      → after ≡ sentToEach places to (λ chunk. opening (headed number chunk (o .block) (d .timestamp)) (h .epoch) (o .action))
+  pub start-granted : code ≡ 0 → (new : Host) (after : List Place)
+      → new ≡ begun number clock h to
+      → after ≡ sentToEach places to (λ chunk. opening (headed number chunk (o .block) (new .attempt .timestamp)) (h .epoch) (o .action))
       → _≡_ {A = Sent} (record { code = 0; host = new; places = after; outcome = Outcome.None }) (starts number clock copy holders h places)
   unfolding starts
-  start-granted k d new after d-is new-is after-is = rw (new-is, after-is, d-is, to-is, o-is) (sends _ _ _ _ _ _ code start-code k)
+  start-granted k new after new-is after-is = rw (after-is, new-is, to-is, o-is) (sends _ _ _ _ _ _ code start-code k)
 
-module _ (number : ℕ) (holders : Set) (h : Host) (places : List Place) (o : Operation) (to : Set) (free n code : ℕ)
-    (o-is : o ≡ front h) (to-is : to ≡ closingTo (o .action) holders) (free-is : free ≡ freePlaces places) (n-is : n ≡ howMany to)
-    (code-is : code ≡ codeOf (finishRefusals h free n)) where
+module _ (number : ℕ) (holders : Set) (h : Host) (places : List Place) (o : Operation) (to : Set) (code : ℕ)
+    (o-is : o ≡ front h) (to-is : to ≡ closingTo (o .action) holders)
+    (code-is : code ≡ codeOf (finishRefusals h (freePlaces places) (howMany to))) where
   finish-code : code ≡ codeOf (finishRefusals h (freePlaces places) (howMany (closingTo (front h .action) holders)))
-  finish-code = rw (code-is, free-is, n-is, to-is, o-is) refl
+  finish-code = rw (code-is, to-is, o-is) refl
 
   pub finish-refused : (code ≡ 0 → ⊥)
       → _≡_ {A = Sent} (record { code = code; host = h; places = places; outcome = Outcome.None }) (finishes number holders h places)

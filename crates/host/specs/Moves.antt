@@ -33,6 +33,12 @@ sentOr rows old new before after x = record {
   outcome = if eqb (codeOf rows) 0 then x else Outcome.None;
 }
 
+-- the host's attempt begins with the clock that its keeper hands out
+abbrev pub begun : (number clock : ℕ) → Host → (to : Set) → Host
+begun number clock h to =
+    let d = drawn (record { host = number; last = h .clock }) clock in
+    started h (d .timestamp) (d .keeper .last) to
+
 -- "3 start (host, clock from 1, copy)", with the clock that the host's keeper hands out
 unfoldable pub starts : (number clock copy : ℕ) → Set → Host → List Place → Sent
 starts number clock copy holders h places =

@@ -3,18 +3,20 @@ ghost use mathlib.Core.Path.{_≡_};
 ghost use mathlib.Core.Bool.{false};
 ghost use mathlib.Core.List.{[], _∷_, _++_};
 ghost use Prim.Native.Nat.{_≤_};
+ghost use lib.Dec.{ltb};
 ghost use lib.ListN.{length, getD, set, take, drop};
 ghost use Rattle.rules.specs.Codes.{codeOf};
 ghost use Rattle.rules.specs.Hosts.{queueOf, front, hasCurrent, isOutstanding, only};
-ghost use Rattle.rules.specs.Hosts.{intakeRefusals, appended, startRefusals, openingTo, started, suits, counts, answeredBy};
+ghost use Rattle.rules.specs.Hosts.{intakeRefusals, appended, startRefusals, openingTo, suits, counts, answeredBy};
 ghost use Rattle.rules.specs.Hosts.{heard, finishRefusals, closingTo, doneAs, failedAs, finishOutcome, finished};
 ghost use Rattle.rules.specs.Hosts.{timeoutRefusals, timedOut, workingRefusals, refreshed, stopped};
 ghost use Rattle.rules.specs.Kinds.{isReading};
 ghost use Rattle.rules.specs.Limits.{operationLimit};
+ghost use Rattle.rules.specs.Network.{freePlaces, howMany};
 ghost use Rattle.rules.specs.Words.{filled};
 ghost use Rattle.rules.specs.Zero.{_among_, zeroOperation};
 ghost use Rattle.host.specs.Keeper.{refused, drawn};
-ghost use Rattle.host.specs.Moves.{moved, hears, starts, finishes};
+ghost use Rattle.host.specs.Moves.{moved, hears, begun, starts, finishes};
 use rules::Action;
 use rules::Attempt;
 use rules::Epoch;
@@ -224,6 +226,15 @@ pub fn intake(h: Host, o: Operation) -> Moved
     Moved { code: 0, host: out }
 }
 
+// ---- the network
+
+// ".. room (5)": there are fewer free places than messages.
+fn lacks_room(places: [Place; rules::PLACES], to: Set) -> bool
+    ensures { λ r. ⌜ r ≡ ltb (freePlaces places) (howMany to) ⌝ }
+{
+    network::free_places(places) < network::how_many(to)
+}
+
 // ---- the clock keeper
 
 // "each host's clock keeper hands out a number and remembers it".
@@ -275,8 +286,15 @@ pub fn draw(k: Keeper, clock: u64) -> Drawn
 
 // "Needs working, no current operation, one waiting, map current (2); .. a read's copy must be in the set (1); clock (3);
 // room (5)".
-fn start_code(h: Host, clock: u64, copy: u64, holders: Set, free: u64, messages: u64) -> u64
-    ensures { λ r. ⌜ r ≡ codeOf (startRefusals h clock copy holders free messages) ⌝ }
+fn start_code(
+    h: Host,
+    clock: u64,
+    copy: u64,
+    holders: Set,
+    places: [Place; rules::PLACES],
+    to: Set,
+) -> u64
+    ensures { λ r. ⌜ r ≡ codeOf (startRefusals h clock copy holders (freePlaces places) (howMany to)) ⌝ }
 {
     if !h.working {
         return 2;
@@ -298,7 +316,7 @@ fn start_code(h: Host, clock: u64, copy: u64, holders: Set, free: u64, messages:
     if clock <= h.clock {
         return 3;
     }
-    if free < messages {
+    if lacks_room(places, to) {
         return 5;
     }
     0
@@ -314,12 +332,18 @@ fn opening_to(action: Action, copy: u64, holders: Set) -> Set
     }
 }
 
-// "Okay and restart become true, the result value 0 .. Those are outstanding".
-fn begin(h: Host, t: Timestamp, clock: u64, to: Set) -> Host
-    ensures { λ r. ⌜ r ≡ started h t clock to ⌝ }
+// "Okay and restart become true, the result value 0 .. Those are outstanding", at the timestamp that the keeper draws.
+fn begin(number: u64, clock: u64, h: Host, to: Set) -> Host
+    ensures { λ r. ⌜ r ≡ begun number clock h to ⌝ }
 {
+    let keeper = Keeper {
+        host: number,
+        last: h.clock,
+    };
+    let d = draw(keeper, clock);
+    let now = d.timestamp;
     let a = Attempt {
-        timestamp: t,
+        timestamp: now,
         outstanding: to,
         okay: true,
         restart: true,
@@ -327,7 +351,7 @@ fn begin(h: Host, t: Timestamp, clock: u64, to: Set) -> Host
     };
     let mut out = h;
     out.attempt = a;
-    out.clock = clock;
+    out.clock = d.keeper.last;
     out
 }
 
@@ -345,9 +369,7 @@ pub fn start(
     let o = front(h);
     let action = o.action;
     let to = opening_to(action, copy, holders);
-    let free = network::free_places(places);
-    let messages = network::how_many(to);
-    let code = start_code(h, clock, copy, holders, free, messages);
+    let code = start_code(h, clock, copy, holders, places, to);
     if code != 0 {
         return Sent {
             code: code,
@@ -356,14 +378,9 @@ pub fn start(
             outcome: Outcome::None,
         };
     }
-    let keeper = Keeper {
-        host: number,
-        last: h.clock,
-    };
-    let d = draw(keeper, clock);
-    let now = d.timestamp;
+    let new = begin(number, clock, h, to);
+    let now = new.attempt.timestamp;
     let epoch = h.epoch;
-    let new = begin(h, now, d.keeper.last, to);
     let after = network::open(places, to, number, o.block, now, epoch, action);
     Sent {
         code: 0,
@@ -467,8 +484,8 @@ pub fn at_host(h: Host, m: Message) -> Host
 // ---- finish
 
 // "Needs working, a current operation, nothing outstanding (2); room for a write's messages (5)".
-fn finish_code(h: Host, free: u64, messages: u64) -> u64
-    ensures { λ r. ⌜ r ≡ codeOf (finishRefusals h free messages) ⌝ }
+fn finish_code(h: Host, places: [Place; rules::PLACES], to: Set) -> u64
+    ensures { λ r. ⌜ r ≡ codeOf (finishRefusals h (freePlaces places) (howMany to)) ⌝ }
 {
     if !h.working {
         return 2;
@@ -479,7 +496,7 @@ fn finish_code(h: Host, free: u64, messages: u64) -> u64
     if is_outstanding(h) {
         return 2;
     }
-    if free < messages {
+    if lacks_room(places, to) {
         return 5;
     }
     0
@@ -567,9 +584,7 @@ pub fn finish(number: u64, holders: Set, h: Host, places: [Place; rules::PLACES]
     let o = front(h);
     let action = o.action;
     let to = closing_to(action, holders);
-    let free = network::free_places(places);
-    let messages = network::how_many(to);
-    let code = finish_code(h, free, messages);
+    let code = finish_code(h, places, to);
     if code != 0 {
         return Sent {
             code: code,

@@ -10,20 +10,13 @@ front-requires c κs = search needs
 closing-to-requires : tie.Need-closing-to-requires
 closing-to-requires c κs = search needs
 
-free-places-requires : tie.Need-free-places-requires
-free-places-requires c κs = search needs
-
-how-many-requires : tie.Need-how-many-requires
-how-many-requires c κs = search needs
-
 finish-code-requires : tie.Need-finish-code-requires
 finish-code-requires c κs = search needs
 
 returns : tie.Need-returns
 returns c =
     let k = c .before in
-    let to = k .before .before .before in
-    finish-refused _ _ _ _ _ _ _ _ _ (to .before .front .ensures) (to .closing-to .ensures) (k .before .before .free-places .ensures) (k .before .how-many .ensures) (k .finish-code .ensures) (c .if1 .taken)
+    finish-refused _ _ _ _ _ _ _ (k .before .before .front .ensures) (k .before .closing-to .ensures) (k .finish-code .ensures) (c .if1 .taken)
 
 end-requires : tie.Need-end-requires
 end-requires c κs = search needs
@@ -38,8 +31,7 @@ returns-2 : tie.Need-returns-2
 returns-2 c =
     let e = c .before .before .before .before .before in
     let k = e .before in
-    let to = k .before .before .before in
-    finish-granted _ _ _ _ _ _ _ _ _ (to .before .front .ensures) (to .closing-to .ensures) (k .before .before .free-places .ensures) (k .before .how-many .ensures) (k .finish-code .ensures) (e .if1 .left)
+    finish-granted _ _ _ _ _ _ _ (k .before .before .front .ensures) (k .before .closing-to .ensures) (k .finish-code .ensures) (e .if1 .left)
     _ _ _ (c .before .before .end .ensures) (c .before .close .ensures) (c .finish-outcome .ensures)
 
 pub finish-spec : {M : Type 1} → statement M
@@ -48,8 +40,6 @@ finish-spec =
     (tie.spec
     front-requires
     closing-to-requires
-    free-places-requires
-    how-many-requires
     finish-code-requires
     returns
     end-requires

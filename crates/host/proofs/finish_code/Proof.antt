@@ -3,17 +3,17 @@ use Prim.Native.Nat.{ℕ}
 use mathlib.Core.Path.{_≡_, sym, ap, _∙_}
 use mathlib.Core.Bool.{not}
 use mathlib.Core.List.{List}
-use borrow.Author.Tests.{lt-ltb, le-ltb}
 use lib.ListN.{drop}
 use Rattle.rules.specs.Codes.{Row, codeOf}
 use Rattle.rules.specs.Hosts.{finishRefusals}
+use Rattle.rules.specs.Network.{freePlaces, howMany}
 use Rattle.rules.proofs.Loops.{refused-here, refused-later, refused-nowhere}
 use borrow.Author.Needs.{needs}
 use Rattle.host.proofs.finish_code.Statement.{statement}
 use Rattle.host.proofs.finish_code.Tie as tie
 
 abbrev rows : tie.Start → List Row
-rows c = finishRefusals (c .args .h) (c .args .free) (c .args .messages)
+rows c = finishRefusals (c .args .h) (freePlaces (c .args .places)) (howMany (c .args .to))
 
 past1 : (c : tie.Else1) (n : ℕ) → let r = rows (c .before .before) in n ≡ codeOf (drop 1 r) → n ≡ codeOf r
 past1 c n e = refused-later _ _ _ n (c .if1 .left) e
@@ -39,11 +39,14 @@ is-outstanding-requires c κs = search needs
 returns-3 : tie.Need-returns-3
 returns-3 c = past2 (c .before .before) 2 (refused-here _ _ _ (sym (c .before .is-outstanding .ensures) ∙ c .if3 .taken))
 
+lacks-room-requires : tie.Need-lacks-room-requires
+lacks-room-requires c κs = search needs
+
 returns-4 : tie.Need-returns-4
-returns-4 c = past3 (c .before) 5 (refused-here _ _ _ (lt-ltb _ _ (c .if4 .taken)))
+returns-4 c = past3 (c .before .before) 5 (refused-here _ _ _ (sym (c .before .lacks-room .ensures) ∙ c .if4 .taken))
 
 returns-5 : tie.Need-returns-5
-returns-5 c = past3 (c .before) 0 (refused-later _ _ _ 0 (le-ltb _ _ (c .if4 .left)) refused-nowhere)
+returns-5 c = past3 (c .before .before) 0 (refused-later _ _ _ 0 (sym (c .before .lacks-room .ensures) ∙ c .if4 .left) refused-nowhere)
 
 pub finish-code-spec : {M : Type 1} → statement M
 finish-code-spec =
@@ -54,5 +57,6 @@ finish-code-spec =
     returns-2
     is-outstanding-requires
     returns-3
+    lacks-room-requires
     returns-4
     returns-5)

@@ -3,12 +3,13 @@ use Prim.Native.Nat.{ℕ}
 use mathlib.Core.Path.{_≡_, refl, sym, _∙_}
 use mathlib.Core.Bool.{_&&_, not}
 use mathlib.Core.List.{List}
-use borrow.Author.Tests.{lt-ltb, le-ltb, lt-leb, le-leb, eq-eqb, ne-eqb}
+use borrow.Author.Tests.{lt-leb, le-leb, eq-eqb, ne-eqb}
 use lib.ListN.{drop}
 use Rattle.rules.specs.Codes.{Row, codeOf}
 use Rattle.rules.specs.Hosts.{front, startRefusals}
 use Rattle.rules.specs.Kinds.{isReading}
 use Rattle.rules.specs.Zero.{_among_}
+use Rattle.rules.specs.Network.{freePlaces, howMany}
 use Rattle.rules.proofs.Loops.{refused-here, refused-later, refused-nowhere}
 use borrow.Author.Needs.{needs}
 use Rattle.host.proofs.start_code.Statement.{statement}
@@ -22,7 +23,7 @@ situation c = rw (c .among .ensures, c .before .is-reading .ensures, c .before .
 abbrev rows : tie.Start → List Row
 rows c =
     let a = c .args in
-    startRefusals (a .h) (a .clock) (a .copy) (a .holders) (a .free) (a .messages)
+    startRefusals (a .h) (a .clock) (a .copy) (a .holders) (freePlaces (a .places)) (howMany (a .to))
 
 past1 : (c : tie.Else1) (n : ℕ) → let r = rows (c .before .before) in n ≡ codeOf (drop 1 r) → n ≡ codeOf r
 past1 c n e = refused-later _ _ _ n (c .if1 .left) e
@@ -72,11 +73,14 @@ returns-5 c = past4 (c .before .before .before .before) 1 (refused-here _ _ _ (s
 returns-6 : tie.Need-returns-6
 returns-6 c = past5 (c .before .before) 3 (refused-here _ _ _ (le-leb _ _ (c .if6 .taken)))
 
+lacks-room-requires : tie.Need-lacks-room-requires
+lacks-room-requires c κs = search needs
+
 returns-7 : tie.Need-returns-7
-returns-7 c = past6 (c .before) 5 (refused-here _ _ _ (lt-ltb _ _ (c .if7 .taken)))
+returns-7 c = past6 (c .before .before) 5 (refused-here _ _ _ (sym (c .before .lacks-room .ensures) ∙ c .if7 .taken))
 
 returns-8 : tie.Need-returns-8
-returns-8 c = past6 (c .before) 0 (refused-later _ _ _ 0 (le-ltb _ _ (c .if7 .left)) refused-nowhere)
+returns-8 c = past6 (c .before .before) 0 (refused-later _ _ _ 0 (sym (c .before .lacks-room .ensures) ∙ c .if7 .left) refused-nowhere)
 
 pub start-code-spec : {M : Type 1} → statement M
 start-code-spec =
@@ -92,5 +96,6 @@ start-code-spec =
     among-requires
     returns-5
     returns-6
+    lacks-room-requires
     returns-7
     returns-8)

@@ -1,0 +1,14 @@
+-- `host::begin` meets its contract
+use mathlib.Core.Path.{refl}
+use borrow.Author.Needs.{needs}
+use Rattle.host.proofs.begin.Statement.{statement}
+use Rattle.host.proofs.begin.Tie as tie
+
+draw-requires : tie.Need-draw-requires
+draw-requires c κs = search needs
+
+returns : tie.Need-returns
+returns c = rw (← c .before .draw .ensures) refl
+
+pub begin-spec : {M : Type 1} → statement M
+begin-spec = tie.close (tie.spec draw-requires returns)
