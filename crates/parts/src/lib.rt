@@ -1,4 +1,8 @@
 // One event on the parts of the table that it touches: a host, a chunk, a record, the network. Failure and epoch change touch more.
+use chunk::Changed;
+use chunk::Ran;
+use host::Moved;
+use host::Sent;
 use rules::Action;
 use rules::Chunk;
 use rules::Creation;
@@ -14,10 +18,6 @@ use rules::Set;
 use rules::Slot;
 use rules::Timestamp;
 use rules::Waiting;
-use chunk::Changed;
-use chunk::Ran;
-use host::Moved;
-use host::Sent;
 ghost use mathlib.Core.Path.{_≡_};
 ghost use Rattle.parts.specs.Address.{addressOf, isMailEvent, isHostEvent, isChunkEvent, placeAt, hostAt, chunkAt, blockAt, rangesOf};
 ghost use Rattle.parts.specs.Acts.{byHost, byMessages, byChunk, byRun, byMail, unchanged, hostMoved, chunkChanged, delivered, taken, mailTaken, acted};
@@ -59,14 +59,24 @@ pub fn in_range(k: Creation, e: Event) -> bool
     ensures { λ r. ⌜ r ≡ rangesOf k e ⌝ }
 {
     let kind = e.kind;
+    let host = (e.a < k.hosts) & (e.b == 0) & (e.c == 0);
+    let chunk = (e.a < k.chunks) & (e.b == 0) & (e.c == 0);
+    let place = (e.a < rules::PLACES as u64) & (e.b == 0) & (e.c == 0);
     match kind {
         1 => (e.a < k.hosts) & (e.b < k.blocks) & (e.c == 0),
         2 => (e.a < k.hosts) & (e.b < k.blocks),
         3 => (e.a < k.hosts) & ((1 <= e.b) & (e.b <= rules::GREATEST_CLOCK)) & (e.c < k.chunks),
-        4 | 5 => (e.a < rules::PLACES as u64) & (e.b == 0) & (e.c == 0),
-        6 | 7 | 8 | 10 => (e.a < k.hosts) & (e.b == 0) & (e.c == 0),
+        4 => place,
+        5 => place,
+        6 => host,
+        7 => host,
+        8 => host,
         9 => (e.a < k.chunks) & (e.b < k.blocks) & (e.c == 0),
-        11 | 12 | 13 | 14 => (e.a < k.chunks) & (e.b == 0) & (e.c == 0),
+        10 => host,
+        11 => chunk,
+        12 => chunk,
+        13 => chunk,
+        14 => chunk,
         15 => (e.a == 0) & (e.b == 0) & (e.c == 0),
         16 => (e.a < k.chunks) & (e.b < k.blocks) & (e.c <= rules::GREATEST_CLOCK),
         _ => false,
@@ -161,90 +171,94 @@ pub fn block_at(e: Event, s: Slot, h: Host) -> u64
     0
 }
 
-// ---- what is left where an event changes the host alone, the host and the network, the chunk alone, ..
+// ---- what is left of the parts
 
-fn by_host(p: Parts, m: Moved) -> Acted
-    ensures { λ r. ⌜ r ≡ byHost p m ⌝ }
-{
-    Acted {
-        code: m.code,
-        host: m.host,
-        chunk: p.chunk,
-        block: p.block,
-        places: p.places,
-        outcome: Outcome::None,
-    }
-}
-
-fn by_messages(p: Parts, s: Sent) -> Acted
-    ensures { λ r. ⌜ r ≡ byMessages p s ⌝ }
-{
-    Acted {
-        code: s.code,
-        host: s.host,
-        chunk: p.chunk,
-        block: p.block,
-        places: s.places,
-        outcome: s.outcome,
-    }
-}
-
-fn by_chunk(p: Parts, c: Changed) -> Acted
-    ensures { λ r. ⌜ r ≡ byChunk p c ⌝ }
-{
-    Acted {
-        code: c.code,
-        host: p.host,
-        chunk: c.chunk,
-        block: p.block,
-        places: p.places,
-        outcome: Outcome::None,
-    }
-}
-
-fn by_run(p: Parts, r: Ran) -> Acted
-    ensures { λ a. ⌜ a ≡ byRun p r ⌝ }
-{
-    let reply = r.reply;
-    let places = network::reply(p.places, reply);
-    Acted {
-        code: r.code,
-        host: p.host,
-        chunk: p.chunk,
-        block: r.block,
-        places: places,
-        outcome: Outcome::None,
-    }
-}
-
-fn by_mail(p: Parts, place: u64, d: Delivered) -> Acted
-    ensures { λ r. ⌜ r ≡ byMail p place d ⌝ }
-{
-    let left = network::remove(p.places, place);
-    let reply = d.reply;
-    let places = network::reply(left, reply);
-    Acted {
-        code: 0,
-        host: d.host,
-        chunk: p.chunk,
-        block: d.block,
-        places: places,
-        outcome: Outcome::None,
-    }
-}
-
-// "same table, zeros".
+// "same table, zeros", where the code is a refusal's.
 fn unchanged(p: Parts, code: u64) -> Acted
     ensures { λ r. ⌜ r ≡ unchanged p code ⌝ }
 {
+    let host = p.host;
+    let chunk = p.chunk;
+    let block = p.block;
+    let places = p.places;
     Acted {
         code: code,
-        host: p.host,
-        chunk: p.chunk,
-        block: p.block,
-        places: p.places,
+        host: host,
+        chunk: chunk,
+        block: block,
+        places: places,
         outcome: Outcome::None,
     }
+}
+
+// The host alone changes.
+fn by_host(p: Parts, m: Moved) -> Acted
+    ensures { λ r. ⌜ r ≡ byHost p m ⌝ }
+{
+    let host = m.host;
+    let mut out = unchanged(p, m.code);
+    out.host = host;
+    out
+}
+
+// The host and the network change, and there may be an outcome.
+fn by_messages(p: Parts, s: Sent) -> Acted
+    ensures { λ r. ⌜ r ≡ byMessages p s ⌝ }
+{
+    let host = s.host;
+    let places = s.places;
+    let outcome = s.outcome;
+    let chunk = p.chunk;
+    let block = p.block;
+    Acted {
+        code: s.code,
+        host: host,
+        chunk: chunk,
+        block: block,
+        places: places,
+        outcome: outcome,
+    }
+}
+
+// The chunk alone changes.
+fn by_chunk(p: Parts, c: Changed) -> Acted
+    ensures { λ r. ⌜ r ≡ byChunk p c ⌝ }
+{
+    let chunk = c.chunk;
+    let mut out = unchanged(p, c.code);
+    out.chunk = chunk;
+    out
+}
+
+// A record changes, and the sender may have a reply.
+fn by_run(p: Parts, r: Ran) -> Acted
+    ensures { λ a. ⌜ a ≡ byRun p r ⌝ }
+{
+    let block = r.block;
+    let reply = r.reply;
+    let before = p.places;
+    let places = network::reply(before, reply);
+    let mut out = unchanged(p, r.code);
+    out.block = block;
+    out.places = places;
+    out
+}
+
+// The message is removed; the host or the record that it names changes, and the sender may have a reply.
+fn by_mail(p: Parts, place: u64, d: Delivered) -> Acted
+    ensures { λ r. ⌜ r ≡ byMail p place d ⌝ }
+{
+    let host = d.host;
+    let block = d.block;
+    let reply = d.reply;
+    let before = p.places;
+    let left = network::remove(before, place);
+    let places = network::reply(left, reply);
+    let mut out = unchanged(p, 0);
+    out.host = host;
+    out.block = block;
+    out.places = places;
+    out
 }
 
 // ---- the events
@@ -301,10 +315,12 @@ fn deliver(blocks: u64, h: Host, c: Chunk, r: Record, s: Slot) -> Delivered
         Slot::Full(m) => {
             if network::is_for_chunk(m) {
                 let a = chunk::arrive(blocks, c, r, m);
+                let block = a.block;
+                let reply = a.reply;
                 Delivered {
                     host: h,
-                    block: a.block,
-                    reply: a.reply,
+                    block: block,
+                    reply: reply,
                 }
             } else {
                 let new = host::at_host(h, m);
@@ -341,7 +357,10 @@ fn mail_event(e: Event, p: Parts) -> Acted
     if code != 0 {
         return unchanged(p, code);
     }
-    let d = taken(e.kind, p.blocks, p.host, p.chunk, p.block, slot);
+    let h = p.host;
+    let c = p.chunk;
+    let r = p.block;
+    let d = taken(e.kind, p.blocks, h, c, r, slot);
     by_mail(p, e.a, d)
 }
 
@@ -350,30 +369,34 @@ pub fn act(e: Event, p: Parts) -> Acted
     ensures { λ r. ⌜ r ≡ acted e p ⌝ }
 {
     let kind = e.kind;
-    let h = p.host;
-    let c = p.chunk;
-    let r = p.block;
-    let places = p.places;
     if is_mail_event(kind) {
         return mail_event(e, p);
     }
+    let h = p.host;
+    let set = p.set;
+    let places = p.places;
     if kind == 3 {
-        let s = host::start(e.a, e.b, e.c, p.set, h, places);
+        let s = host::start(e.a, e.b, e.c, set, h, places);
         return by_messages(p, s);
     }
     if kind == 6 {
-        let s = host::finish(e.a, p.set, h, places);
+        let s = host::finish(e.a, set, h, places);
         return by_messages(p, s);
     }
     if is_host_event(kind) {
-        let m = host_event(e, h, p.epoch);
+        let epoch = p.epoch;
+        let m = host_event(e, h, epoch);
         return by_host(p, m);
     }
+    let c = p.chunk;
+    let r = p.block;
     if kind == 9 {
+        let state = c.state;
         let free = network::free_places(places);
-        let a = chunk::run(e.a, e.b, c.state, r, free);
+        let a = chunk::run(e.a, e.b, state, r, free);
         return by_run(p, a);
     }
-    let d = chunk_event(e, c, r.waiting, p.age);
+    let w = r.waiting;
+    let d = chunk_event(e, c, w, p.age);
     by_chunk(p, d)
 }
