@@ -1,6 +1,2 @@
-pub mod CreationLaws
-pub mod HostLaws
-pub mod ChunkLaws
-pub mod MailLaws
-pub mod EpochLaws
-pub mod StepLaws
+pub mod PartLaws
+pub mod WholeLaws

@@ -1,21 +1,28 @@
 // The access engine: creation and the single-event step. Only this crate holds the table; what it calls is handed parts.
-mod chunks;
-mod creation;
-mod epoch;
-mod hosts;
-mod mail;
-
+use parts::Parts;
 use rules::Answer;
 use rules::Created;
 use rules::Creation;
+use rules::Epoch;
 use rules::Event;
 use rules::Outcome;
+use rules::Record;
 use rules::Table;
 ghost use mathlib.Core.Path.{_≡_};
 ghost use mathlib.Core.Bool.{true};
+ghost use Prim.Native.Nat.{_<_};
 ghost use Rattle.rules.specs.Creation.{created};
-ghost use Rattle.rules.specs.Events.{done, quietly, refused, step};
+ghost use Rattle.rules.specs.Events.{done, quietly, refused, ruleOf, step};
 ghost use Rattle.rules.specs.Formed.{wellFormed};
+ghost use Rattle.rules.specs.Limits.{chunkLimit};
+ghost use Rattle.engine.specs.Records.{withoutWaiting};
+
+// "Any other creation is refused with code 1 and gives no store".
+pub fn create(k: Creation) -> Created
+    ensures { λ r. ⌜ r ≡ created k ⌝ }
+{
+    creation::create(k)
+}
 
 // "same table, zeros"
 fn refuse(t: Table, code: u64) -> Answer
@@ -28,56 +35,135 @@ fn refuse(t: Table, code: u64) -> Answer
     }
 }
 
-// A granted event that has no outcome.
-fn grant(t: Table) -> Answer
-    ensures { λ r. ⌜ r ≡ done (quietly t) ⌝ }
+// A granted event: "new table, outcome".
+fn grant(t: Table, outcome: Outcome) -> Answer
+    ensures { λ r. ⌜ r ≡ done (record { table = t; outcome = outcome }) ⌝ }
 {
     Answer {
         table: t,
         code: 0,
-        outcome: Outcome::None,
+        outcome: outcome,
     }
 }
 
-// "Any other creation is refused with code 1 and gives no store".
-pub fn create(k: Creation) -> Created
-    ensures { λ r. ⌜ r ≡ created k ⌝ }
+// An event that touches one host, one chunk, one record and the network: they are gathered, it acts on them, they are stored back.
+fn touch(t: Table, e: Event) -> Answer
+    requires { ⌜ (wellFormed t ≡ true) × (ruleOf t e .ranges ≡ true) × (e .kind ≡ 11 → ⊥) × (e .kind ≡ 15 → ⊥) ⌝ }
+    ensures { λ r. ⌜ r ≡ step t e ⌝ }
 {
-    if !sound::is_creation(k) {
-        let none = creation::zero();
-        return Created {
-            table: none,
-            code: 1,
-        };
+    let k = t.creation;
+    let epoch = t.epoch;
+    let places = t.places;
+    let p = parts::place_at(e) as usize;
+    let place = places[p];
+    let slot = place.slot;
+    let i = parts::host_at(e, slot) as usize;
+    let c = parts::chunk_at(e, slot) as usize;
+    let h = t.hosts[i];
+    let b = parts::block_at(e, slot, h) as usize;
+    let j = c * rules::BLOCKS + b;
+    let set = k.sets[b];
+    let chunk = t.chunks[c];
+    let block = t.records[j];
+    let d = parts::act(
+        e,
+        Parts {
+            blocks: k.blocks,
+            age: k.age,
+            epoch: epoch,
+            slot: slot,
+            host: h,
+            chunk: chunk,
+            set: set,
+            block: block,
+            places: places,
+        },
+    );
+    if d.code != 0 {
+        return refuse(t, d.code);
     }
-    let t = creation::fresh(k);
-    Created { table: t, code: 0 }
+    let host = d.host;
+    let mut out = t;
+    out.hosts[i] = host;
+    out.chunks[c] = d.chunk;
+    out.records[j] = d.block;
+    out.places = d.places;
+    grant(out, d.outcome)
 }
 
-// An event on a well-formed table. "unknown kind": 1.
+// "all its waiting entries .. go": those of the chunk's blocks.
+fn without_waiting(records: [Record; rules::RECORDS], chunk: usize) -> [Record; rules::RECORDS]
+    requires { ⌜ chunk < chunkLimit ⌝ }
+    ensures { λ r. ⌜ r ≡ withoutWaiting records chunk ⌝ }
+{
+    let empty = zero::waiting();
+    let mut out = records;
+    let mut b: usize = 0;
+    while b < rules::BLOCKS {
+        let j = chunk * rules::BLOCKS + b;
+        let mut r = out[j];
+        r.waiting = empty;
+        out[j] = r;
+        b = b + 1;
+    }
+    out
+}
+
+// "11 fail (chunk)": the chunk and all its records change.
+fn fail(t: Table, e: Event) -> Answer
+    requires { ⌜ (wellFormed t ≡ true) × (ruleOf t e .ranges ≡ true) × (e .kind ≡ 11) ⌝ }
+    ensures { λ r. ⌜ r ≡ step t e ⌝ }
+{
+    let i = e.a as usize;
+    let old = t.chunks[i];
+    let d = chunk::fail(old);
+    if d.code != 0 {
+        return refuse(t, d.code);
+    }
+    let records = t.records;
+    let rest = without_waiting(records, i);
+    let mut out = t;
+    out.chunks[i] = d.chunk;
+    out.records = rest;
+    grant(out, Outcome::None)
+}
+
+// "15 epoch change": every block is settled, every chunk renewed, and the epoch grows by one.
+fn change_epoch(t: Table, e: Event) -> Answer
+    requires { ⌜ (wellFormed t ≡ true) × (ruleOf t e .ranges ≡ true) × (e .kind ≡ 15) ⌝ }
+    ensures { λ r. ⌜ r ≡ step t e ⌝ }
+{
+    let k = t.creation;
+    let epoch = t.epoch;
+    let chunks = t.chunks;
+    let code = epoch::change_code(k, epoch, chunks);
+    if code != 0 {
+        return refuse(t, code);
+    }
+    let next = Epoch(epoch.0 + 1);
+    let records = epoch::settle_blocks(k, chunks, t.records);
+    let renewed = epoch::renew(k, next, chunks);
+    let mut out = t;
+    out.epoch = next;
+    out.chunks = renewed;
+    out.records = records;
+    grant(out, Outcome::None)
+}
+
+// An event on a well-formed table: "then ranges (1)", then the event's own refusals and effect.
 fn act(t: Table, e: Event) -> Answer
     requires { ⌜ wellFormed t ≡ true ⌝ }
     ensures { λ r. ⌜ r ≡ step t e ⌝ }
 {
+    let k = t.creation;
+    if !parts::in_range(k, e) {
+        return refuse(t, 1);
+    }
     let kind = e.kind;
     match kind {
-        1 => hosts::change(t, e),
-        2 => hosts::change(t, e),
-        3 => hosts::start(t, e),
-        4 => mail::deliver(t, e),
-        5 => mail::drop(t, e),
-        6 => hosts::finish(t, e),
-        7 => hosts::change(t, e),
-        8 => hosts::change(t, e),
-        9 => chunks::run(t, e),
-        10 => hosts::change(t, e),
-        11 => chunks::fail(t, e),
-        12 => chunks::change(t, e),
-        13 => chunks::change(t, e),
-        14 => chunks::change(t, e),
-        15 => epoch::change(t, e),
-        16 => chunks::change(t, e),
-        _ => refuse(t, 1),
+        11 => fail(t, e),
+        15 => change_epoch(t, e),
+        _ => touch(t, e),
     }
 }
 

@@ -1,0 +1,400 @@
+-- An event on the parts that it touches: where they stand, and what is stored back, are the rule's
+use Prim.Native.Nat.{ℕ, zero, suc, _<_}
+use mathlib.Core.Path.{_≡_, refl, sym, ap, _∙_, subst}
+use mathlib.Core.Bool.{Bool, true, false, cond, false≢true, _&&_}
+use mathlib.Core.List.{List}
+use native.Mathlib.Omega.{arith}
+use borrow.Author.Tests.{ltb-true, lt-leb, le-ltb}
+use lib.Dec.{eqb}
+use lib.Seq.{set-getD}
+use Rattle.rules.specs.declared.Creation.{Creation}
+use Rattle.rules.specs.declared.Record.{Record}
+use Rattle.rules.specs.declared.Chunk.{Chunk}
+use Rattle.rules.specs.declared.Host.{Host}
+use Rattle.rules.specs.declared.Message.{Message}
+use Rattle.rules.specs.declared.Slot.{Slot}
+use Rattle.rules.specs.declared.Place.{Place}
+use Rattle.rules.specs.declared.Table.{Table}
+use Rattle.rules.specs.declared.Event.{Event}
+use Rattle.rules.specs.Chunks.{silent, atChunk}
+use Rattle.rules.specs.Codes.{codeOf}
+use Rattle.rules.specs.Events.{Rule, Effect, quietly, done, refused, unused, isPlace, chunkTakes, hostTakes, takes, readRule, writeRule, startRule, deliverRule, dropRule, finishRule, timeoutRule, refreshRule, runRule, stopRule, failRule, recoverRule, takeLeaseRule, giveLeaseRule, epochRule, overdueRule, unknownRule, ruleOf, step}
+use Rattle.rules.specs.Formed.{slotFormed, wellFormed}
+use Rattle.rules.specs.Hosts.{front, atHost}
+use Rattle.rules.specs.Kinds.{isNormal, headerOf, isForChunk}
+use Rattle.rules.specs.Limits.{hostLimit, chunkLimit, blockLimit, placeLimit, greatestClock, oneTo, upTo}
+use Rattle.rules.specs.Network.{removed, replied, placeRefusals}
+use Rattle.rules.specs.Tables.{isHost, isChunk, isBlock, setOf, hostOf, chunkOf, at, recordOf, slotOf, withHost, withChunk, withRecord, withPlaces}
+use Rattle.rules.specs.Timestamps.{stamp}
+use Rattle.rules.specs.Words.{every}
+use Rattle.rules.specs.Zero.{noHost, noChunk, noRecord}
+use Rattle.rules.proofs.Events.{by-number, refused-own, granted-own}
+use Rattle.rules.proofs.Formed.{one-to, formed, message-facts, host-place, chunk-place, block-place, front-block, queue-of}
+use Rattle.rules.proofs.Lists.{both, three}
+use Rattle.rules.proofs.Refusals.{granted-exactly}
+use Rattle.host.specs.Keeper.{drawn}
+use Rattle.host.specs.Moves.{starts, finishes}
+use Rattle.parts.specs.declared.Parts.{Parts}
+use Rattle.parts.specs.declared.Acted.{Acted}
+use Rattle.parts.specs.Address.{addressOf, placeAt, hostAt, chunkAt, blockAt}
+use Rattle.parts.specs.Acts.{byMail, unchanged, delivered, taken, hostMoved, chunkChanged, mailTaken, acted}
+
+-- ---- the parts that an event touches, and the table with what it leaves
+
+module _ (t : Table) (e : Event) where
+  abbrev pub slotHere : Slot
+  slotHere = slotOf (t .places) (placeAt e)
+
+  abbrev pub hostHere : ℕ
+  hostHere = hostAt e slotHere
+
+  abbrev pub chunkHere : ℕ
+  chunkHere = chunkAt e slotHere
+
+  abbrev pub blockHere : ℕ
+  blockHere = blockAt e slotHere (hostOf t hostHere)
+
+  abbrev pub partsOf : Parts
+  partsOf = record {
+    blocks = t .creation .blocks;
+    age = t .creation .age;
+    epoch = t .epoch;
+    slot = slotHere;
+    host = hostOf t hostHere;
+    chunk = chunkOf t chunkHere;
+    «set» = setOf (t .creation) blockHere;
+    block = recordOf t chunkHere blockHere;
+    places = t .places;
+  }
+
+  abbrev pub stored : Acted → Table
+  stored d = withPlaces (withRecord (withChunk (withHost t hostHere (d .host)) chunkHere (d .chunk)) chunkHere blockHere (d .block)) (d .places)
+
+-- what is to be shown of an event: its parts are places of the arrays, and what it leaves of them is the rule's
+pub record Acts (t : Table) (e : Event) : Type 0 where
+  pub place : placeAt e < placeLimit
+  pub host : hostHere t e < hostLimit
+  pub chunk : chunkHere t e < chunkLimit
+  pub block : blockHere t e < blockLimit
+  pub code : acted e (partsOf t e) .code ≡ codeOf (ruleOf t e .refusals)
+  pub effect : acted e (partsOf t e) .code ≡ 0
+      → record { table = stored t e (acted e (partsOf t e)); outcome = acted e (partsOf t e) .outcome } ≡ ruleOf t e .effect
+
+abbrev event : (n a b c : ℕ) → Event
+event n a b c = record { kind = n; a = a; b = b; c = c }
+
+-- ---- what is stored back as it was
+
+module _ (t : Table) (h c b : ℕ) where
+  host-alone : (new : Host) (places : List Place)
+      → withPlaces (withRecord (withChunk (withHost t h new) c (chunkOf t c)) c b (recordOf t c b)) places ≡ withPlaces (withHost t h new) places
+  host-alone new places = rw (set-getD (t .chunks) c noChunk, set-getD (t .records) (at c b) noRecord) refl
+
+  chunk-alone : (new : Chunk) → withPlaces (withRecord (withChunk (withHost t h (hostOf t h)) c new) c b (recordOf t c b)) (t .places) ≡ withChunk t c new
+  chunk-alone new = rw (set-getD (t .hosts) h noHost, set-getD (t .records) (at c b) noRecord) refl
+
+  record-alone : (new : Record) (places : List Place)
+      → withPlaces (withRecord (withChunk (withHost t h (hostOf t h)) c (chunkOf t c)) c b new) places ≡ withPlaces (withRecord t c b new) places
+  record-alone new places = rw (set-getD (t .hosts) h noHost, set-getD (t .chunks) c noChunk) refl
+
+  places-alone : (places : List Place)
+      → withPlaces (withRecord (withChunk (withHost t h (hostOf t h)) c (chunkOf t c)) c b (recordOf t c b)) places ≡ withPlaces t places
+  places-alone places = record-alone (recordOf t c b) places ∙ rw (set-getD (t .records) (at c b) noRecord) refl
+
+module _ (t : Table) (ok : wellFormed t ≡ true) where
+  abbrev k : Creation
+  k = t .creation
+
+  host-below : (a : ℕ) → isHost k a ≡ true → a < hostLimit
+  host-below a h = host-place k a h (formed t ok .creation)
+
+  chunk-below : (a : ℕ) → isChunk k a ≡ true → a < chunkLimit
+  chunk-below a h = chunk-place k a h (formed t ok .creation)
+
+  block-below : (b : ℕ) → isBlock k b ≡ true → b < blockLimit
+  block-below b h = block-place k b h (formed t ok .creation)
+
+  -- the block of the front operation; without one it is block 0, the zero operation's
+  front-below : (a : ℕ) → isHost k a ≡ true → front (hostOf t a) .block < blockLimit
+  front-below a h = go (hostOf t a .queue .count) refl
+    where
+      go : (n : ℕ) → hostOf t a .queue .count ≡ n → front (hostOf t a) .block < blockLimit
+      go zero q = rw q (omega arith)
+      go (suc n) q = block-below (front (hostOf t a) .block) (front-block k (hostOf t a) (queue-of t (formed t ok) a h) (omega arith))
+
+  -- ---- the events that change one host and nothing else
+
+  read-acts : (a b c : ℕ) → readRule t a b c .ranges ≡ true → Acts t (event 1 a b c)
+  unfolding acted hostMoved ruleOf readRule
+  read-acts a b c r = record {
+    place = omega arith;
+    host = host-below a (three (isHost k a) (isBlock k b) (unused c) r .0);
+    chunk = omega arith;
+    block = omega arith;
+    code = refl;
+    effect = λ z. rw z (ap quietly (host-alone t a 0 0 _ (t .places)));
+  }
+
+  write-acts : (a b c : ℕ) → writeRule t a b c .ranges ≡ true → Acts t (event 2 a b c)
+  unfolding acted hostMoved ruleOf writeRule
+  write-acts a b c r = record {
+    place = omega arith;
+    host = host-below a (three (isHost k a) (isBlock k b) true r .0);
+    chunk = omega arith;
+    block = omega arith;
+    code = refl;
+    effect = λ z. rw z (ap quietly (host-alone t a 0 0 _ (t .places)));
+  }
+
+  timeout-acts : (a b c : ℕ) → timeoutRule t a b c .ranges ≡ true → Acts t (event 7 a b c)
+  unfolding acted hostMoved ruleOf timeoutRule
+  timeout-acts a b c r = record {
+    place = omega arith;
+    host = host-below a (three (isHost k a) (unused b) (unused c) r .0);
+    chunk = omega arith;
+    block = omega arith;
+    code = refl;
+    effect = λ z. rw z (ap quietly (host-alone t a 0 0 _ (t .places)));
+  }
+
+  refresh-acts : (a b c : ℕ) → refreshRule t a b c .ranges ≡ true → Acts t (event 8 a b c)
+  unfolding acted hostMoved ruleOf refreshRule
+  refresh-acts a b c r = record {
+    place = omega arith;
+    host = host-below a (three (isHost k a) (unused b) (unused c) r .0);
+    chunk = omega arith;
+    block = omega arith;
+    code = refl;
+    effect = λ z. rw z (ap quietly (host-alone t a 0 0 _ (t .places)));
+  }
+
+  stop-acts : (a b c : ℕ) → stopRule t a b c .ranges ≡ true → Acts t (event 10 a b c)
+  unfolding acted hostMoved ruleOf stopRule
+  stop-acts a b c r = record {
+    place = omega arith;
+    host = host-below a (three (isHost k a) (unused b) (unused c) r .0);
+    chunk = omega arith;
+    block = omega arith;
+    code = refl;
+    effect = λ z. rw z (ap quietly (host-alone t a 0 0 _ (t .places)));
+  }
+
+  -- ---- start and finish
+
+  -- the keeper hands out the clock of a granted start
+  start-drawn : (a b c : ℕ) → startRule t a b c .ranges ≡ true → codeOf (startRule t a b c .refusals) ≡ 0
+      → drawn (record { host = a; last = hostOf t a .clock }) b ≡ record { keeper = record { host = a; last = b }; code = 0; timestamp = stamp b a }
+  unfolding startRule every codeOf drawn
+  start-drawn a b c r granted =
+      let operands = three (isHost k a) (oneTo greatestClock b) (isChunk k c) r in
+      let clock = one-to greatestClock b (operands .1) .1 in
+      let above = granted-exactly (startRule t a b c .refusals) refl .0 granted 5 (omega arith) in
+      rw (lt-leb hostLimit a (host-below a (operands .0)), le-ltb greatestClock b clock, above) refl
+
+  start-acts : (a b c : ℕ) → startRule t a b c .ranges ≡ true → Acts t (event 3 a b c)
+  unfolding acted starts ruleOf startRule
+  start-acts a b c r =
+      let host = three (isHost k a) (oneTo greatestClock b) (isChunk k c) r .0 in
+      record {
+        place = omega arith;
+        host = host-below a host;
+        chunk = omega arith;
+        block = front-below a host;
+        code = refl;
+        effect = λ z. rw (z, start-drawn a b c r z) (ap quietly (host-alone t a 0 (front (hostOf t a) .block) _ _));
+      }
+
+  finish-acts : (a b c : ℕ) → finishRule t a b c .ranges ≡ true → Acts t (event 6 a b c)
+  unfolding acted finishes ruleOf finishRule
+  finish-acts a b c r =
+      let host = three (isHost k a) (unused b) (unused c) r .0 in
+      record {
+        place = omega arith;
+        host = host-below a host;
+        chunk = omega arith;
+        block = front-below a host;
+        code = refl;
+        effect = λ z. rw z (ap (λ (x : Table). record { table = x; outcome = finishRule t a b c .effect .outcome }) (host-alone t a 0 (front (hostOf t a) .block) _ _));
+      }
+
+  -- ---- chunks
+
+  recover-acts : (a b c : ℕ) → recoverRule t a b c .ranges ≡ true → Acts t (event 12 a b c)
+  unfolding acted chunkChanged ruleOf recoverRule
+  recover-acts a b c r = record {
+    place = omega arith;
+    host = omega arith;
+    chunk = chunk-below a (three (isChunk k a) (unused b) (unused c) r .0);
+    block = omega arith;
+    code = refl;
+    effect = λ z. rw z (ap quietly (chunk-alone t 0 a 0 _));
+  }
+
+  take-lease-acts : (a b c : ℕ) → takeLeaseRule t a b c .ranges ≡ true → Acts t (event 13 a b c)
+  unfolding acted chunkChanged ruleOf takeLeaseRule
+  take-lease-acts a b c r = record {
+    place = omega arith;
+    host = omega arith;
+    chunk = chunk-below a (three (isChunk k a) (unused b) (unused c) r .0);
+    block = omega arith;
+    code = refl;
+    effect = λ z. rw z (ap quietly (chunk-alone t 0 a 0 _));
+  }
+
+  give-lease-acts : (a b c : ℕ) → giveLeaseRule t a b c .ranges ≡ true → Acts t (event 14 a b c)
+  unfolding acted chunkChanged ruleOf giveLeaseRule
+  give-lease-acts a b c r = record {
+    place = omega arith;
+    host = omega arith;
+    chunk = chunk-below a (three (isChunk k a) (unused b) (unused c) r .0);
+    block = omega arith;
+    code = refl;
+    effect = λ z. rw z (ap quietly (chunk-alone t 0 a 0 _));
+  }
+
+  overdue-acts : (a b c : ℕ) → overdueRule t a b c .ranges ≡ true → Acts t (event 16 a b c)
+  unfolding acted chunkChanged ruleOf overdueRule
+  overdue-acts a b c r =
+      let operands = three (isChunk k a) (isBlock k b) (upTo greatestClock c) r in
+      record {
+        place = omega arith;
+        host = omega arith;
+        chunk = chunk-below a (operands .0);
+        block = block-below b (operands .1);
+        code = refl;
+        effect = λ z. rw z (ap quietly (chunk-alone t 0 a b _));
+      }
+
+  run-acts : (a b c : ℕ) → runRule t a b c .ranges ≡ true → Acts t (event 9 a b c)
+  unfolding acted ruleOf runRule
+  run-acts a b c r =
+      let operands = three (isChunk k a) (isBlock k b) (unused c) r in
+      record {
+        place = omega arith;
+        host = omega arith;
+        chunk = chunk-below a (operands .0);
+        block = block-below b (operands .1);
+        code = refl;
+        effect = λ z. rw z (ap quietly (record-alone t 0 a b _ _));
+      }
+
+  -- ---- the network
+
+  -- what a place's message names are places of the arrays
+  address-below : (p : ℕ) → p < placeLimit → let to = addressOf (slotOf (t .places) p) in
+      (to .host < hostLimit) × (to .chunk < chunkLimit) × (to .block < blockLimit)
+  address-below p h = go (slotOf (t .places) p) (formed t ok .places p h)
+    where
+      go : (s : Slot) → slotFormed k s ≡ true → (addressOf s .host < hostLimit) × (addressOf s .chunk < chunkLimit) × (addressOf s .block < blockLimit)
+      go Slot.Empty f = (omega arith, omega arith, omega arith)
+      go (Slot.Full m) f =
+          let to = headerOf m in
+          let x = message-facts k m f .header in
+          (host-below (to .host) (x .host), chunk-below (to .chunk) (x .chunk), ltb-true (to .block) blockLimit (x .block))
+
+  module _ (left : List Place) where
+    -- what a message leaves of the host and the record that it names, stored back, is what the rule makes of the table
+    taken-is : (s : Slot) → let to = addressOf s in
+        let d = delivered (k .blocks) (hostOf t (to .host)) (chunkOf t (to .chunk)) (recordOf t (to .chunk) (to .block)) s in
+        withPlaces (withRecord (withChunk (withHost t (to .host) (d .host)) (to .chunk) (chunkOf t (to .chunk))) (to .chunk) (to .block) (d .block)) (replied left (d .reply))
+        ≡ takes (withPlaces t left) s
+    unfolding replied
+    taken-is Slot.Empty = places-alone t 0 0 0 left
+    taken-is (Slot.Full m) = go (isForChunk m) (isNormal (chunkOf t (headerOf m .chunk) .state)) (hostOf t (headerOf m .host) .working)
+      where
+        go : (f n w : Bool) → let to = headerOf m in
+            let h = hostOf t (to .host) in
+            let old = recordOf t (to .chunk) (to .block) in
+            let a = atChunk (k .blocks) (chunkOf t (to .chunk) .epoch) old m in
+            let r = cond n a (silent old) in
+            let d = cond f (record { host = h; block = r .block; reply = r .reply }) (record { host = cond w (atHost h m) h; block = old; reply = Slot.Empty }) in
+            withPlaces (withRecord (withChunk (withHost t (to .host) (d .host)) (to .chunk) (chunkOf t (to .chunk))) (to .chunk) (to .block) (d .block)) (replied left (d .reply))
+            ≡ cond f (cond n (withPlaces (withRecord (withPlaces t left) (to .chunk) (to .block) (a .block)) (replied left (a .reply))) (withPlaces t left))
+            (cond w (withHost (withPlaces t left) (to .host) (atHost h m)) (withPlaces t left))
+        go true true w = record-alone t (headerOf m .host) (headerOf m .chunk) (headerOf m .block) _ _
+        go true false w = places-alone t (headerOf m .host) (headerOf m .chunk) (headerOf m .block) left
+        go false n true = host-alone t (headerOf m .host) (headerOf m .chunk) (headerOf m .block) _ left
+        go false n false = places-alone t (headerOf m .host) (headerOf m .chunk) (headerOf m .block) left
+
+  -- the code of both events
+  mail-code : (e : Event) (p : Parts) → mailTaken e p .code ≡ codeOf (placeRefusals (p .slot))
+  unfolding mailTaken
+  mail-code e p = go (codeOf (placeRefusals (p .slot)))
+    where
+      go : (n : ℕ) → cond (eqb n 0) (byMail p (e .a) (taken (e .kind) (p .blocks) (p .host) (p .chunk) (p .block) (p .slot))) (unchanged p n) .code ≡ n
+      go zero = refl
+      go (suc n) = refl
+
+  deliver-acts : (a b c : ℕ) → deliverRule t a b c .ranges ≡ true → Acts t (event 4 a b c)
+  unfolding acted mailTaken ruleOf deliverRule
+  deliver-acts a b c r =
+      let place = ltb-true a placeLimit (three (isPlace a) (unused b) (unused c) r .0) in
+      let below = address-below a place in
+      let code = mail-code (event 4 a b c) (partsOf t (event 4 a b c)) in
+      record {
+        place = place;
+        host = below .0;
+        chunk = below .1;
+        block = below .2;
+        code = code;
+        effect = λ z. rw (sym code ∙ z) (ap quietly (taken-is (removed (t .places) a) (slotOf (t .places) a)));
+      }
+
+  drop-acts : (a b c : ℕ) → dropRule t a b c .ranges ≡ true → Acts t (event 5 a b c)
+  unfolding acted mailTaken replied ruleOf dropRule
+  drop-acts a b c r =
+      let place = ltb-true a placeLimit (three (isPlace a) (unused b) (unused c) r .0) in
+      let below = address-below a place in
+      let to = addressOf (slotOf (t .places) a) in
+      let code = mail-code (event 5 a b c) (partsOf t (event 5 a b c)) in
+      record {
+        place = place;
+        host = below .0;
+        chunk = below .1;
+        block = below .2;
+        code = code;
+        effect = λ z. rw (sym code ∙ z) (ap quietly (places-alone t (to .host) (to .chunk) (to .block) (removed (t .places) a)));
+      }
+
+-- ---- every event but failure and epoch change
+
+module _ (t : Table) (e : Event) (ok : wellFormed t ≡ true) (inside : ruleOf t e .ranges ≡ true) where
+  here : (n : ℕ) → e .kind ≡ n → Acts t (event n (e .a) (e .b) (e .c)) → Acts t e
+  here n h = subst (λ (k : ℕ). Acts t (event k (e .a) (e .b) (e .c))) (sym h)
+
+  pub acts : (e .kind ≡ 11 → ⊥) → (e .kind ≡ 15 → ⊥) → Acts t e
+  acts n11 n15 =
+      by-number (λ r. r .ranges ≡ true → Acts t e) t e
+      (λ h r. here 1 h (read-acts t ok _ _ _ r))
+      (λ h r. here 2 h (write-acts t ok _ _ _ r))
+      (λ h r. here 3 h (start-acts t ok _ _ _ r))
+      (λ h r. here 4 h (deliver-acts t ok _ _ _ r))
+      (λ h r. here 5 h (drop-acts t ok _ _ _ r))
+      (λ h r. here 6 h (finish-acts t ok _ _ _ r))
+      (λ h r. here 7 h (timeout-acts t ok _ _ _ r))
+      (λ h r. here 8 h (refresh-acts t ok _ _ _ r))
+      (λ h r. here 9 h (run-acts t ok _ _ _ r))
+      (λ h r. here 10 h (stop-acts t ok _ _ _ r))
+      (λ h r. absurd (n11 h))
+      (λ h r. here 12 h (recover-acts t ok _ _ _ r))
+      (λ h r. here 13 h (take-lease-acts t ok _ _ _ r))
+      (λ h r. here 14 h (give-lease-acts t ok _ _ _ r))
+      (λ h r. absurd (n15 h))
+      (λ h r. here 16 h (overdue-acts t ok _ _ _ r))
+      (λ r. absurd (false≢true r))
+      inside
+
+  module _ (x : Acts t e) (d : Acted) (d-is : d ≡ acted e (partsOf t e)) where
+    code-is : d .code ≡ codeOf (ruleOf t e .refusals)
+    code-is = ap (λ (a : Acted). a .code) d-is ∙ x .code
+
+    pub touch-refused : (d .code ≡ 0 → ⊥) → refused t (d .code) ≡ step t e
+    unfolding step
+    touch-refused n = refused-own t (ruleOf t e) ok inside (d .code) code-is n
+
+    pub touch-granted : d .code ≡ 0 → done (record { table = stored t e d; outcome = d .outcome }) ≡ step t e
+    unfolding step
+    touch-granted z =
+        ap (λ (a : Acted). done (record { table = stored t e a; outcome = a .outcome })) d-is
+        ∙ ap done (x .effect (ap (λ (a : Acted). a .code) (sym d-is) ∙ z))
+        ∙ granted-own t (ruleOf t e) ok inside (sym code-is ∙ z)
