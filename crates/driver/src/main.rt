@@ -10,6 +10,7 @@ ghost use Prim.Native.Nat.{_+_, _≤_, min};
 ghost use mathlib.Core.Path.{_≡_};
 ghost use lib.ListN.{length};
 ghost use lib.Seq.{paste};
+ghost use Rattle.driver.specs.Answers.{answerTo};
 
 // The bytes of the block of input that are not looked at yet.
 struct Unread {
@@ -78,7 +79,9 @@ fn next_line(block: &mut [u8], unread: Unread) -> Next
 }
 
 // "A bad event line .. writes `1 0 0 0 0` and is passed over"
-fn answer_to(t: Table, asked: Asked) -> Answer {
+fn answer_to(t: Table, asked: Asked) -> Answer
+    ensures { λ r. ⌜ r ≡ answerTo t asked ⌝ }
+{
     if asked.good {
         let e = asked.event;
         return engine::step(t, e);

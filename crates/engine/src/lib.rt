@@ -82,13 +82,17 @@ fn touch(t: Table, e: Event) -> Answer
     if d.code != 0 {
         return refuse(t, d.code);
     }
-    let host = d.host;
+    let new_host = d.host;
+    let new_chunk = d.chunk;
+    let new_block = d.block;
+    let new_places = d.places;
+    let outcome = d.outcome;
     let mut out = t;
-    out.hosts[i] = host;
-    out.chunks[c] = d.chunk;
-    out.records[j] = d.block;
-    out.places = d.places;
-    grant(out, d.outcome)
+    out.hosts[i] = new_host;
+    out.chunks[c] = new_chunk;
+    out.records[j] = new_block;
+    out.places = new_places;
+    grant(out, outcome)
 }
 
 // "all its waiting entries .. go": those of the chunk's blocks.
@@ -120,10 +124,11 @@ fn fail(t: Table, e: Event) -> Answer
     if d.code != 0 {
         return refuse(t, d.code);
     }
+    let new = d.chunk;
     let records = t.records;
     let rest = without_waiting(records, i);
     let mut out = t;
-    out.chunks[i] = d.chunk;
+    out.chunks[i] = new;
     out.records = rest;
     grant(out, Outcome::None)
 }
@@ -141,12 +146,13 @@ fn change_epoch(t: Table, e: Event) -> Answer
         return refuse(t, code);
     }
     let next = Epoch(epoch.0 + 1);
-    let records = epoch::settle_blocks(k, chunks, t.records);
+    let records = t.records;
+    let settled = epoch::settle_blocks(k, chunks, records);
     let renewed = epoch::renew(k, next, chunks);
     let mut out = t;
     out.epoch = next;
     out.chunks = renewed;
-    out.records = records;
+    out.records = settled;
     grant(out, Outcome::None)
 }
 

@@ -340,7 +340,7 @@ pub fn no_text() -> Text
 {
     Text {
         bytes: [0; ROOM],
-        count: 0,
+        count: 0, // no byte yet
     }
 }
 

@@ -8,12 +8,11 @@ ghost use Rattle.rules.specs.Settlement.{notLost, waiting, writeWith, abortedWi
 ghost use Rattle.rules.specs.Timestamps.{never, later, _above_};
 ghost use Rattle.rules.specs.Waiting.{inOrder};
 ghost use Rattle.rules.specs.Words.{if_then_else_, some, place, first, fold};
-ghost use Rattle.rules.specs.Zero.{zeroEntry, zeroWaiting, noCopy};
+ghost use Rattle.rules.specs.Zero.{zeroEntry, noCopy};
 ghost use Rattle.settle.specs.Steps.{withWrite, withRead, beside, agrees, withEntry, withBlock};
 use rules::CHUNKS;
 use rules::Copy;
 use rules::Entry;
-use rules::Epoch;
 use rules::Kind;
 use rules::Record;
 use rules::Timestamp;
@@ -139,21 +138,6 @@ fn value_with(q: Waiting, t: Timestamp) -> u64
     0
 }
 
-fn nothing() -> Waiting
-    ensures { λ r. ⌜ r ≡ zeroWaiting ⌝ }
-{
-    let e = Entry {
-        timestamp: Timestamp(0),
-        sender: 0,
-        epoch: Epoch(0),
-        kind: Kind::Read,
-    };
-    Waiting {
-        count: 0,
-        entries: [e; WAITING],
-    }
-}
-
 // ---- W and V
 
 fn with_write(m: Timestamp, c: Copy) -> Timestamp
@@ -255,7 +239,7 @@ fn candidates(copies: [Copy; CHUNKS]) -> Waiting
         let b = c.block;
         return b.waiting;
     }
-    nothing()
+    zero::waiting()
 }
 
 // The later of m and the entry's timestamp, where that is committed.
@@ -329,7 +313,7 @@ fn settled_block(copies: [Copy; CHUNKS]) -> Record
     let l = latest(copies, w, q);
     let v = value(copies, w, q, l);
     let r = greatest_read(copies);
-    let none = nothing();
+    let none = zero::waiting();
     Record {
         value: v,
         read: r,
@@ -346,7 +330,7 @@ fn with_block(r: Record, c: Copy) -> Copy
         out.block = r;
         return out;
     }
-    let none = nothing();
+    let none = zero::waiting();
     let mut b = c.block;
     b.waiting = none;
     out.block = b;

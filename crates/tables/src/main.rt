@@ -162,8 +162,8 @@ fn chunk(state: State, lost: bool, epoch: u64, block: usize) -> Chunk
 
 // ---- host 0
 
-fn host_case(n: u64) -> Host {
-    let none = on(false, false, false);
+// Its queue; where something else is in question, one operation.
+fn queue_case(n: u64) -> Queue {
     let w = Operation {
         block: 1,
         action: Action::Write(7),
@@ -172,67 +172,52 @@ fn host_case(n: u64) -> Host {
         block: 2,
         action: Action::Read,
     };
-    let busy = queue(1, w, no_operation());
     match n {
-        0 => host(true, idle(), no_attempt(), 0, 0),
+        0 => idle(),
         // eight operations, and nine
-        1 => host(true, queue(8, w, w), no_attempt(), 0, 0),
-        2 => host(true, queue(9, w, w), no_attempt(), 0, 0),
+        1 => queue(8, w, w),
+        2 => queue(9, w, w),
         // an operation on a block that the store lacks
-        3 => host(true, queue(1, far, no_operation()), no_attempt(), 0, 0),
+        3 => queue(1, far, no_operation()),
         // unused places of the queue
-        4 => host(true, queue(0, w, no_operation()), no_attempt(), 0, 0),
-        5 => host(true, queue(1, w, w), no_attempt(), 0, 0),
+        4 => queue(0, w, no_operation()),
+        5 => queue(1, w, w),
+        _ => queue(1, w, no_operation()),
+    }
+}
+
+// Its attempt; where something else is in question, none.
+fn attempt_case(n: u64) -> Attempt {
+    let none = on(false, false, false);
+    match n {
         // the greatest timestamp, and one more
-        6 => host(true, busy, attempt(TIMESTAMP, none, true, true, 0), 0, 0),
-        7 => host(
-            true,
-            busy,
-            attempt(TIMESTAMP + 1, none, true, true, 0),
-            0,
-            0,
-        ),
+        6 => attempt(TIMESTAMP, none, true, true, 0),
+        7 => attempt(TIMESTAMP + 1, none, true, true, 0),
+        // outstanding chunks of the store, and another
+        9 => attempt(8, on(true, true, false), true, true, 0),
+        10 => attempt(8, on(false, false, true), true, true, 0),
+        // no current operation, and still outstanding, okay, restart, a result
+        11 => attempt(0, on(true, false, false), false, false, 0),
+        12 => attempt(0, none, true, false, 0),
+        13 => attempt(0, none, false, true, 0),
+        14 => attempt(0, none, false, false, 1),
+        // any result value
+        19 => attempt(8, none, true, true, 18446744073709551615),
+        _ => no_attempt(),
+    }
+}
+
+fn host_case(n: u64) -> Host {
+    let none = on(false, false, false);
+    match n {
         // a timestamp and no operation
         8 => host(true, idle(), attempt(8, none, true, true, 0), 0, 0),
-        // outstanding chunks of the store, and another
-        9 => host(
-            true,
-            busy,
-            attempt(8, on(true, true, false), true, true, 0),
-            0,
-            0,
-        ),
-        10 => host(
-            true,
-            busy,
-            attempt(8, on(false, false, true), true, true, 0),
-            0,
-            0,
-        ),
-        // no current operation, and still outstanding, okay, restart, a result
-        11 => host(
-            true,
-            busy,
-            attempt(0, on(true, false, false), false, false, 0),
-            0,
-            0,
-        ),
-        12 => host(true, busy, attempt(0, none, true, false, 0), 0, 0),
-        13 => host(true, busy, attempt(0, none, false, true, 0), 0, 0),
-        14 => host(true, busy, attempt(0, none, false, false, 1), 0, 0),
         // the greatest epoch known and last clock, and one more
         15 => host(true, idle(), no_attempt(), CLOCK, 0),
         16 => host(true, idle(), no_attempt(), CLOCK + 1, 0),
         17 => host(true, idle(), no_attempt(), 0, CLOCK),
         18 => host(true, idle(), no_attempt(), 0, CLOCK + 1),
-        // any result value
-        _ => host(
-            true,
-            busy,
-            attempt(8, none, true, true, 18446744073709551615),
-            0,
-            0,
-        ),
+        _ => host(true, queue_case(n), attempt_case(n), 0, 0),
     }
 }
 

@@ -5,25 +5,11 @@ ghost use Prim.Native.Nat.{_≤_};
 ghost use lib.ListN.{length};
 ghost use Rattle.rules.specs.Limits.{waitingLimit};
 ghost use Rattle.rules.specs.Waiting.{inOrder, holding, inserted, head, headRemoved, firstWith, decidedKind, decided, marked};
-ghost use Rattle.rules.specs.Zero.{zeroEntry};
 ghost use Rattle.rules.proofs.Order.{behind};
 use rules::Entry;
-use rules::Epoch;
 use rules::Kind;
 use rules::Timestamp;
 use rules::Waiting;
-
-// What an unused place holds.
-fn zero_entry() -> Entry
-    ensures { λ r. ⌜ r ≡ zeroEntry ⌝ }
-{
-    Entry {
-        timestamp: Timestamp(0),
-        sender: 0,
-        epoch: Epoch(0),
-        kind: Kind::Read,
-    }
-}
 
 // How many wait.
 fn used(w: Waiting) -> u64
@@ -43,7 +29,7 @@ fn tidy(w: Waiting) -> Waiting
     let mut out = w;
     let mut i = n as usize;
     while i < rules::WAITING {
-        out.entries[i] = zero_entry();
+        out.entries[i] = zero::entry();
         i = i + 1;
     }
     out.count = n;
@@ -89,7 +75,7 @@ pub fn head(w: Waiting) -> Entry
     ensures { λ r. ⌜ r ≡ head w ⌝ }
 {
     if w.count == 0 {
-        return zero_entry();
+        return zero::entry();
     }
     w.entries[0]
 }
@@ -126,7 +112,7 @@ pub fn remove_head(w: Waiting) -> Waiting
         out.entries[i] = x;
         i = i + 1;
     }
-    out.entries[rules::WAITING - 1] = zero_entry();
+    out.entries[rules::WAITING - 1] = zero::entry();
     out.count = out.count - 1;
     out
 }
@@ -150,7 +136,7 @@ fn decide_kind(k: Kind, commit: bool) -> Kind
 }
 
 // The entry with its kind decided: the struct is written anew.
-pub fn decide(e: Entry, commit: bool) -> Entry
+fn decide(e: Entry, commit: bool) -> Entry
     ensures { λ r. ⌜ r ≡ decided commit e ⌝ }
 {
     let t = e.timestamp;

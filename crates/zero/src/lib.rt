@@ -42,7 +42,7 @@ pub fn waiting() -> Waiting
 {
     let e = entry();
     Waiting {
-        count: 0,
+        count: 0, // none waits
         entries: [e; rules::WAITING],
     }
 }

@@ -1,62 +1,66 @@
+-- `engine::without_waiting` meets its contract
+use Prim.Native.Nat.{_-_, _*_, _≤_}
+use mathlib.Core.Path.{_≡_, refl, ap, _∙_}
+use native.Mathlib.Omega.{arith}
+use borrow.Author.Needs.{needs}
+use lib.ListN.{length}
+use Rattle.rules.specs.Limits.{chunkLimit, blockLimit}
+use Rattle.engine.proofs.WholeLaws.{emptiedTo, emptied-next, emptied-all}
 use Rattle.engine.proofs.without_waiting.Statement.{statement}
 use Rattle.engine.proofs.without_waiting.Tie as tie
-use Rattle.engine.proofs.without_waiting.Reads as reads
-use Rattle.engine.proofs.without_waiting.Lts as lts
-use Rattle.zero.proofs.waiting.Reads as waiting-reads
 
 abbrev Inv-loop : tie.InvT-loop
-Inv-loop chunk empty out₀ b₀ out b = ?
+Inv-loop chunk empty out₀ b₀ out b = (b ≤ blockLimit) × (out ≡ emptiedTo chunk out₀ b)
 
 abbrev μ-loop : tie.MeasureT-loop
-μ-loop chunk empty out₀ b₀ out b = ?
+μ-loop chunk empty out₀ b₀ out b = blockLimit - b
 
--- src/lib.rt:99:9
+len : (c : tie.Start Inv-loop μ-loop) → length (c .args .records) ≡ chunkLimit * blockLimit
+len c = c .good .0 .1 .0 .1
+
 waiting-requires : tie.Need-waiting-requires Inv-loop μ-loop
-waiting-requires c κs = ?
+waiting-requires c κs = search needs
 
--- src/lib.rt:102:5
 loop-holds : tie.Need-loop-holds Inv-loop μ-loop
-loop-holds c = ?
+unfolding emptiedTo
+loop-holds c = (omega arith, refl)
 
--- src/lib.rt:103:17
 mul-j : tie.Need-mul-j Inv-loop μ-loop
-mul-j c = ?
+mul-j c = search needs
 
--- src/lib.rt:103:17
 add-j : tie.Need-add-j Inv-loop μ-loop
-add-j c = ?
+add-j c = search needs
 
--- src/lib.rt:104:21
 mul-r : tie.Need-mul-r Inv-loop μ-loop
-mul-r c = ?
+mul-r c = search needs
 
--- src/lib.rt:104:21
 array-copy-out-r : tie.Need-array-copy-out-r Inv-loop μ-loop
-array-copy-out-r c = ?
+array-copy-out-r c = search needs
 
--- src/lib.rt:106:9
 mul-out : tie.Need-mul-out Inv-loop μ-loop
-mul-out c = ?
+mul-out c = search needs
 
--- src/lib.rt:106:9
 array-set-from-out : tie.Need-array-set-from-out Inv-loop μ-loop
-array-set-from-out c = ?
+array-set-from-out c = search needs
 
--- src/lib.rt:107:13
 add-b : tie.Need-add-b Inv-loop μ-loop
-add-b c = ?
+add-b c = search needs
 
--- src/lib.rt:102:5
 loop-less : tie.Need-loop-less Inv-loop μ-loop
-loop-less c = ?
+loop-less c = search needs
 
--- src/lib.rt:102:5
 loop-again : tie.Need-loop-again Inv-loop μ-loop
-loop-again c = ?
+loop-again c =
+    let l = c .before .before in
+    let s = l .before .before in
+    (omega arith, emptied-next (s .args .chunk) (s .args .records) (l .loop .b) (l .loop .out) _ (l .loop .inv .1) (l .before .waiting .ensures))
 
--- src/lib.rt:95:1
 returns : tie.Need-returns Inv-loop μ-loop
-returns c = ?
+returns c =
+    let l = c .before in
+    let s = l .before .before in
+    let e : l .loop .b ≡ blockLimit = omega arith in
+    l .loop .inv .1 ∙ ap (emptiedTo (s .args .chunk) (s .args .records)) e ∙ emptied-all (s .args .chunk) (s .args .records) (s .pre) (len s)
 
 pub without-waiting-spec : {M : Type 1} → statement M
 without-waiting-spec =

@@ -27,16 +27,16 @@ returns c =
     let l = c .before .before .before .before in
     ap (λ (i : ℕ). waiting (getD (l .before .args .t1) i noCopy)) (l .lowest .ensures)
 
-nothing-requires : tie.Need-nothing-requires
-nothing-requires c κs = search needs
+waiting-requires : tie.Need-waiting-requires
+waiting-requires c κs = search needs
 
 returns-2 : tie.Need-returns-2
 returns-2 c =
     let l = c .before .before in
     let k = len (l .before) in
     let e = l .lowest .ensures in
-    ap inOrder (c .nothing .ensures) ∙ sym (ap waiting (List·getD-eq-default (l .before .args .t1) noCopy {n = place notLost (l .before .args .t1)} (omega arith)))
+    ap inOrder (c .waiting .ensures) ∙ sym (ap waiting (List·getD-eq-default (l .before .args .t1) noCopy {n = place notLost (l .before .args .t1)} (omega arith)))
 
 pub candidates-spec : {M : Type 1} → statement M
 candidates-spec =
-    tie.close (tie.spec lowest-requires mul-c array-copy-out-c returns nothing-requires returns-2)
+    tie.close (tie.spec lowest-requires mul-c array-copy-out-c returns waiting-requires returns-2)

@@ -18,8 +18,8 @@ value-requires c κs = search needs
 greatest-read-requires : tie.Need-greatest-read-requires
 greatest-read-requires c κs = search needs
 
-nothing-requires : tie.Need-nothing-requires
-nothing-requires c κs = search needs
+waiting-requires : tie.Need-waiting-requires
+waiting-requires c κs = search needs
 
 returns : tie.Need-returns
 returns c =
@@ -28,7 +28,7 @@ returns c =
     let l = v .before in
     let q = l .before in
     let w = q .before in
-    block-is (w .before .args .copies) _ _ _ _ (q .candidates .result) _ (w .greatest-write .ensures) (q .candidates .ensures) (l .latest .ensures) (v .value .ensures) (r .greatest-read .ensures) (c .nothing .ensures)
+    block-is (w .before .args .copies) _ _ _ _ (q .candidates .result) _ (w .greatest-write .ensures) (q .candidates .ensures) (l .latest .ensures) (v .value .ensures) (r .greatest-read .ensures) (c .waiting .ensures)
 
 pub settled-block-spec : {M : Type 1} → statement M
 settled-block-spec =
@@ -39,5 +39,5 @@ settled-block-spec =
     latest-requires
     value-requires
     greatest-read-requires
-    nothing-requires
+    waiting-requires
     returns)

@@ -6,11 +6,11 @@ use Rattle.settle.proofs.with_block.Tie as tie
 returns : tie.Need-returns
 returns c = rw (c .if1 .taken) refl
 
-nothing-requires : tie.Need-nothing-requires
-nothing-requires c κs = search needs
+waiting-requires : tie.Need-waiting-requires
+waiting-requires c κs = search needs
 
 returns-2 : tie.Need-returns-2
-returns-2 c = rw (c .before .before .if1 .left, c .before .nothing .ensures) refl
+returns-2 c = rw (c .before .before .if1 .left, c .before .waiting .ensures) refl
 
 pub with-block-spec : {M : Type 1} → statement M
-with-block-spec = tie.close (tie.spec returns nothing-requires returns-2)
+with-block-spec = tie.close (tie.spec returns waiting-requires returns-2)

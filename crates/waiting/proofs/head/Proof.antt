@@ -7,8 +7,8 @@ use Rattle.rules.specs.Zero.{zeroEntry}
 use Rattle.waiting.proofs.head.Statement.{statement}
 use Rattle.waiting.proofs.head.Tie as tie
 
-zero-entry-requires : tie.Need-zero-entry-requires
-zero-entry-requires c κs = search needs
+entry-requires : tie.Need-entry-requires
+entry-requires c κs = search needs
 
 returns : tie.Need-returns
 returns c = search needs
@@ -22,4 +22,4 @@ returns-2 c =
     sym (getD-take (a .t1 .count) (a .t1 .entries) 0 zeroEntry (omega arith))
 
 pub head-spec : {M : Type 1} → statement M
-head-spec = tie.close (tie.spec zero-entry-requires returns element-copy-out-result returns-2)
+head-spec = tie.close (tie.spec entry-requires returns element-copy-out-result returns-2)

@@ -63,8 +63,8 @@ loop-again c =
       rw (inv .2) (forward old k (l .loop .i) (omega arith) _ (mixed-at zeroEntry (places (drop 1 old)) old (l .loop .i) (omega (arith, filled-length zeroEntry 8 (drop 1 old))) (l .loop .i + 1) (omega arith))),
     )
 
-zero-entry-requires : tie.Need-zero-entry-requires Inv-loop μ-loop
-zero-entry-requires c κs = search needs
+entry-requires : tie.Need-entry-requires Inv-loop μ-loop
+entry-requires c κs = search needs
 
 sub-t17 : tie.Need-sub-t17 Inv-loop μ-loop
 sub-t17 c = search needs
@@ -85,7 +85,7 @@ returns-2 c =
     let old = u .tidy .result .entries in
     let k = len u in
     let i : l .loop .i ≡ 7 = omega arith in
-    rw (c .zero-entry .ensures, l .loop .inv .1, l .loop .inv .2, i, forward old k 7 (omega arith) zeroEntry (sym (List·getD-eq-default old zeroEntry (omega arith))))
+    rw (c .entry .ensures, l .loop .inv .1, l .loop .inv .2, i, forward old k 7 (omega arith) zeroEntry (sym (List·getD-eq-default old zeroEntry (omega arith))))
     (removed (u .before .args .w) (u .tidy .result) (u .tidy .ensures .0) (u .tidy .ensures .1))
 
 pub remove-head-spec : {M : Type 1} → statement M
@@ -106,7 +106,7 @@ remove-head-spec =
     add-i
     loop-less
     loop-again
-    zero-entry-requires
+    entry-requires
     sub-t17
     mul-t18
     element-set-from-out

@@ -27,8 +27,8 @@ loop-holds c =
     let u = c .used .ensures in
     (omega arith, u .1, tidy-start (c .before .args .w) (c .used .result) (u .0) (u .1))
 
-zero-entry-requires : tie.Need-zero-entry-requires Inv-loop μ-loop
-zero-entry-requires c κs = search needs
+entry-requires : tie.Need-entry-requires Inv-loop μ-loop
+entry-requires c κs = search needs
 
 mul-t7 : tie.Need-mul-t7 Inv-loop μ-loop
 mul-t7 c = search needs
@@ -48,7 +48,7 @@ loop-again c =
     let u = l .before .used .ensures in (
       omega arith,
       omega arith,
-      rw (c .zero-entry .ensures, l .loop .inv .2) (tidy-more (l .before .before .args .w) (l .before .used .result) (u .0) (u .1) (len (l .before .before)) (l .loop .i) (omega arith) (omega arith)),
+      rw (c .entry .ensures, l .loop .inv .2) (tidy-more (l .before .before .args .w) (l .before .used .result) (u .0) (u .1) (len (l .before .before)) (l .loop .i) (omega arith) (omega arith)),
     )
 
 returns : tie.Need-returns Inv-loop μ-loop
@@ -66,7 +66,7 @@ tidy-spec =
     μ-loop
     used-requires
     loop-holds
-    zero-entry-requires
+    entry-requires
     mul-t7
     element-set-from-out
     add-i
