@@ -4,13 +4,14 @@ use mathlib.Core.Path.{_≡_, refl, sym, ap, _∙_, subst}
 use mathlib.Core.Bool.{Bool, true, false, cond, false≢true, _&&_}
 use mathlib.Core.List.{List}
 use native.Mathlib.Omega.{arith}
-use borrow.Author.Tests.{ltb-true, lt-leb, le-ltb}
+use borrow.Author.Tests.{ltb-true, lt-leb, le-ltb, eqb-true}
 use lib.Dec.{eqb}
 use lib.Seq.{set-getD}
 use Rattle.rules.specs.declared.Creation.{Creation}
 use Rattle.rules.specs.declared.Record.{Record}
 use Rattle.rules.specs.declared.Chunk.{Chunk}
 use Rattle.rules.specs.declared.Host.{Host}
+use Rattle.rules.specs.declared.Header.{Header}
 use Rattle.rules.specs.declared.Message.{Message}
 use Rattle.rules.specs.declared.Slot.{Slot}
 use Rattle.rules.specs.declared.Place.{Place}
@@ -28,16 +29,42 @@ use Rattle.rules.specs.Tables.{isHost, isChunk, isBlock, setOf, hostOf, chunkOf
 use Rattle.rules.specs.Timestamps.{stamp}
 use Rattle.rules.specs.Words.{every}
 use Rattle.rules.specs.Zero.{noHost, noChunk, noRecord}
-use Rattle.rules.proofs.Events.{by-number, refused-own, granted-own}
+use Rattle.rules.proofs.Events.{by-number, ill-formed, out-of-range, refused-own, granted-own}
 use Rattle.rules.proofs.Formed.{one-to, formed, message-facts, host-place, chunk-place, block-place, front-block, queue-of}
 use Rattle.rules.proofs.Lists.{both, three}
 use Rattle.rules.proofs.Refusals.{granted-exactly}
+use Rattle.chunk.specs.Changes.{arrives}
 use Rattle.host.specs.Keeper.{drawn}
-use Rattle.host.specs.Moves.{starts, finishes}
+use Rattle.host.specs.Moves.{hears, starts, finishes}
 use Rattle.parts.specs.declared.Parts.{Parts}
 use Rattle.parts.specs.declared.Acted.{Acted}
-use Rattle.parts.specs.Address.{addressOf, placeAt, hostAt, chunkAt, blockAt}
-use Rattle.parts.specs.Acts.{byMail, unchanged, delivered, taken, hostMoved, chunkChanged, mailTaken, acted}
+use Rattle.parts.specs.Address.{bare, rangesOf, addressOf, placeAt, hostAt, chunkAt, blockAt}
+use Rattle.parts.specs.Acts.{byMail, unchanged, toChunk, toHost, delivered, taken, hostMoved, chunkChanged, mailTaken, acted}
+
+-- ---- the ranges look at the creation numbers alone
+
+same-ranges : (b : Bool) (r s p q : Rule) → r .ranges ≡ p .ranges → s .ranges ≡ q .ranges → cond b r s .ranges ≡ cond b p q .ranges
+same-ranges true r s p q h m = h
+same-ranges false r s p q h m = m
+
+pub ranges-are : (t : Table) (e : Event) → rangesOf (t .creation) e ≡ ruleOf t e .ranges
+unfolding rangesOf ruleOf readRule writeRule startRule deliverRule dropRule finishRule timeoutRule refreshRule runRule stopRule failRule recoverRule takeLeaseRule giveLeaseRule epochRule overdueRule
+ranges-are t e =
+    at 1 _ _ _ _ refl (at 2 _ _ _ _ refl (at 3 _ _ _ _ refl (at 4 _ _ _ _ refl (at 5 _ _ _ _ refl (at 6 _ _ _ _ refl (at 7 _ _ _ _ refl (at 8 _ _ _ _ refl
+    (at 9 _ _ _ _ refl (at 10 _ _ _ _ refl (at 11 _ _ _ _ refl (at 12 _ _ _ _ refl (at 13 _ _ _ _ refl (at 14 _ _ _ _ refl (at 15 _ _ _ _ refl
+    (at 16 _ _ _ _ refl refl)))))))))))))))
+  where
+    at : (n : ℕ) (r s p q : Rule) → r .ranges ≡ p .ranges → s .ranges ≡ q .ranges → cond (eqb (e .kind) n) r s .ranges ≡ cond (eqb (e .kind) n) p q .ranges
+    at n = same-ranges (eqb (e .kind) n)
+
+-- the ways through the public step that end before the event's own refusals
+pub not-formed : (t : Table) (e : Event) → wellFormed t ≡ false → refused t 8 ≡ step t e
+unfolding step
+not-formed t e h = ill-formed t (ruleOf t e) h
+
+pub outside : (t : Table) (e : Event) → wellFormed t ≡ true → ruleOf t e .ranges ≡ false → refused t 1 ≡ step t e
+unfolding step
+outside t e ok h = out-of-range t (ruleOf t e) ok h
 
 -- ---- the parts that an event touches, and the table with what it leaves
 
@@ -292,38 +319,62 @@ module _ (t : Table) (ok : wellFormed t ≡ true) where
           let x = message-facts k m f .header in
           (host-below (to .host) (x .host), chunk-below (to .chunk) (x .chunk), ltb-true (to .block) blockLimit (x .block))
 
+  -- what a message leaves of the host and the record that it names, stored back, is what the rule makes of the table
   module _ (left : List Place) where
-    -- what a message leaves of the host and the record that it names, stored back, is what the rule makes of the table
+    module _ (m : Message) where
+      abbrev to : Header
+      to = headerOf m
+
+      abbrev old : Record
+      old = recordOf t (to .chunk) (to .block)
+
+      chunk-took : let a = arrives (k .blocks) (chunkOf t (to .chunk)) old m in
+          withPlaces (withRecord (withChunk (withHost t (to .host) (hostOf t (to .host))) (to .chunk) (chunkOf t (to .chunk))) (to .chunk) (to .block) (a .block)) (replied left (a .reply))
+          ≡ chunkTakes (withPlaces t left) to m
+      unfolding replied
+      chunk-took = go (isNormal (chunkOf t (to .chunk) .state))
+        where
+          go : (n : Bool) → let a = atChunk (k .blocks) (chunkOf t (to .chunk) .epoch) old m in let r = cond n a (silent old) in
+              withPlaces (withRecord (withChunk (withHost t (to .host) (hostOf t (to .host))) (to .chunk) (chunkOf t (to .chunk))) (to .chunk) (to .block) (r .block)) (replied left (r .reply))
+              ≡ cond n (withPlaces (withRecord (withPlaces t left) (to .chunk) (to .block) (a .block)) (replied left (a .reply))) (withPlaces t left)
+          go true = record-alone t (to .host) (to .chunk) (to .block) _ _
+          go false = places-alone t (to .host) (to .chunk) (to .block) left
+
+      host-took : withPlaces (withRecord (withChunk (withHost t (to .host) (hears (hostOf t (to .host)) m)) (to .chunk) (chunkOf t (to .chunk))) (to .chunk) (to .block) old) left
+          ≡ hostTakes (withPlaces t left) to m
+      host-took = go (hostOf t (to .host) .working)
+        where
+          go : (w : Bool) → let h = hostOf t (to .host) in
+              withPlaces (withRecord (withChunk (withHost t (to .host) (cond w (atHost h m) h)) (to .chunk) (chunkOf t (to .chunk))) (to .chunk) (to .block) old) left
+              ≡ cond w (withHost (withPlaces t left) (to .host) (atHost h m)) (withPlaces t left)
+          go true = host-alone t (to .host) (to .chunk) (to .block) _ left
+          go false = places-alone t (to .host) (to .chunk) (to .block) left
+
     taken-is : (s : Slot) → let to = addressOf s in
         let d = delivered (k .blocks) (hostOf t (to .host)) (chunkOf t (to .chunk)) (recordOf t (to .chunk) (to .block)) s in
         withPlaces (withRecord (withChunk (withHost t (to .host) (d .host)) (to .chunk) (chunkOf t (to .chunk))) (to .chunk) (to .block) (d .block)) (replied left (d .reply))
         ≡ takes (withPlaces t left) s
     unfolding replied
     taken-is Slot.Empty = places-alone t 0 0 0 left
-    taken-is (Slot.Full m) = go (isForChunk m) (isNormal (chunkOf t (headerOf m .chunk) .state)) (hostOf t (headerOf m .host) .working)
+    taken-is (Slot.Full m) = go (isForChunk m)
       where
-        go : (f n w : Bool) → let to = headerOf m in
-            let h = hostOf t (to .host) in
-            let old = recordOf t (to .chunk) (to .block) in
-            let a = atChunk (k .blocks) (chunkOf t (to .chunk) .epoch) old m in
-            let r = cond n a (silent old) in
-            let d = cond f (record { host = h; block = r .block; reply = r .reply }) (record { host = cond w (atHost h m) h; block = old; reply = Slot.Empty }) in
+        go : (f : Bool) → let to = headerOf m in
+            let d = cond f (toChunk (k .blocks) (hostOf t (to .host)) (chunkOf t (to .chunk)) (recordOf t (to .chunk) (to .block)) m)
+            (toHost (hostOf t (to .host)) (recordOf t (to .chunk) (to .block)) m) in
             withPlaces (withRecord (withChunk (withHost t (to .host) (d .host)) (to .chunk) (chunkOf t (to .chunk))) (to .chunk) (to .block) (d .block)) (replied left (d .reply))
-            ≡ cond f (cond n (withPlaces (withRecord (withPlaces t left) (to .chunk) (to .block) (a .block)) (replied left (a .reply))) (withPlaces t left))
-            (cond w (withHost (withPlaces t left) (to .host) (atHost h m)) (withPlaces t left))
-        go true true w = record-alone t (headerOf m .host) (headerOf m .chunk) (headerOf m .block) _ _
-        go true false w = places-alone t (headerOf m .host) (headerOf m .chunk) (headerOf m .block) left
-        go false n true = host-alone t (headerOf m .host) (headerOf m .chunk) (headerOf m .block) _ left
-        go false n false = places-alone t (headerOf m .host) (headerOf m .chunk) (headerOf m .block) left
+            ≡ cond f (chunkTakes (withPlaces t left) to m) (hostTakes (withPlaces t left) to m)
+        go true = chunk-took m
+        go false = host-took m
 
   -- the code of both events
   mail-code : (e : Event) (p : Parts) → mailTaken e p .code ≡ codeOf (placeRefusals (p .slot))
   unfolding mailTaken
-  mail-code e p = go (codeOf (placeRefusals (p .slot)))
+  mail-code e p = go (codeOf (placeRefusals (p .slot))) (eqb (codeOf (placeRefusals (p .slot))) 0) refl
     where
-      go : (n : ℕ) → cond (eqb n 0) (byMail p (e .a) (taken (e .kind) (p .blocks) (p .host) (p .chunk) (p .block) (p .slot))) (unchanged p n) .code ≡ n
-      go zero = refl
-      go (suc n) = refl
+      go : (n : ℕ) (z : Bool) → eqb n 0 ≡ z
+          → cond z (byMail p (e .a) (taken (e .kind) (p .blocks) (p .host) (p .chunk) (p .block) (p .slot))) (unchanged p n) .code ≡ n
+      go n true h = sym (eqb-true n 0 h)
+      go n false h = refl
 
   deliver-acts : (a b c : ℕ) → deliverRule t a b c .ranges ≡ true → Acts t (event 4 a b c)
   unfolding acted mailTaken ruleOf deliverRule
@@ -384,17 +435,59 @@ module _ (t : Table) (e : Event) (ok : wellFormed t ≡ true) (inside : ruleOf t
       (λ r. absurd (false≢true r))
       inside
 
-  module _ (x : Acts t e) (d : Acted) (d-is : d ≡ acted e (partsOf t e)) where
-    code-is : d .code ≡ codeOf (ruleOf t e .refusals)
-    code-is = ap (λ (a : Acted). a .code) d-is ∙ x .code
+  -- what the code gathers: p, i, c and b are the place, the host, the chunk and the block that it found
+  module _ (x : Acts t e) (p : ℕ) (p-is : p ≡ placeAt e) where
+    pub place-inside : p < placeLimit
+    place-inside = rw p-is (x .place)
 
-    pub touch-refused : (d .code ≡ 0 → ⊥) → refused t (d .code) ≡ step t e
-    unfolding step
-    touch-refused n = refused-own t (ruleOf t e) ok inside (d .code) code-is n
+    module _ (i c : ℕ) (i-is : i ≡ hostAt e (slotOf (t .places) p)) (c-is : c ≡ chunkAt e (slotOf (t .places) p)) where
+      pub host-inside : i < hostLimit
+      host-inside = rw (i-is, p-is) (x .host)
 
-    pub touch-granted : d .code ≡ 0 → done (record { table = stored t e d; outcome = d .outcome }) ≡ step t e
-    unfolding step
-    touch-granted z =
-        ap (λ (a : Acted). done (record { table = stored t e a; outcome = a .outcome })) d-is
-        ∙ ap done (x .effect (ap (λ (a : Acted). a .code) (sym d-is) ∙ z))
-        ∙ granted-own t (ruleOf t e) ok inside (sym code-is ∙ z)
+      pub chunk-inside : c < chunkLimit
+      chunk-inside = rw (c-is, p-is) (x .chunk)
+
+      module _ (b : ℕ) (b-is : b ≡ blockAt e (slotOf (t .places) p) (hostOf t i)) where
+        pub block-inside : b < blockLimit
+        block-inside = rw (b-is, i-is, p-is) (x .block)
+
+        abbrev gathered : Parts
+        gathered = record {
+          blocks = t .creation .blocks;
+          age = t .creation .age;
+          epoch = t .epoch;
+          slot = slotOf (t .places) p;
+          host = hostOf t i;
+          chunk = chunkOf t c;
+          «set» = setOf (t .creation) b;
+          block = recordOf t c b;
+          places = t .places;
+        }
+
+        abbrev storedBack : Acted → Table
+        storedBack d = withPlaces (withRecord (withChunk (withHost t i (d .host)) c (d .chunk)) c b (d .block)) (d .places)
+
+        gathered-is : gathered ≡ partsOf t e
+        gathered-is = rw (b-is, c-is, i-is, p-is) refl
+
+        stored-is : (d : Acted) → storedBack d ≡ stored t e d
+        stored-is d = rw (b-is, c-is, i-is, p-is) refl
+
+        module _ (d : Acted) (d-is : d ≡ acted e gathered) where
+          acted-is : d ≡ acted e (partsOf t e)
+          acted-is = d-is ∙ ap (acted e) gathered-is
+
+          code-is : d .code ≡ codeOf (ruleOf t e .refusals)
+          code-is = ap (λ (a : Acted). a .code) acted-is ∙ x .code
+
+          pub touch-refused : (d .code ≡ 0 → ⊥) → refused t (d .code) ≡ step t e
+          unfolding step
+          touch-refused = refused-own t (ruleOf t e) ok inside (d .code) code-is
+
+          pub touch-granted : d .code ≡ 0 → done (record { table = storedBack d; outcome = d .outcome }) ≡ step t e
+          unfolding step
+          touch-granted z =
+              ap (λ (u : Table). done (record { table = u; outcome = d .outcome })) (stored-is d)
+              ∙ ap (λ (a : Acted). done (record { table = stored t e a; outcome = a .outcome })) acted-is
+              ∙ ap done (x .effect (ap (λ (a : Acted). a .code) (sym acted-is) ∙ z))
+              ∙ granted-own t (ruleOf t e) ok inside (sym code-is ∙ z)
