@@ -1,10 +1,30 @@
 -- Each public function's promise determines its answer
 use Rattle.rules.proofs.Unique.{unique, Determined}
-use Rattle.chunk.proofs.recover.Reads as recover
-use Rattle.chunk.proofs.arrive.Reads as arrive
+use Rattle.chunk.proofs.arrive.Reads as arrive-contract
+use Rattle.chunk.proofs.fail.Reads as fail-contract
+use Rattle.chunk.proofs.give_lease.Reads as give-lease-contract
+use Rattle.chunk.proofs.overdue.Reads as overdue-contract
+use Rattle.chunk.proofs.recover.Reads as recover-contract
+use Rattle.chunk.proofs.run.Reads as run-contract
+use Rattle.chunk.proofs.take_lease.Reads as take-lease-contract
 
-recover-unique : Determined recover.Learnt
+arrive-unique : Determined arrive-contract.Learnt
+arrive-unique κs a x y s u = unique
+
+run-unique : Determined run-contract.Learnt
+run-unique κs a x y s u = unique
+
+fail-unique : Determined fail-contract.Learnt
+fail-unique κs a x y s u = unique
+
+recover-unique : Determined recover-contract.Learnt
 recover-unique κs a x y s u = unique
 
-arrive-unique : Determined arrive.Learnt
-arrive-unique κs a x y s u = unique
+take-lease-unique : Determined take-lease-contract.Learnt
+take-lease-unique κs a x y s u = unique
+
+give-lease-unique : Determined give-lease-contract.Learnt
+give-lease-unique κs a x y s u = unique
+
+overdue-unique : Determined overdue-contract.Learnt
+overdue-unique κs a x y s u = unique

@@ -2,3 +2,4 @@ pub mod Laws
 pub mod Meanings
 pub mod Texts
 pub mod Whole
+pub mod Unique
