@@ -38,7 +38,7 @@ use Rattle.host.specs.Keeper.{drawn}
 use Rattle.host.specs.Moves.{hears, starts, finishes}
 use Rattle.parts.specs.declared.Parts.{Parts}
 use Rattle.parts.specs.declared.Acted.{Acted}
-use Rattle.parts.specs.Address.{bare, rangesOf, addressOf, placeAt, hostAt, chunkAt, blockAt}
+use Rattle.operands.specs.Address.{bare, rangesOf, addressOf, placeAt, hostAt, chunkAt, blockAt}
 use Rattle.parts.specs.Acts.{byMail, unchanged, toChunk, toHost, delivered, taken, hostMoved, chunkChanged, mailTaken, acted}
 
 -- ---- the ranges look at the creation numbers alone

@@ -54,13 +54,13 @@ fn touch(t: Table, e: Event) -> Answer
     let k = t.creation;
     let epoch = t.epoch;
     let places = t.places;
-    let p = parts::place_at(e) as usize;
+    let p = operands::place_at(e) as usize;
     let place = places[p];
     let slot = place.slot;
-    let i = parts::host_at(e, slot) as usize;
-    let c = parts::chunk_at(e, slot) as usize;
+    let i = operands::host_at(e, slot) as usize;
+    let c = operands::chunk_at(e, slot) as usize;
     let h = t.hosts[i];
-    let b = parts::block_at(e, slot, h) as usize;
+    let b = operands::block_at(e, slot, h) as usize;
     let j = c * rules::BLOCKS + b;
     let set = k.sets[b];
     let chunk = t.chunks[c];
@@ -162,7 +162,7 @@ fn act(t: Table, e: Event) -> Answer
     ensures { λ r. ⌜ r ≡ step t e ⌝ }
 {
     let k = t.creation;
-    if !parts::in_range(k, e) {
+    if !operands::in_range(k, e) {
         return refuse(t, 1);
     }
     let kind = e.kind;

@@ -1,5 +1,6 @@
 -- One event on the parts of the table that it touches
 use Prim.Native.Nat.{ℕ}
+use mathlib.Core.Bool.{Bool, _||_}
 use mathlib.Core.List.{List}
 use lib.Dec.{eqb}
 use Rattle.rules.specs.declared.Epoch.{Epoch}
@@ -24,7 +25,6 @@ use Rattle.chunk.specs.Changes.{changed, arrives, ranOr}
 use Rattle.host.specs.declared.Moved.{Moved}
 use Rattle.host.specs.declared.Sent.{Sent}
 use Rattle.host.specs.Moves.{moved, hears, starts, finishes}
-use Rattle.parts.specs.Address.{isMailEvent, isHostEvent}
 use Rattle.parts.specs.declared.Parts.{Parts}
 use Rattle.parts.specs.declared.Acted.{Acted}
 use Rattle.parts.specs.declared.Delivered.{Delivered}
@@ -96,11 +96,15 @@ mailTaken e p =
     if eqb code 0 then byMail p (e .a) (taken (e .kind) (p .blocks) (p .host) (p .chunk) (p .block) (p .slot)) else
     unchanged p code
 
+-- the events that change one host and nothing else
+abbrev pub isHostChange : (kind : ℕ) → Bool
+isHostChange k = eqb k 1 || eqb k 2 || eqb k 7 || eqb k 8 || eqb k 10
+
 unfoldable pub acted : Event → Parts → Acted
 acted e p =
-    if isMailEvent (e .kind) then mailTaken e p else
+    if eqb (e .kind) 4 || eqb (e .kind) 5 then mailTaken e p else
     if eqb (e .kind) 3 then byMessages p (starts (e .a) (e .b) (e .c) (p .set) (p .host) (p .places)) else
     if eqb (e .kind) 6 then byMessages p (finishes (e .a) (p .set) (p .host) (p .places)) else
-    if isHostEvent (e .kind) then byHost p (hostMoved e (p .host) (p .epoch)) else
+    if isHostChange (e .kind) then byHost p (hostMoved e (p .host) (p .epoch)) else
     if eqb (e .kind) 9 then byRun p (ranOr (runRefusals (p .chunk .state) (p .block .waiting) (freePlaces (p .places))) (p .block) (ran (e .a) (e .b) (p .block))) else
     byChunk p (chunkChanged e (p .chunk) (p .block .waiting) (p .age))

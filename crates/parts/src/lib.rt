@@ -5,10 +5,8 @@ use host::Moved;
 use host::Sent;
 use rules::Action;
 use rules::Chunk;
-use rules::Creation;
 use rules::Epoch;
 use rules::Event;
-use rules::Header;
 use rules::Host;
 use rules::Operation;
 use rules::Outcome;
@@ -16,10 +14,8 @@ use rules::Place;
 use rules::Record;
 use rules::Set;
 use rules::Slot;
-use rules::Timestamp;
 use rules::Waiting;
 ghost use mathlib.Core.Path.{_≡_};
-ghost use Rattle.parts.specs.Address.{addressOf, isMailEvent, isHostEvent, isChunkEvent, placeAt, hostAt, chunkAt, blockAt, rangesOf};
 ghost use Rattle.parts.specs.Acts.{byHost, byMessages, byChunk, byRun, byMail, unchanged, hostMoved, chunkChanged, delivered, taken, mailTaken, acted};
 
 // What an event looks at: numbers of the store, the place's slot, and the parts.
@@ -50,125 +46,6 @@ struct Delivered {
     host: Host,
     block: Record,
     reply: Slot,
-}
-
-// ---- the operands
-
-// "number outside its range, unknown kind, unused operand not 0".
-pub fn in_range(k: Creation, e: Event) -> bool
-    ensures { λ r. ⌜ r ≡ rangesOf k e ⌝ }
-{
-    let kind = e.kind;
-    let host = (e.a < k.hosts) & (e.b == 0) & (e.c == 0);
-    let chunk = (e.a < k.chunks) & (e.b == 0) & (e.c == 0);
-    let place = (e.a < rules::PLACES as u64) & (e.b == 0) & (e.c == 0);
-    match kind {
-        1 => (e.a < k.hosts) & (e.b < k.blocks) & (e.c == 0),
-        2 => (e.a < k.hosts) & (e.b < k.blocks),
-        3 => (e.a < k.hosts) & ((1 <= e.b) & (e.b <= rules::GREATEST_CLOCK)) & (e.c < k.chunks),
-        4 => place,
-        5 => place,
-        6 => host,
-        7 => host,
-        8 => host,
-        9 => (e.a < k.chunks) & (e.b < k.blocks) & (e.c == 0),
-        10 => host,
-        11 => chunk,
-        12 => chunk,
-        13 => chunk,
-        14 => chunk,
-        15 => (e.a == 0) & (e.b == 0) & (e.c == 0),
-        16 => (e.a < k.chunks) & (e.b < k.blocks) & (e.c <= rules::GREATEST_CLOCK),
-        _ => false,
-    }
-}
-
-// ---- whom an event is about: a place, a host, a chunk, a block; 0 where it is about none
-
-fn is_mail_event(kind: u64) -> bool
-    ensures { λ r. ⌜ r ≡ isMailEvent kind ⌝ }
-{
-    (kind == 4) | (kind == 5)
-}
-
-fn is_host_event(kind: u64) -> bool
-    ensures { λ r. ⌜ r ≡ isHostEvent kind ⌝ }
-{
-    (kind == 1) | (kind == 2) | (kind == 3) | (kind == 6) | (kind == 7) | (kind == 8) | (kind == 10)
-}
-
-fn is_chunk_event(kind: u64) -> bool
-    ensures { λ r. ⌜ r ≡ isChunkEvent kind ⌝ }
-{
-    (kind == 9) | (kind == 12) | (kind == 13) | (kind == 14) | (kind == 16)
-}
-
-// Which host, chunk and block a place's message names; an empty place names none, that is zeros.
-fn address(s: Slot) -> Header
-    ensures { λ r. ⌜ r ≡ addressOf s ⌝ }
-{
-    match s {
-        Slot::Empty => Header {
-            host: 0,
-            chunk: 0,
-            block: 0,
-            timestamp: Timestamp(0),
-        },
-        Slot::Full(m) => network::header_of(m),
-    }
-}
-
-pub fn place_at(e: Event) -> u64
-    ensures { λ r. ⌜ r ≡ placeAt e ⌝ }
-{
-    if is_mail_event(e.kind) {
-        return e.a;
-    }
-    0
-}
-
-pub fn host_at(e: Event, s: Slot) -> u64
-    ensures { λ r. ⌜ r ≡ hostAt e s ⌝ }
-{
-    if is_mail_event(e.kind) {
-        let to = address(s);
-        return to.host;
-    }
-    if is_host_event(e.kind) {
-        return e.a;
-    }
-    0
-}
-
-pub fn chunk_at(e: Event, s: Slot) -> u64
-    ensures { λ r. ⌜ r ≡ chunkAt e s ⌝ }
-{
-    if is_mail_event(e.kind) {
-        let to = address(s);
-        return to.chunk;
-    }
-    if is_chunk_event(e.kind) {
-        return e.a;
-    }
-    0
-}
-
-// A start and a finish are about the block of the host's front operation.
-pub fn block_at(e: Event, s: Slot, h: Host) -> u64
-    ensures { λ r. ⌜ r ≡ blockAt e s h ⌝ }
-{
-    if is_mail_event(e.kind) {
-        let to = address(s);
-        return to.block;
-    }
-    if (e.kind == 3) | (e.kind == 6) {
-        let o = host::front(h);
-        return o.block;
-    }
-    if (e.kind == 9) | (e.kind == 16) {
-        return e.b;
-    }
-    0
 }
 
 // ---- what is left of the parts
@@ -369,7 +246,7 @@ pub fn act(e: Event, p: Parts) -> Acted
     ensures { λ r. ⌜ r ≡ acted e p ⌝ }
 {
     let kind = e.kind;
-    if is_mail_event(kind) {
+    if (kind == 4) | (kind == 5) {
         return mail_event(e, p);
     }
     let h = p.host;
@@ -383,7 +260,7 @@ pub fn act(e: Event, p: Parts) -> Acted
         let s = host::finish(e.a, set, h, places);
         return by_messages(p, s);
     }
-    if is_host_event(kind) {
+    if (kind == 1) | (kind == 2) | (kind == 7) | (kind == 8) | (kind == 10) {
         let epoch = p.epoch;
         let m = host_event(e, h, epoch);
         return by_host(p, m);

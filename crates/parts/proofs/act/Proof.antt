@@ -6,15 +6,12 @@ use borrow.Author.Needs.{needs}
 use Rattle.parts.proofs.act.Statement.{statement}
 use Rattle.parts.proofs.act.Tie as tie
 
-is-mail-event-requires : tie.Need-is-mail-event-requires
-is-mail-event-requires c κs = search needs
-
 mail-event-requires : tie.Need-mail-event-requires
 mail-event-requires c κs = search needs
 
 returns : tie.Need-returns
 unfolding acted
-returns c = rw (sym (c .before .before .is-mail-event .ensures) ∙ c .before .if1 .taken) (c .mail-event .ensures)
+returns c = rw (c .before .if1 .taken) (c .mail-event .ensures)
 
 start-requires : tie.Need-start-requires
 start-requires c κs = search needs
@@ -36,9 +33,6 @@ returns-3 : tie.Need-returns-3
 unfolding acted
 returns-3 c = rw (c .before .before .if3 .taken, sym (c .before .finish .ensures)) (c .by-messages2 .ensures)
 
-is-host-event-requires : tie.Need-is-host-event-requires
-is-host-event-requires c κs = search needs
-
 host-event-requires : tie.Need-host-event-requires
 host-event-requires c κs = search needs
 
@@ -47,7 +41,7 @@ by-host-requires c κs = search needs
 
 returns-4 : tie.Need-returns-4
 unfolding acted
-returns-4 c = rw (sym (c .before .before .before .before .before .before .before .before .before .before .before .is-mail-event .ensures) ∙ c .before .before .before .before .before .before .before .before .before .before .if1 .left, sym (c .before .before .before .before .is-host-event .ensures) ∙ c .before .before .before .if4 .taken, ne-eqb _ 3 (c .before .before .before .before .before .before .if2 .left), ne-eqb _ 6 (c .before .before .before .before .before .if3 .left), sym (c .before .host-event .ensures)) (c .by-host .ensures)
+returns-4 c = rw (c .before .before .before .before .before .before .before .before .before .if1 .left, c .before .before .before .if4 .taken, ne-eqb _ 3 (c .before .before .before .before .before .if2 .left), ne-eqb _ 6 (c .before .before .before .before .if3 .left), sym (c .before .host-event .ensures)) (c .by-host .ensures)
 
 free-places-requires : tie.Need-free-places-requires
 free-places-requires c κs = search needs
@@ -70,13 +64,12 @@ by-chunk-requires c κs = search needs
 
 returns-6 : tie.Need-returns-6
 unfolding acted
-returns-6 c = rw (sym (c .before .before .before .before .before .before .before .before .before .before .before .before .before .before .is-mail-event .ensures) ∙ c .before .before .before .before .before .before .before .before .before .before .before .before .before .if1 .left, sym (c .before .before .before .before .before .before .before .is-host-event .ensures) ∙ c .before .before .before .before .before .before .if4 .left, ne-eqb _ 3 (c .before .before .before .before .before .before .before .before .before .if2 .left), ne-eqb _ 6 (c .before .before .before .before .before .before .before .before .if3 .left), ne-eqb _ 9 (c .before .before .before .if5 .left), sym (c .before .chunk-event .ensures)) (c .by-chunk .ensures)
+returns-6 c = rw (c .before .before .before .before .before .before .before .before .before .before .before .before .if1 .left, c .before .before .before .before .before .before .if4 .left, ne-eqb _ 3 (c .before .before .before .before .before .before .before .before .if2 .left), ne-eqb _ 6 (c .before .before .before .before .before .before .before .if3 .left), ne-eqb _ 9 (c .before .before .before .if5 .left), sym (c .before .chunk-event .ensures)) (c .by-chunk .ensures)
 
 pub act-spec : {M : Type 1} → statement M
 act-spec =
     tie.close
     (tie.spec
-    is-mail-event-requires
     mail-event-requires
     returns
     start-requires
@@ -85,7 +78,6 @@ act-spec =
     finish-requires
     by-messages-requires-2
     returns-3
-    is-host-event-requires
     host-event-requires
     by-host-requires
     returns-4

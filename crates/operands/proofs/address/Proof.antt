@@ -1,8 +1,8 @@
--- `parts::address` meets its contract
+-- `operands::address` meets its contract
 use mathlib.Core.Path.{refl}
 use borrow.Author.Needs.{needs}
-use Rattle.parts.proofs.address.Statement.{statement}
-use Rattle.parts.proofs.address.Tie as tie
+use Rattle.operands.proofs.address.Statement.{statement}
+use Rattle.operands.proofs.address.Tie as tie
 
 enum-told : tie.Need-enum-told
 enum-told c = search needs

@@ -4,7 +4,7 @@ use mathlib.Core.Bool.{false}
 use Rattle.rules.specs.declared.Creation.{Creation}
 use Rattle.rules.specs.declared.Event.{Event}
 use Rattle.rules.proofs.Events.{by-number}
-use Rattle.parts.specs.Address.{bare, rangesOf}
+use Rattle.operands.specs.Address.{bare, rangesOf}
 
 pub unknown : (k : Creation) (e : Event)
     → (e .kind ≡ 1 → ⊥) → (e .kind ≡ 2 → ⊥) → (e .kind ≡ 3 → ⊥) → (e .kind ≡ 4 → ⊥) → (e .kind ≡ 5 → ⊥) → (e .kind ≡ 6 → ⊥)

@@ -1,8 +1,8 @@
--- `parts::chunk_at` meets its contract
+-- `operands::chunk_at` meets its contract
 use mathlib.Core.Path.{refl, sym, _∙_}
 use borrow.Author.Needs.{needs}
-use Rattle.parts.proofs.chunk_at.Statement.{statement}
-use Rattle.parts.proofs.chunk_at.Tie as tie
+use Rattle.operands.proofs.chunk_at.Statement.{statement}
+use Rattle.operands.proofs.chunk_at.Tie as tie
 
 is-mail-event-requires : tie.Need-is-mail-event-requires
 is-mail-event-requires c κs = search needs

@@ -1,11 +1,11 @@
--- `parts::in_range` meets its contract
+-- `operands::in_range` meets its contract
 use mathlib.Core.Path.{refl, sym}
 use mathlib.Core.Bool.{and-true}
 use Rattle.rules.specs.Events.{readRule, writeRule, startRule, deliverRule, dropRule, finishRule, timeoutRule, refreshRule, runRule, stopRule, failRule, recoverRule, takeLeaseRule, giveLeaseRule, epochRule, overdueRule, ruleOf}
-use Rattle.parts.specs.Address.{rangesOf}
-use Rattle.parts.proofs.Laws.{unknown}
-use Rattle.parts.proofs.in_range.Statement.{statement}
-use Rattle.parts.proofs.in_range.Tie as tie
+use Rattle.operands.specs.Address.{rangesOf}
+use Rattle.operands.proofs.Laws.{unknown}
+use Rattle.operands.proofs.in_range.Statement.{statement}
+use Rattle.operands.proofs.in_range.Tie as tie
 
 returns : tie.Need-returns
 unfolding rangesOf ruleOf readRule
