@@ -21,7 +21,7 @@ by-messages-requires c κs = search needs
 
 returns-2 : tie.Need-returns-2
 unfolding acted
-returns-2 c = rw (c .before .before .if2 .taken, sym (c .before .start .ensures)) (c .by-messages .ensures)
+returns-2 c = c .by-messages .ensures ∙ rw (c .before .before .if2 .taken, c .before .start .ensures) refl
 
 finish-requires : tie.Need-finish-requires
 finish-requires c κs = search needs
@@ -31,7 +31,7 @@ by-messages-requires-2 c κs = search needs
 
 returns-3 : tie.Need-returns-3
 unfolding acted
-returns-3 c = rw (c .before .before .if3 .taken, sym (c .before .finish .ensures)) (c .by-messages2 .ensures)
+returns-3 c = c .by-messages2 .ensures ∙ rw (c .before .before .if3 .taken, c .before .finish .ensures) refl
 
 host-event-requires : tie.Need-host-event-requires
 host-event-requires c κs = search needs
@@ -41,7 +41,7 @@ by-host-requires c κs = search needs
 
 returns-4 : tie.Need-returns-4
 unfolding acted
-returns-4 c = rw (c .before .before .before .before .before .before .before .before .before .if1 .left, c .before .before .before .if4 .taken, ne-eqb _ 3 (c .before .before .before .before .before .if2 .left), ne-eqb _ 6 (c .before .before .before .before .if3 .left), sym (c .before .host-event .ensures)) (c .by-host .ensures)
+returns-4 c = c .by-host .ensures ∙ rw (c .before .before .before .before .before .before .before .before .before .if1 .left, c .before .before .before .if4 .taken, ne-eqb _ 3 (c .before .before .before .before .before .if2 .left), ne-eqb _ 6 (c .before .before .before .before .if3 .left), c .before .host-event .ensures) refl
 
 free-places-requires : tie.Need-free-places-requires
 free-places-requires c κs = search needs
@@ -64,7 +64,7 @@ by-chunk-requires c κs = search needs
 
 returns-6 : tie.Need-returns-6
 unfolding acted
-returns-6 c = rw (c .before .before .before .before .before .before .before .before .before .before .before .before .if1 .left, c .before .before .before .before .before .before .if4 .left, ne-eqb _ 3 (c .before .before .before .before .before .before .before .before .if2 .left), ne-eqb _ 6 (c .before .before .before .before .before .before .before .if3 .left), ne-eqb _ 9 (c .before .before .before .if5 .left), sym (c .before .chunk-event .ensures)) (c .by-chunk .ensures)
+returns-6 c = c .by-chunk .ensures ∙ rw (c .before .before .before .before .before .before .before .before .before .before .before .before .if1 .left, c .before .before .before .before .before .before .if4 .left, ne-eqb _ 3 (c .before .before .before .before .before .before .before .before .if2 .left), ne-eqb _ 6 (c .before .before .before .before .before .before .before .if3 .left), ne-eqb _ 9 (c .before .before .before .if5 .left), c .before .chunk-event .ensures) refl
 
 pub act-spec : {M : Type 1} → statement M
 act-spec =

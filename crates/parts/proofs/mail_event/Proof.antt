@@ -1,5 +1,5 @@
 -- `parts::mail_event` meets its contract
-use mathlib.Core.Path.{sym, _∙_}
+use mathlib.Core.Path.{refl, sym, _∙_}
 use borrow.Author.Tests.{ne-eqb}
 use Rattle.parts.specs.Acts.{mailTaken}
 use borrow.Author.Needs.{needs}
@@ -24,7 +24,7 @@ by-mail-requires c κs = search needs
 
 returns-2 : tie.Need-returns-2
 unfolding mailTaken
-returns-2 c = rw (sym (c .before .before .before .before .before .before .place-code .ensures) ∙ c .before .before .before .before .before .if1 .left, sym (c .before .taken .ensures)) (c .by-mail .ensures)
+returns-2 c = c .by-mail .ensures ∙ rw (sym (c .before .before .before .before .before .before .place-code .ensures) ∙ c .before .before .before .before .before .if1 .left, c .before .taken .ensures) refl
 
 pub mail-event-spec : {M : Type 1} → statement M
 mail-event-spec =
