@@ -1,7 +1,7 @@
 -- An event on the parts that it touches: where they stand, and what is stored back, are the rule's
 use Prim.Native.Nat.{ℕ, zero, suc, _<_}
 use mathlib.Core.Path.{_≡_, refl, sym, ap, _∙_, subst}
-use mathlib.Core.Bool.{Bool, true, false, cond, false≢true, _&&_}
+use mathlib.Core.Bool.{Bool, true, false, cond, false≢true}
 use mathlib.Core.List.{List}
 use native.Mathlib.Omega.{arith}
 use borrow.Author.Tests.{ltb-true, lt-leb, le-ltb, eqb-true}
@@ -19,7 +19,7 @@ use Rattle.rules.specs.declared.Table.{Table}
 use Rattle.rules.specs.declared.Event.{Event}
 use Rattle.rules.specs.Chunks.{silent, atChunk}
 use Rattle.rules.specs.Codes.{codeOf}
-use Rattle.rules.specs.Events.{Rule, Effect, quietly, done, refused, unused, isPlace, chunkTakes, hostTakes, takes, readRule, writeRule, startRule, deliverRule, dropRule, finishRule, timeoutRule, refreshRule, runRule, stopRule, failRule, recoverRule, takeLeaseRule, giveLeaseRule, epochRule, overdueRule, unknownRule, ruleOf, step}
+use Rattle.rules.specs.Events.{Rule, quietly, done, refused, unused, isPlace, chunkTakes, hostTakes, takes, readRule, writeRule, startRule, deliverRule, dropRule, finishRule, timeoutRule, refreshRule, runRule, stopRule, failRule, recoverRule, takeLeaseRule, giveLeaseRule, epochRule, overdueRule, ruleOf, step}
 use Rattle.rules.specs.Formed.{slotFormed, wellFormed}
 use Rattle.rules.specs.Hosts.{front, atHost}
 use Rattle.rules.specs.Kinds.{isNormal, headerOf, isForChunk}
@@ -31,14 +31,14 @@ use Rattle.rules.specs.Words.{every}
 use Rattle.rules.specs.Zero.{noHost, noChunk, noRecord}
 use Rattle.rules.proofs.Events.{by-number, ill-formed, out-of-range, refused-own, granted-own}
 use Rattle.rules.proofs.Formed.{one-to, formed, message-facts, host-place, chunk-place, block-place, front-block, queue-of}
-use Rattle.rules.proofs.Lists.{both, three}
+use Rattle.rules.proofs.Lists.{three}
 use Rattle.rules.proofs.Refusals.{granted-exactly}
 use Rattle.chunk.specs.Changes.{arrives}
 use Rattle.host.specs.Keeper.{drawn}
 use Rattle.host.specs.Moves.{hears, starts, finishes}
 use Rattle.parts.specs.declared.Parts.{Parts}
 use Rattle.parts.specs.declared.Acted.{Acted}
-use Rattle.operands.specs.Address.{bare, rangesOf, addressOf, placeAt, hostAt, chunkAt, blockAt}
+use Rattle.operands.specs.Address.{rangesOf, addressOf, placeAt, hostAt, chunkAt, blockAt}
 use Rattle.parts.specs.Acts.{byMail, unchanged, toChunk, toHost, delivered, taken, hostMoved, chunkChanged, mailTaken, acted}
 
 -- ---- the ranges look at the creation numbers alone

@@ -12,7 +12,7 @@ ghost use mathlib.Core.Path.{_≡_};
 ghost use mathlib.Core.Bool.{true};
 ghost use Prim.Native.Nat.{_<_};
 ghost use Rattle.rules.specs.Creation.{created};
-ghost use Rattle.rules.specs.Events.{done, quietly, refused, ruleOf, step};
+ghost use Rattle.rules.specs.Events.{done, refused, ruleOf, step};
 ghost use Rattle.rules.specs.Formed.{wellFormed};
 ghost use Rattle.rules.specs.Limits.{chunkLimit};
 ghost use Rattle.engine.specs.Records.{withoutWaiting};

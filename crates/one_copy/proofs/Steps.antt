@@ -1,7 +1,7 @@
 -- Every event, granted or refused, keeps a table good
 use Prim.Native.Nat.{ℕ, _<_}
 use mathlib.Core.Path.{_≡_, refl, sym, subst⁻¹, _∙_, ap}
-use mathlib.Core.Bool.{Bool, true, false, cond, _&&_, false≢true}
+use mathlib.Core.Bool.{Bool, true, false, _&&_, false≢true}
 use mathlib.Core.List.{List, [], append-nil}
 use native.Mathlib.Omega.{arith}
 use lib.Dec.{eqb}
@@ -10,7 +10,7 @@ use borrow.Author.Tests.{ltb-true, eqb-true}
 use Rattle.one_copy.specs.Types.{Action, Operation, Message, Slot, Table, Event, Outcome, Answer}
 use Rattle.one_copy.specs.Runs.{Write, byHost, isChange, listedAt}
 use Rattle.rules.specs.Codes.{codeOf}
-use Rattle.rules.specs.Events.{Rule, quietly, done, refused, unused, isPlace, holdersOf, readRule, writeRule, startRule, deliverRule, dropRule, finishRule, timeoutRule, refreshRule, runRule, stopRule, failRule, recoverRule, takeLeaseRule, giveLeaseRule, epochRule, overdueRule, unknownRule, ruleOf, rows, answered, step, takes, epochChanged, epochRefusals}
+use Rattle.rules.specs.Events.{Rule, quietly, done, refused, unused, isPlace, holdersOf, readRule, writeRule, startRule, deliverRule, dropRule, finishRule, timeoutRule, refreshRule, runRule, stopRule, failRule, recoverRule, takeLeaseRule, giveLeaseRule, epochRule, overdueRule, ruleOf, rows, answered, step, takes, epochChanged, epochRefusals}
 use Rattle.rules.specs.Hosts.{front, openingTo, closingTo}
 use Rattle.rules.specs.Kinds.{isNormal, headerOf, isForChunk}
 use Rattle.rules.specs.Limits.{greatestClock, placeLimit, oneTo, upTo}

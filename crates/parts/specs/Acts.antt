@@ -1,7 +1,6 @@
 -- One event on the parts of the table that it touches
 use Prim.Native.Nat.{ℕ}
 use mathlib.Core.Bool.{Bool, _||_}
-use mathlib.Core.List.{List}
 use lib.Dec.{eqb}
 use Rattle.rules.specs.declared.Epoch.{Epoch}
 use Rattle.rules.specs.declared.Waiting.{Waiting}
@@ -14,7 +13,7 @@ use Rattle.rules.specs.declared.Slot.{Slot}
 use Rattle.rules.specs.declared.Event.{Event}
 use Rattle.rules.specs.declared.Outcome.{Outcome}
 use Rattle.rules.specs.Chunks.{runRefusals, ran, recoverRefusals, recovered, takeLeaseRefusals, leaseTaken, giveLeaseRefusals, leaseGiven, overdueRefusals, overdue}
-use Rattle.rules.specs.Codes.{Row, codeOf}
+use Rattle.rules.specs.Codes.{codeOf}
 use Rattle.rules.specs.Hosts.{intakeRefusals, appended, timeoutRefusals, timedOut, workingRefusals, refreshed, stopped}
 use Rattle.rules.specs.Kinds.{isForChunk}
 use Rattle.rules.specs.Network.{freePlaces, removed, replied, placeRefusals}

@@ -1,5 +1,5 @@
 -- `parts::act` meets its contract
-use mathlib.Core.Path.{refl, sym, _∙_}
+use mathlib.Core.Path.{refl, _∙_}
 use borrow.Author.Tests.{ne-eqb}
 use Rattle.parts.specs.Acts.{acted}
 use borrow.Author.Needs.{needs}
