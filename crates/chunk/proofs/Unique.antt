@@ -1,15 +1,11 @@
 -- Each public function's promise determines its answer
 use Rattle.rules.proofs.Unique.{unique, Determined}
-use Rattle.chunk.proofs.arrive.Reads as arrive-contract
 use Rattle.chunk.proofs.fail.Reads as fail-contract
 use Rattle.chunk.proofs.give_lease.Reads as give-lease-contract
 use Rattle.chunk.proofs.overdue.Reads as overdue-contract
 use Rattle.chunk.proofs.recover.Reads as recover-contract
 use Rattle.chunk.proofs.run.Reads as run-contract
 use Rattle.chunk.proofs.take_lease.Reads as take-lease-contract
-
-arrive-unique : Determined arrive-contract.Learnt
-arrive-unique κs a x y s u = unique
 
 run-unique : Determined run-contract.Learnt
 run-unique κs a x y s u = unique

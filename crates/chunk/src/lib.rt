@@ -1,6 +1,5 @@
-// One chunk: a message arrives at it, the head of a waiting list runs, it fails, recovers, takes and gives its lease, a block is overdue.
+// One chunk: the head of a waiting list runs, it fails, recovers, takes and gives its lease, a block is overdue.
 ghost use mathlib.Core.Path.{_≡_};
-ghost use mathlib.Core.Bool.{true, false};
 ghost use Prim.Native.Nat.{_<_, _^_};
 ghost use lib.Dec.{eqb};
 ghost use lib.IntN.{pos, _-ℤ_};
@@ -9,13 +8,12 @@ ghost use Rattle.rules.specs.declared.Kind.{Kind};
 ghost use Rattle.rules.specs.Codes.{codeOf};
 ghost use Rattle.rules.specs.Kinds.{isRead, isUndecided, isNormal, isNolease, isFailed};
 ghost use Rattle.rules.specs.Timestamps.{later};
-ghost use Rattle.rules.specs.Chunks.{withState, withValue, withWrite, answering, silent, isOutOfOrder, waits, arrived, decides, atChunk, runRefusals, runs, ran, failRefusals, failed, recoverRefusals, recovered, takeLeaseRefusals, leaseTaken, giveLeaseRefusals, leaseGiven, isOverdue, overdueRefusals, overdue};
+ghost use Rattle.rules.specs.Chunks.{withState, withValue, withWrite, silent, runRefusals, runs, ran, failRefusals, failed, recoverRefusals, recovered, takeLeaseRefusals, leaseTaken, giveLeaseRefusals, leaseGiven, isOverdue, overdueRefusals, overdue};
 ghost use Rattle.rules.specs.Words.{if_then_else_};
-ghost use Rattle.chunk.specs.Changes.{changed, arrives, ranOr};
+ghost use Rattle.chunk.specs.Changes.{changed, ranOr};
 use rules::Arrived;
 use rules::Chunk;
 use rules::Entry;
-use rules::Epoch;
 use rules::Header;
 use rules::Kind;
 use rules::Message;
@@ -104,26 +102,6 @@ fn later(t: Timestamp, u: Timestamp) -> Timestamp
     t
 }
 
-// The record, with a reply.
-fn answering(r: Record, m: Message) -> Arrived
-    ensures { λ a. ⌜ a ≡ answering r m ⌝ }
-{
-    Arrived {
-        block: r,
-        reply: Slot::Full(m),
-    }
-}
-
-// The record, with no reply.
-fn silent(r: Record) -> Arrived
-    ensures { λ a. ⌜ a ≡ silent r ⌝ }
-{
-    Arrived {
-        block: r,
-        reply: Slot::Empty,
-    }
-}
-
 // The chunk in another state.
 fn with_state(c: Chunk, state: State) -> Chunk
     ensures { λ r. ⌜ r ≡ withState c state ⌝ }
@@ -152,117 +130,6 @@ fn unless_refused(code: u64, old: Chunk, new: Chunk) -> Changed
         code: code,
         chunk: new,
     }
-}
-
-// "timestamp below last write (a prewrite: or below last read), out of order".
-fn is_out_of_order(k: Kind, t: Timestamp, r: Record) -> bool
-    ensures { λ b. ⌜ b ≡ isOutOfOrder k t r ⌝ }
-{
-    (t.0 < r.write.0) | (!is_read(k) & (t.0 < r.read.0))
-}
-
-// "else it waits, after its equals, and a prewrite is answered with a prewrite reply".
-fn waits(r: Record, header: Header, epoch: Epoch, kind: Kind) -> Arrived
-    ensures { λ a. ⌜ a ≡ waits r header epoch kind ⌝ }
-{
-    let t = header.timestamp;
-    let e = Entry {
-        timestamp: t,
-        sender: header.host,
-        epoch: epoch,
-        kind: kind,
-    };
-    let w = r.waiting;
-    let now = waiting::insert(w, e);
-    let mut out = r;
-    out.waiting = now;
-    if is_read(kind) {
-        return silent(out);
-    }
-    answering(out, Message::PrewriteReply { header: header })
-}
-
-// "Read or prewrite at a chunk, in this order": version mismatch, error, out of order, busy; else it waits.
-fn read_or_prewrite(
-    blocks: u64,
-    current: Epoch,
-    r: Record,
-    header: Header,
-    epoch: Epoch,
-    kind: Kind,
-) -> Arrived
-    ensures { λ a. ⌜ a ≡ arrived blocks current r header epoch kind ⌝ }
-{
-    if epoch.0 != current.0 {
-        return answering(r, Message::Mismatch { header: header });
-    }
-    if blocks <= header.block {
-        return answering(r, Message::Error { header: header });
-    }
-    let t = header.timestamp;
-    if is_out_of_order(kind, t, r) {
-        return answering(r, Message::OutOfOrder { header: header });
-    }
-    let w = r.waiting;
-    if rules::WAITING as u64 <= w.count {
-        return answering(r, Message::Busy { header: header });
-    }
-    waits(r, header, epoch, kind)
-}
-
-// "Commit and abort ignore the epoch"; "for a block outside, nothing changes".
-fn commit_or_abort(blocks: u64, r: Record, header: Header, commit: bool) -> Arrived
-    ensures { λ a. ⌜ a ≡ decides blocks r header commit ⌝ }
-{
-    if blocks <= header.block {
-        return silent(r);
-    }
-    let t = header.timestamp;
-    let w = r.waiting;
-    let now = waiting::mark(w, t, commit);
-    let mut out = r;
-    out.waiting = now;
-    silent(out)
-}
-
-// A message at a chunk of the given epoch, with its record of the message's block. (Replies go to hosts.)
-fn at_chunk(blocks: u64, current: Epoch, r: Record, m: Message) -> Arrived
-    ensures { λ a. ⌜ a ≡ atChunk blocks current r m ⌝ }
-{
-    match m {
-        Message::Read { header, epoch } => read_or_prewrite(
-            blocks,
-            current,
-            r,
-            header,
-            epoch,
-            Kind::Read,
-        ),
-        Message::Prewrite {
-            header,
-            epoch,
-            value,
-        } => read_or_prewrite(blocks, current, r, header, epoch, Kind::Undecided(value)),
-        Message::Commit { header, epoch: _ } => commit_or_abort(blocks, r, header, true),
-        Message::Abort { header, epoch: _ } => commit_or_abort(blocks, r, header, false),
-        Message::Mismatch { .. } => silent(r),
-        Message::Error { .. } => silent(r),
-        Message::OutOfOrder { .. } => silent(r),
-        Message::Busy { .. } => silent(r),
-        Message::ReadReply { .. } => silent(r),
-        Message::PrewriteReply { .. } => silent(r),
-    }
-}
-
-// A message at a chunk, with its record of the message's block. "A failed or nolease chunk .. take no notice".
-pub fn arrive(blocks: u64, c: Chunk, r: Record, m: Message) -> Arrived
-    ensures { λ a. ⌜ a ≡ arrives blocks c r m ⌝ }
-{
-    let state = c.state;
-    if is_normal(state) {
-        return at_chunk(blocks, c.epoch, r, m);
-    }
-    silent(r)
 }
 
 // "normal, head exists and isn't undecided (2); room if the head is a read (5)".
@@ -298,18 +165,23 @@ fn run_read(chunk: u64, block: u64, r: Record, e: Entry) -> Arrived
         timestamp: t,
     };
     if t.0 < r.write.0 {
-        return answering(r, Message::OutOfOrder { header: header });
+        let refusal = Message::OutOfOrder { header: header };
+        return Arrived {
+            block: r,
+            reply: Slot::Full(refusal),
+        };
     }
     let read = later(r.read, t);
     let mut out = r;
     out.read = read;
-    answering(
-        out,
-        Message::ReadReply {
-            header: header,
-            value: r.value,
-        },
-    )
+    let answer = Message::ReadReply {
+        header: header,
+        value: r.value,
+    };
+    Arrived {
+        block: out,
+        reply: Slot::Full(answer),
+    }
 }
 
 // "Committed: value set, last write raised to its timestamp".
@@ -320,7 +192,10 @@ fn run_committed(r: Record, t: Timestamp, v: u64) -> Arrived
     let mut out = r;
     out.value = v;
     out.write = write;
-    silent(out)
+    Arrived {
+        block: out,
+        reply: Slot::Empty,
+    }
 }
 
 // "The head is removed; for an aborted one that is all". (An undecided head is refused.)
@@ -336,9 +211,15 @@ fn run_head(chunk: u64, block: u64, r: Record) -> Arrived
     let t = e.timestamp;
     match k {
         Kind::Read => run_read(chunk, block, out, e),
-        Kind::Undecided(_) => silent(out),
+        Kind::Undecided(_) => Arrived {
+            block: out,
+            reply: Slot::Empty,
+        },
         Kind::Committed(v) => run_committed(out, t, v),
-        Kind::Aborted(_) => silent(out),
+        Kind::Aborted(_) => Arrived {
+            block: out,
+            reply: Slot::Empty,
+        },
     }
 }
 

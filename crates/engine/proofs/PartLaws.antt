@@ -33,7 +33,7 @@ use Rattle.rules.proofs.Events.{by-number, ill-formed, out-of-range, refused-ow
 use Rattle.rules.proofs.Formed.{one-to, formed, message-facts, host-place, chunk-place, block-place, front-block, queue-of}
 use Rattle.rules.proofs.Lists.{three}
 use Rattle.rules.proofs.Refusals.{granted-exactly}
-use Rattle.chunk.specs.Changes.{arrives}
+use Rattle.arrival.specs.Arrivals.{arrives}
 use Rattle.host.specs.Keeper.{drawn}
 use Rattle.host.specs.Moves.{hears, starts, finishes}
 use Rattle.parts.specs.declared.Parts.{Parts}

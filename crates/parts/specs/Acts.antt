@@ -18,9 +18,10 @@ use Rattle.rules.specs.Hosts.{intakeRefusals, appended, timeoutRefusals, timedO
 use Rattle.rules.specs.Kinds.{isForChunk}
 use Rattle.rules.specs.Network.{freePlaces, removed, replied, placeRefusals}
 use Rattle.rules.specs.Words.{if_then_else_}
+use Rattle.arrival.specs.Arrivals.{arrives}
 use Rattle.chunk.specs.declared.Changed.{Changed}
 use Rattle.chunk.specs.declared.Ran.{Ran}
-use Rattle.chunk.specs.Changes.{changed, arrives, ranOr}
+use Rattle.chunk.specs.Changes.{changed, ranOr}
 use Rattle.host.specs.declared.Moved.{Moved}
 use Rattle.host.specs.declared.Sent.{Sent}
 use Rattle.host.specs.Moves.{moved, hears, starts, finishes}

@@ -1,9 +1,9 @@
--- `chunk::waits` meets its contract
+-- `arrival::waits` meets its contract
 use mathlib.Core.Path.{sym, _∙_}
 use borrow.Author.Needs.{needs}
-use Rattle.chunk.proofs.Laws.{read-waits, prewrite-waits}
-use Rattle.chunk.proofs.waits.Statement.{statement}
-use Rattle.chunk.proofs.waits.Tie as tie
+use Rattle.arrival.proofs.Laws.{read-waits, prewrite-waits}
+use Rattle.arrival.proofs.waits.Statement.{statement}
+use Rattle.arrival.proofs.waits.Tie as tie
 
 insert-requires : tie.Need-insert-requires
 insert-requires c κs = search needs

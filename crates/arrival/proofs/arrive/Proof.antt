@@ -1,9 +1,9 @@
--- `chunk::arrive` meets its contract
+-- `arrival::arrive` meets its contract
 use mathlib.Core.Path.{sym, _∙_}
-use Rattle.chunk.proofs.Laws.{noticed, unnoticed}
+use Rattle.arrival.proofs.Laws.{noticed, unnoticed}
 use borrow.Author.Needs.{needs}
-use Rattle.chunk.proofs.arrive.Statement.{statement}
-use Rattle.chunk.proofs.arrive.Tie as tie
+use Rattle.arrival.proofs.arrive.Statement.{statement}
+use Rattle.arrival.proofs.arrive.Tie as tie
 
 is-normal-requires : tie.Need-is-normal-requires
 is-normal-requires c κs = search needs

@@ -1,9 +1,9 @@
--- `chunk::read_or_prewrite` meets its contract
+-- `arrival::read_or_prewrite` meets its contract
 use mathlib.Core.Path.{sym, _∙_}
 use borrow.Author.Needs.{needs}
-use Rattle.chunk.proofs.Laws.{mismatch, outside, disorder, full, room}
-use Rattle.chunk.proofs.read_or_prewrite.Statement.{statement}
-use Rattle.chunk.proofs.read_or_prewrite.Tie as tie
+use Rattle.arrival.proofs.Laws.{mismatch, outside, disorder, full, room}
+use Rattle.arrival.proofs.read_or_prewrite.Statement.{statement}
+use Rattle.arrival.proofs.read_or_prewrite.Tie as tie
 
 answering-requires : tie.Need-answering-requires
 answering-requires c κs = search needs

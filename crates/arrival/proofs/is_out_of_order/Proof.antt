@@ -1,8 +1,8 @@
--- `chunk::is_out_of_order` meets its contract
+-- `arrival::is_out_of_order` meets its contract
 use mathlib.Core.Path.{refl}
 use borrow.Author.Needs.{needs}
-use Rattle.chunk.proofs.is_out_of_order.Statement.{statement}
-use Rattle.chunk.proofs.is_out_of_order.Tie as tie
+use Rattle.arrival.proofs.is_out_of_order.Statement.{statement}
+use Rattle.arrival.proofs.is_out_of_order.Tie as tie
 
 is-read-requires : tie.Need-is-read-requires
 is-read-requires c κs = search needs

@@ -1,8 +1,8 @@
--- `chunk::at_chunk` meets its contract
+-- `arrival::at_chunk` meets its contract
 use borrow.Author.Needs.{needs}
 use Rattle.rules.specs.Chunks.{atChunk}
-use Rattle.chunk.proofs.at_chunk.Statement.{statement}
-use Rattle.chunk.proofs.at_chunk.Tie as tie
+use Rattle.arrival.proofs.at_chunk.Statement.{statement}
+use Rattle.arrival.proofs.at_chunk.Tie as tie
 
 enum-known-m : tie.Need-enum-known-m
 enum-known-m c = search needs

@@ -1,9 +1,9 @@
--- `chunk::commit_or_abort` meets its contract
+-- `arrival::commit_or_abort` meets its contract
 use mathlib.Core.Path.{_∙_}
 use borrow.Author.Needs.{needs}
-use Rattle.chunk.proofs.Laws.{nothing-decided, one-decided}
-use Rattle.chunk.proofs.commit_or_abort.Statement.{statement}
-use Rattle.chunk.proofs.commit_or_abort.Tie as tie
+use Rattle.arrival.proofs.Laws.{nothing-decided, one-decided}
+use Rattle.arrival.proofs.commit_or_abort.Statement.{statement}
+use Rattle.arrival.proofs.commit_or_abort.Tie as tie
 
 silent-requires : tie.Need-silent-requires
 silent-requires c κs = search needs

@@ -1,0 +1,169 @@
+// A message arrives at a chunk: what it makes of the chunk's record of its block, and the reply.
+ghost use mathlib.Core.Path.{_≡_};
+ghost use Rattle.rules.specs.Kinds.{isRead, isNormal};
+ghost use Rattle.rules.specs.Chunks.{answering, silent, isOutOfOrder, waits, arrived, decides, atChunk};
+ghost use Rattle.arrival.specs.Arrivals.{arrives};
+use rules::Arrived;
+use rules::Chunk;
+use rules::Entry;
+use rules::Epoch;
+use rules::Header;
+use rules::Kind;
+use rules::Message;
+use rules::Record;
+use rules::Slot;
+use rules::State;
+use rules::Timestamp;
+
+// The enums, case by case.
+fn is_read(k: Kind) -> bool
+    ensures { λ r. ⌜ r ≡ isRead k ⌝ }
+{
+    match k {
+        Kind::Read => true,
+        Kind::Undecided(_) => false,
+        Kind::Committed(_) => false,
+        Kind::Aborted(_) => false,
+    }
+}
+
+fn is_normal(state: State) -> bool
+    ensures { λ r. ⌜ r ≡ isNormal state ⌝ }
+{
+    match state {
+        State::Normal => true,
+        State::Nolease => false,
+        State::Failed => false,
+    }
+}
+
+// The record, with a reply.
+fn answering(r: Record, m: Message) -> Arrived
+    ensures { λ a. ⌜ a ≡ answering r m ⌝ }
+{
+    Arrived {
+        block: r,
+        reply: Slot::Full(m),
+    }
+}
+
+// The record, with no reply.
+fn silent(r: Record) -> Arrived
+    ensures { λ a. ⌜ a ≡ silent r ⌝ }
+{
+    Arrived {
+        block: r,
+        reply: Slot::Empty,
+    }
+}
+
+// "timestamp below last write (a prewrite: or below last read), out of order".
+fn is_out_of_order(k: Kind, t: Timestamp, r: Record) -> bool
+    ensures { λ b. ⌜ b ≡ isOutOfOrder k t r ⌝ }
+{
+    (t.0 < r.write.0) | (!is_read(k) & (t.0 < r.read.0))
+}
+
+// "else it waits, after its equals, and a prewrite is answered with a prewrite reply".
+fn waits(r: Record, header: Header, epoch: Epoch, kind: Kind) -> Arrived
+    ensures { λ a. ⌜ a ≡ waits r header epoch kind ⌝ }
+{
+    let t = header.timestamp;
+    let e = Entry {
+        timestamp: t,
+        sender: header.host,
+        epoch: epoch,
+        kind: kind,
+    };
+    let w = r.waiting;
+    let now = waiting::insert(w, e);
+    let mut out = r;
+    out.waiting = now;
+    if is_read(kind) {
+        return silent(out);
+    }
+    answering(out, Message::PrewriteReply { header: header })
+}
+
+// "Read or prewrite at a chunk, in this order": version mismatch, error, out of order, busy; else it waits.
+fn read_or_prewrite(
+    blocks: u64,
+    current: Epoch,
+    r: Record,
+    header: Header,
+    epoch: Epoch,
+    kind: Kind,
+) -> Arrived
+    ensures { λ a. ⌜ a ≡ arrived blocks current r header epoch kind ⌝ }
+{
+    if epoch.0 != current.0 {
+        return answering(r, Message::Mismatch { header: header });
+    }
+    if blocks <= header.block {
+        return answering(r, Message::Error { header: header });
+    }
+    let t = header.timestamp;
+    if is_out_of_order(kind, t, r) {
+        return answering(r, Message::OutOfOrder { header: header });
+    }
+    let w = r.waiting;
+    if rules::WAITING as u64 <= w.count {
+        return answering(r, Message::Busy { header: header });
+    }
+    waits(r, header, epoch, kind)
+}
+
+// "Commit and abort ignore the epoch"; "for a block outside, nothing changes".
+fn commit_or_abort(blocks: u64, r: Record, header: Header, commit: bool) -> Arrived
+    ensures { λ a. ⌜ a ≡ decides blocks r header commit ⌝ }
+{
+    if blocks <= header.block {
+        return silent(r);
+    }
+    let t = header.timestamp;
+    let w = r.waiting;
+    let now = waiting::mark(w, t, commit);
+    let mut out = r;
+    out.waiting = now;
+    silent(out)
+}
+
+// A message at a chunk of the given epoch, with its record of the message's block. (Replies go to hosts.)
+fn at_chunk(blocks: u64, current: Epoch, r: Record, m: Message) -> Arrived
+    ensures { λ a. ⌜ a ≡ atChunk blocks current r m ⌝ }
+{
+    match m {
+        Message::Read { header, epoch } => read_or_prewrite(
+            blocks,
+            current,
+            r,
+            header,
+            epoch,
+            Kind::Read,
+        ),
+        Message::Prewrite {
+            header,
+            epoch,
+            value,
+        } => read_or_prewrite(blocks, current, r, header, epoch, Kind::Undecided(value)),
+        Message::Commit { header, epoch: _ } => commit_or_abort(blocks, r, header, true),
+        Message::Abort { header, epoch: _ } => commit_or_abort(blocks, r, header, false),
+        Message::Mismatch { .. } => silent(r),
+        Message::Error { .. } => silent(r),
+        Message::OutOfOrder { .. } => silent(r),
+        Message::Busy { .. } => silent(r),
+        Message::ReadReply { .. } => silent(r),
+        Message::PrewriteReply { .. } => silent(r),
+    }
+}
+
+// A message at a chunk, with its record of the message's block. "A failed or nolease chunk .. take no notice".
+pub fn arrive(blocks: u64, c: Chunk, r: Record, m: Message) -> Arrived
+    ensures { λ a. ⌜ a ≡ arrives blocks c r m ⌝ }
+{
+    let state = c.state;
+    if is_normal(state) {
+        return at_chunk(blocks, c.epoch, r, m);
+    }
+    silent(r)
+}
