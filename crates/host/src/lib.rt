@@ -414,7 +414,7 @@ fn suits(reading: bool, m: Message) -> bool
 fn counts(h: Host, m: Message) -> bool
     ensures { λ r. ⌜ r ≡ counts h m ⌝ }
 {
-    let header = network::header_of(m);
+    let header = messages::header_of(m);
     let attempt = h.attempt;
     let o = front(h);
     let a = o.action;
@@ -474,7 +474,7 @@ pub fn at_host(h: Host, m: Message) -> Host
     ensures { λ r. ⌜ r ≡ hears h m ⌝ }
 {
     if h.working & counts(h, m) {
-        let header = network::header_of(m);
+        let header = messages::header_of(m);
         let a = h.attempt;
         return heard(h, answered_by(a, header.chunk), m);
     }

@@ -190,7 +190,7 @@ fn deliver(blocks: u64, h: Host, c: Chunk, r: Record, s: Slot) -> Delivered
             reply: Slot::Empty,
         },
         Slot::Full(m) => {
-            if network::is_for_chunk(m) {
+            if messages::is_for_chunk(m) {
                 let a = chunk::arrive(blocks, c, r, m);
                 let block = a.block;
                 let reply = a.reply;

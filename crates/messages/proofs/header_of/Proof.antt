@@ -1,8 +1,8 @@
--- `network::header_of` meets its contract
+-- `messages::header_of` meets its contract
 use mathlib.Core.Path.{refl}
 use borrow.Author.Needs.{needs}
-use Rattle.network.proofs.header_of.Statement.{statement}
-use Rattle.network.proofs.header_of.Tie as tie
+use Rattle.messages.proofs.header_of.Statement.{statement}
+use Rattle.messages.proofs.header_of.Tie as tie
 
 enum-known-m : tie.Need-enum-known-m
 enum-known-m c = search needs
