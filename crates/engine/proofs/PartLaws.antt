@@ -35,7 +35,8 @@ use Rattle.rules.proofs.Lists.{both, three}
 use Rattle.rules.proofs.Refusals.{granted-exactly}
 use Rattle.chunk.specs.Changes.{arrives}
 use Rattle.host.specs.Keeper.{drawn}
-use Rattle.host.specs.Moves.{hears, starts, finishes}
+use Rattle.host.specs.Moves.{starts, finishes}
+use Rattle.replies.specs.Replies.{hears}
 use Rattle.parts.specs.declared.Parts.{Parts}
 use Rattle.parts.specs.declared.Acted.{Acted}
 use Rattle.operands.specs.Address.{bare, rangesOf, addressOf, placeAt, hostAt, chunkAt, blockAt}

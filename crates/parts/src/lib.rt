@@ -200,7 +200,7 @@ fn deliver(blocks: u64, h: Host, c: Chunk, r: Record, s: Slot) -> Delivered
                     reply: reply,
                 }
             } else {
-                let new = host::at_host(h, m);
+                let new = replies::at_host(h, m);
                 Delivered {
                     host: new,
                     block: r,

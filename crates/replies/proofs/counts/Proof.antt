@@ -1,8 +1,8 @@
--- `host::counts` meets its contract
+-- `replies::counts` meets its contract
 use mathlib.Core.Path.{refl}
 use borrow.Author.Needs.{needs}
-use Rattle.host.proofs.counts.Statement.{statement}
-use Rattle.host.proofs.counts.Tie as tie
+use Rattle.replies.proofs.counts.Statement.{statement}
+use Rattle.replies.proofs.counts.Tie as tie
 
 header-of-requires : tie.Need-header-of-requires
 header-of-requires c κs = search needs

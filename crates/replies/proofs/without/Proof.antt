@@ -1,4 +1,4 @@
--- `host::without` meets its contract
+-- `replies::without` meets its contract
 use Prim.Native.Nat.{_≤_}
 use mathlib.Core.Path.{_≡_, refl}
 use mathlib.Core.Bool.{false}
@@ -6,8 +6,8 @@ use native.Mathlib.Omega.{arith}
 use lib.ListN.{length, length-map}
 use lib.Seq.{set-out}
 use borrow.Author.Needs.{needs}
-use Rattle.host.proofs.without.Statement.{statement}
-use Rattle.host.proofs.without.Tie as tie
+use Rattle.replies.proofs.without.Statement.{statement}
+use Rattle.replies.proofs.without.Tie as tie
 
 len : (c : tie.Start) → length (c .args .s .chunks) ≡ 8
 len c = simp length-map at (c .good .0 .1 .1 .0 .1 .0 .1)

@@ -1,8 +1,8 @@
--- `host::answered_by` meets its contract
+-- `replies::answered_by` meets its contract
 use mathlib.Core.Path.{refl}
 use borrow.Author.Needs.{needs}
-use Rattle.host.proofs.answered_by.Statement.{statement}
-use Rattle.host.proofs.answered_by.Tie as tie
+use Rattle.replies.proofs.answered_by.Statement.{statement}
+use Rattle.replies.proofs.answered_by.Tie as tie
 
 without-requires : tie.Need-without-requires
 without-requires c κs = search needs

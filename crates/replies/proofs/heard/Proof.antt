@@ -1,9 +1,9 @@
--- `host::heard` meets its contract
+-- `replies::heard` meets its contract
 use mathlib.Core.Path.{refl}
 use mathlib.Core.Logic.{⊎-elim}
 use borrow.Author.Needs.{needs}
-use Rattle.host.proofs.heard.Statement.{statement}
-use Rattle.host.proofs.heard.Tie as tie
+use Rattle.replies.proofs.heard.Statement.{statement}
+use Rattle.replies.proofs.heard.Tie as tie
 
 enum-told : tie.Need-enum-told
 enum-told c = search needs

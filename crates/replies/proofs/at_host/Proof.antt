@@ -1,8 +1,8 @@
--- `host::at_host` meets its contract
-use Rattle.host.proofs.Laws.{noticed, unnoticed}
+-- `replies::at_host` meets its contract
+use Rattle.replies.proofs.Laws.{noticed, unnoticed}
 use borrow.Author.Needs.{needs}
-use Rattle.host.proofs.at_host.Statement.{statement}
-use Rattle.host.proofs.at_host.Tie as tie
+use Rattle.replies.proofs.at_host.Statement.{statement}
+use Rattle.replies.proofs.at_host.Tie as tie
 
 counts-requires : tie.Need-counts-requires
 counts-requires c κs = search needs

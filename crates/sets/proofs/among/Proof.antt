@@ -1,12 +1,12 @@
--- `host::among` meets its contract
+-- `sets::among` meets its contract
 use Prim.Native.Nat.{_≤_}
 use mathlib.Core.Path.{_≡_, sym}
 use mathlib.Core.Bool.{false}
 use native.Mathlib.Omega.{arith}
 use lib.ListN.{length, length-map, List·getD-eq-default}
 use borrow.Author.Needs.{needs}
-use Rattle.host.proofs.among.Statement.{statement}
-use Rattle.host.proofs.among.Tie as tie
+use Rattle.sets.proofs.among.Statement.{statement}
+use Rattle.sets.proofs.among.Tie as tie
 
 len : (c : tie.Start) → length (c .args .t2 .chunks) ≡ 8
 len c = simp length-map at (c .good .1 .0 .1 .1 .0 .1 .0 .1)
