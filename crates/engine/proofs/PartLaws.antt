@@ -34,7 +34,7 @@ use Rattle.rules.proofs.Formed.{one-to, formed, message-facts, host-place, chun
 use Rattle.rules.proofs.Lists.{both, three}
 use Rattle.rules.proofs.Refusals.{granted-exactly}
 use Rattle.chunk.specs.Changes.{arrives}
-use Rattle.host.specs.Keeper.{drawn}
+use Rattle.keeper.specs.Keeper.{drawn}
 use Rattle.host.specs.Moves.{starts, finishes}
 use Rattle.replies.specs.Replies.{hears}
 use Rattle.parts.specs.declared.Parts.{Parts}

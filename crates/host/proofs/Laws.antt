@@ -1,9 +1,9 @@
 -- What the crate's functions cite of the rules
-use Prim.Native.Nat.{ℕ, _≤_, _<_}
+use Prim.Native.Nat.{ℕ}
 use mathlib.Core.Path.{_≡_, refl}
 use mathlib.Core.List.{List}
 use lib.ListN.{length}
-use borrow.Author.Tests.{lt-ltb, le-ltb, lt-leb, le-leb, ne-eqb}
+use borrow.Author.Tests.{ne-eqb}
 use Rattle.rules.specs.declared.Set.{Set}
 use Rattle.rules.specs.declared.Operation.{Operation}
 use Rattle.rules.specs.declared.Queue.{Queue}
@@ -13,16 +13,12 @@ use Rattle.rules.specs.declared.Place.{Place}
 use Rattle.rules.specs.Codes.{Row, codeOf}
 use Rattle.rules.specs.Hosts.{queueOf, front, startRefusals, openingTo, opening, finishRefusals, closingTo, closing, finishOutcome, finished}
 use Rattle.rules.specs.Kinds.{headed}
-use Rattle.rules.specs.Limits.{hostLimit, operationLimit, greatestClock}
+use Rattle.rules.specs.Limits.{operationLimit}
 use Rattle.rules.specs.Network.{freePlaces, howMany, sentToEach}
-use Rattle.rules.specs.Timestamps.{stamp}
 use Rattle.rules.specs.Words.{filled}
 use Rattle.rules.specs.Zero.{zeroOperation}
-use Rattle.host.specs.declared.Drawn.{Drawn}
-use Rattle.host.specs.declared.Keeper.{Keeper}
 use Rattle.host.specs.declared.Moved.{Moved}
 use Rattle.host.specs.declared.Sent.{Sent}
-use Rattle.host.specs.Keeper.{refused, drawn}
 use Rattle.host.specs.Moves.{moved, begun, sentOr, starts, finishes}
 
 -- a queue that has the operations of l is l's
@@ -30,27 +26,6 @@ pub queue-is : (l : List Operation) (n : ℕ) (array : List Operation) → n ≡
     → _≡_ {A = Queue} (record { count = n; operations = array }) (queueOf l)
 unfolding queueOf
 queue-is l n array h k = rw (h, k) refl
-
--- what the keeper's draw is in each situation
-module _ (k : Keeper) (clock : ℕ) where
-  pub draw-no-host : hostLimit ≤ k .host → refused k 1 ≡ drawn k clock
-  unfolding codeOf drawn
-  draw-no-host h = rw (le-leb _ _ h) refl
-
-  module _ (host : k .host < hostLimit) where
-    pub draw-no-clock : greatestClock < clock → refused k 1 ≡ drawn k clock
-    unfolding codeOf drawn
-    draw-no-clock h = rw (lt-leb _ _ host, lt-ltb _ _ h) refl
-
-    module _ (range : clock ≤ greatestClock) where
-      pub draw-old-clock : clock ≤ k .last → refused k 3 ≡ drawn k clock
-      unfolding codeOf drawn
-      draw-old-clock h = rw (lt-leb _ _ host, le-ltb _ _ range, le-leb _ _ h) refl
-
-      pub draw-new-clock : k .last < clock
-          → _≡_ {A = Drawn} (record { keeper = record { host = k .host; last = clock }; code = 0; timestamp = stamp clock (k .host) }) (drawn k clock)
-      unfolding codeOf drawn
-      draw-new-clock h = rw (lt-leb _ _ host, le-ltb _ _ range, lt-leb _ _ h) refl
 
 -- ---- an event of one host: its code is 0, or not
 

@@ -1,6 +1,5 @@
 -- Each public function's promise determines its answer
 use Rattle.rules.proofs.Unique.{unique, Determined}
-use Rattle.host.proofs.draw.Reads as draw-contract
 use Rattle.host.proofs.finish.Reads as finish-contract
 use Rattle.host.proofs.front.Reads as front-contract
 use Rattle.host.proofs.intake.Reads as intake-contract
@@ -14,9 +13,6 @@ front-unique κs a x y s u = unique
 
 intake-unique : Determined intake-contract.Learnt
 intake-unique κs a x y s u = unique
-
-draw-unique : Determined draw-contract.Learnt
-draw-unique κs a x y s u = unique
 
 start-unique : Determined start-contract.Learnt
 start-unique κs a x y s u = unique

@@ -11,9 +11,9 @@ use Rattle.rules.specs.Hosts.{front, startRefusals, openingTo, opening, started
 use Rattle.rules.specs.Kinds.{headed}
 use Rattle.rules.specs.Network.{freePlaces, howMany, sentToEach}
 use Rattle.rules.specs.Words.{if_then_else_}
+use Rattle.keeper.specs.Keeper.{drawn}
 use Rattle.host.specs.declared.Moved.{Moved}
 use Rattle.host.specs.declared.Sent.{Sent}
-use Rattle.host.specs.Keeper.{drawn}
 
 -- "same table, zeros" at one host: a refusal leaves it as it was
 abbrev pub moved : List Row → (old new : Host) → Moved

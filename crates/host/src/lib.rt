@@ -15,8 +15,8 @@ ghost use Rattle.rules.specs.Limits.{operationLimit};
 ghost use Rattle.rules.specs.Network.{freePlaces, howMany};
 ghost use Rattle.rules.specs.Words.{filled};
 ghost use Rattle.rules.specs.Zero.{_among_, zeroOperation};
-ghost use Rattle.host.specs.Keeper.{refused, drawn};
 ghost use Rattle.host.specs.Moves.{moved, begun, starts, finishes};
+use keeper::Keeper;
 use rules::Action;
 use rules::Attempt;
 use rules::Epoch;
@@ -26,7 +26,6 @@ use rules::Outcome;
 use rules::Place;
 use rules::Queue;
 use rules::Set;
-use rules::Timestamp;
 
 // What an event makes of its host: 0 and the host after it, or a refusal's code and the host as it was.
 pub struct Moved {
@@ -201,53 +200,6 @@ fn lacks_room(places: [Place; rules::PLACES], to: Set) -> bool
     network::free_places(places) < network::how_many(to)
 }
 
-// ---- the clock keeper
-
-// "each host's clock keeper hands out a number and remembers it".
-pub struct Keeper {
-    pub host: u64,
-    pub last: u64,
-}
-
-pub struct Drawn {
-    pub keeper: Keeper,
-    pub code: u64,
-    pub timestamp: Timestamp,
-}
-
-// A refused draw leaves the keeper as it was.
-fn refuse(k: Keeper, code: u64) -> Drawn
-    ensures { λ r. ⌜ r ≡ refused k code ⌝ }
-{
-    Drawn {
-        keeper: k,
-        code: code,
-        timestamp: Timestamp(0),
-    }
-}
-
-// "clock not above the host's last drawn" (3); a number too large for a timestamp is outside its range (1).
-pub fn draw(k: Keeper, clock: u64) -> Drawn
-    ensures { λ r. ⌜ r ≡ drawn k clock ⌝ }
-{
-    if rules::HOSTS as u64 <= k.host {
-        return refuse(k, 1);
-    }
-    if rules::GREATEST_CLOCK < clock {
-        return refuse(k, 1);
-    }
-    if clock <= k.last {
-        return refuse(k, 3);
-    }
-    let mut kept = k;
-    kept.last = clock;
-    Drawn {
-        keeper: kept,
-        code: 0,
-        timestamp: Timestamp(clock * 8 + k.host),
-    }
-}
-
 // ---- start
 
 // "a read's copy must be in the set"; "a write passes over it".
@@ -312,11 +264,11 @@ fn opening_to(action: Action, copy: u64, holders: Set) -> Set
 fn begin(number: u64, clock: u64, h: Host, to: Set) -> Host
     ensures { λ r. ⌜ r ≡ begun number clock h to ⌝ }
 {
-    let keeper = Keeper {
+    let k = Keeper {
         host: number,
         last: h.clock,
     };
-    let d = draw(keeper, clock);
+    let d = keeper::draw(k, clock);
     let now = d.timestamp;
     let a = Attempt {
         timestamp: now,

@@ -1,9 +1,9 @@
--- `host::draw` meets its contract
+-- `keeper::draw` meets its contract
 use mathlib.Core.Path.{_∙_}
-use Rattle.host.proofs.Laws.{draw-no-host, draw-no-clock, draw-old-clock, draw-new-clock}
+use Rattle.keeper.proofs.Laws.{draw-no-host, draw-no-clock, draw-old-clock, draw-new-clock}
 use borrow.Author.Needs.{needs}
-use Rattle.host.proofs.draw.Statement.{statement}
-use Rattle.host.proofs.draw.Tie as tie
+use Rattle.keeper.proofs.draw.Statement.{statement}
+use Rattle.keeper.proofs.draw.Tie as tie
 
 refuse-requires : tie.Need-refuse-requires
 refuse-requires c κs = search needs

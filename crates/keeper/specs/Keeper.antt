@@ -6,8 +6,8 @@ use Rattle.rules.specs.Codes.{Row, _gives_⨾_, granted, codeOf}
 use Rattle.rules.specs.Limits.{hostLimit, greatestClock}
 use Rattle.rules.specs.Timestamps.{stamp, never}
 use Rattle.rules.specs.Words.{if_then_else_}
-use Rattle.host.specs.declared.Drawn.{Drawn}
-use Rattle.host.specs.declared.Keeper.{Keeper}
+use Rattle.keeper.specs.declared.Drawn.{Drawn}
+use Rattle.keeper.specs.declared.Keeper.{Keeper}
 
 -- "number outside its range" (1): no host's, or above 4,294,967,295; "clock not above the host's last drawn" (3)
 abbrev pub drawRefusals : Keeper → (clock : ℕ) → List Row
