@@ -34,8 +34,9 @@ use Rattle.rules.proofs.Formed.{one-to, formed, message-facts, host-place, chun
 use Rattle.rules.proofs.Lists.{three}
 use Rattle.rules.proofs.Refusals.{granted-exactly}
 use Rattle.arrival.specs.Arrivals.{arrives}
-use Rattle.host.specs.Keeper.{drawn}
-use Rattle.host.specs.Moves.{hears, starts, finishes}
+use Rattle.keeper.specs.Keeper.{drawn}
+use Rattle.host.specs.Moves.{starts, finishes}
+use Rattle.replies.specs.Replies.{hears}
 use Rattle.parts.specs.declared.Parts.{Parts}
 use Rattle.parts.specs.declared.Acted.{Acted}
 use Rattle.operands.specs.Address.{rangesOf, addressOf, placeAt, hostAt, chunkAt, blockAt}

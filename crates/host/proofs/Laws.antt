@@ -1,60 +1,31 @@
 -- What the crate's functions cite of the rules
-use Prim.Native.Nat.{ℕ, _≤_, _<_}
-use mathlib.Core.Path.{_≡_, refl, sym, _∙_}
-use mathlib.Core.Bool.{Bool, true, false, cond, _&&_, true≢false}
+use Prim.Native.Nat.{ℕ}
+use mathlib.Core.Path.{_≡_, refl}
 use mathlib.Core.List.{List}
 use lib.ListN.{length}
-use borrow.Author.Tests.{lt-ltb, le-ltb, lt-leb, le-leb, ne-eqb}
+use borrow.Author.Tests.{ne-eqb}
 use Rattle.rules.specs.declared.Set.{Set}
 use Rattle.rules.specs.declared.Operation.{Operation}
 use Rattle.rules.specs.declared.Queue.{Queue}
-use Rattle.rules.specs.declared.Attempt.{Attempt}
 use Rattle.rules.specs.declared.Host.{Host}
-use Rattle.rules.specs.declared.Header.{Header}
-use Rattle.rules.specs.declared.Message.{Message}
 use Rattle.rules.specs.declared.Outcome.{Outcome}
 use Rattle.rules.specs.declared.Place.{Place}
 use Rattle.rules.specs.Codes.{Row, codeOf}
-use Rattle.rules.specs.Hosts.{queueOf, front, startRefusals, openingTo, opening, counts, answeredBy, heard, atHost, finishRefusals, closingTo, closing, finishOutcome, finished}
-use Rattle.rules.specs.Kinds.{headed, headerOf}
-use Rattle.rules.specs.Limits.{hostLimit, operationLimit, greatestClock}
+use Rattle.rules.specs.Hosts.{queueOf, front, startRefusals, openingTo, opening, finishRefusals, closingTo, closing, finishOutcome, finished}
+use Rattle.rules.specs.Kinds.{headed}
+use Rattle.rules.specs.Limits.{operationLimit}
 use Rattle.rules.specs.Network.{freePlaces, howMany, sentToEach}
-use Rattle.rules.specs.Timestamps.{stamp}
 use Rattle.rules.specs.Words.{filled}
 use Rattle.rules.specs.Zero.{zeroOperation}
-use Rattle.host.specs.declared.Drawn.{Drawn}
-use Rattle.host.specs.declared.Keeper.{Keeper}
 use Rattle.host.specs.declared.Moved.{Moved}
 use Rattle.host.specs.declared.Sent.{Sent}
-use Rattle.host.specs.Keeper.{refused, drawn}
-use Rattle.host.specs.Moves.{moved, hears, begun, sentOr, starts, finishes}
+use Rattle.host.specs.Moves.{moved, begun, sentOr, starts, finishes}
 
 -- a queue that has the operations of l is l's
 pub queue-is : (l : List Operation) (n : ℕ) (array : List Operation) → n ≡ length l → array ≡ filled operationLimit zeroOperation l
     → _≡_ {A = Queue} (record { count = n; operations = array }) (queueOf l)
 unfolding queueOf
 queue-is l n array h k = rw (h, k) refl
-
--- what the keeper's draw is in each situation
-module _ (k : Keeper) (clock : ℕ) where
-  pub draw-no-host : hostLimit ≤ k .host → refused k 1 ≡ drawn k clock
-  unfolding codeOf drawn
-  draw-no-host h = rw (le-leb _ _ h) refl
-
-  module _ (host : k .host < hostLimit) where
-    pub draw-no-clock : greatestClock < clock → refused k 1 ≡ drawn k clock
-    unfolding codeOf drawn
-    draw-no-clock h = rw (lt-leb _ _ host, lt-ltb _ _ h) refl
-
-    module _ (range : clock ≤ greatestClock) where
-      pub draw-old-clock : clock ≤ k .last → refused k 3 ≡ drawn k clock
-      unfolding codeOf drawn
-      draw-old-clock h = rw (lt-leb _ _ host, le-ltb _ _ range, le-leb _ _ h) refl
-
-      pub draw-new-clock : k .last < clock
-          → _≡_ {A = Drawn} (record { keeper = record { host = k .host; last = clock }; code = 0; timestamp = stamp clock (k .host) }) (drawn k clock)
-      unfolding codeOf drawn
-      draw-new-clock h = rw (lt-leb _ _ host, le-ltb _ _ range, lt-leb _ _ h) refl
 
 -- ---- an event of one host: its code is 0, or not
 
@@ -64,26 +35,6 @@ module _ (rows : List Row) (old new : Host) (code : ℕ) (code-is : code ≡ cod
 
   pub moves : code ≡ 0 → _≡_ {A = Moved} (record { code = 0; host = new }) (moved rows old new)
   moves h = rw (← code-is, h) refl
-
--- ---- a reply: two tests in one
-
-both-hold : (a b : Bool) (x y : Host) → a && b ≡ true → x ≡ cond a (cond b x y) y
-both-hold true b x y h = rw h refl
-both-hold false b x y h = absurd (true≢false (sym h))
-
-one-fails : (a b : Bool) (x y : Host) → a && b ≡ false → y ≡ cond a (cond b x y) y
-one-fails true b x y h = rw h refl
-one-fails false b x y h = refl
-
-module _ (h : Host) (m : Message) (counted : Bool) (counted-is : counted ≡ counts h m) where
-  pub noticed : (header : Header) (a : Attempt) (new : Host) → h .working && counted ≡ true → header ≡ headerOf m
-      → a ≡ answeredBy (h .attempt) (header .chunk) → new ≡ heard h a m → new ≡ hears h m
-  unfolding atHost
-  noticed header a new k header-is a-is new-is = new-is ∙ rw (a-is, header-is) (both-hold (h .working) (counts h m) _ h (rw counted-is at k))
-
-  pub unnoticed : h .working && counted ≡ false → h ≡ hears h m
-  unfolding atHost
-  unnoticed k = one-fails (h .working) (counts h m) _ h (rw counted-is at k)
 
 -- ---- start and finish
 

@@ -4,25 +4,20 @@ use mathlib.Core.List.{List}
 use lib.Dec.{eqb}
 use Rattle.rules.specs.declared.Set.{Set}
 use Rattle.rules.specs.declared.Host.{Host}
-use Rattle.rules.specs.declared.Message.{Message}
 use Rattle.rules.specs.declared.Outcome.{Outcome}
 use Rattle.rules.specs.declared.Place.{Place}
 use Rattle.rules.specs.Codes.{Row, codeOf}
-use Rattle.rules.specs.Hosts.{front, startRefusals, openingTo, opening, started, atHost, finishRefusals, closingTo, closing, finishOutcome, finished}
+use Rattle.rules.specs.Hosts.{front, startRefusals, openingTo, opening, started, finishRefusals, closingTo, closing, finishOutcome, finished}
 use Rattle.rules.specs.Kinds.{headed}
 use Rattle.rules.specs.Network.{freePlaces, howMany, sentToEach}
 use Rattle.rules.specs.Words.{if_then_else_}
+use Rattle.keeper.specs.Keeper.{drawn}
 use Rattle.host.specs.declared.Moved.{Moved}
 use Rattle.host.specs.declared.Sent.{Sent}
-use Rattle.host.specs.Keeper.{drawn}
 
 -- "same table, zeros" at one host: a refusal leaves it as it was
 abbrev pub moved : List Row → (old new : Host) → Moved
 moved rows old new = record { code = codeOf rows; host = if eqb (codeOf rows) 0 then new else old }
-
--- ".. and a stopped host take no notice"
-abbrev pub hears : Host → Message → Host
-hears h m = if h .working then atHost h m else h
 
 -- .. at one host and the network: a refusal leaves both as they were, and has no outcome
 abbrev pub sentOr : List Row → (old new : Host) → (before after : List Place) → Outcome → Sent

@@ -1,33 +1,31 @@
-// One host: operations come in, one starts with a timestamp that the clock keeper drew, replies arrive, it finishes.
+// One host: operations come in, one starts with a timestamp that the clock keeper drew, it finishes.
 ghost use mathlib.Core.Path.{_≡_};
-ghost use mathlib.Core.Bool.{false};
+ghost use mathlib.Core.Bool.{_&&_, not};
 ghost use mathlib.Core.List.{[], _∷_, _++_};
 ghost use Prim.Native.Nat.{_≤_};
 ghost use lib.Dec.{ltb};
-ghost use lib.ListN.{length, getD, set, take, drop};
+ghost use lib.ListN.{length, getD, take, drop};
 ghost use Rattle.rules.specs.Codes.{codeOf};
 ghost use Rattle.rules.specs.Hosts.{queueOf, front, hasCurrent, isOutstanding, only};
-ghost use Rattle.rules.specs.Hosts.{intakeRefusals, appended, startRefusals, openingTo, suits, counts, answeredBy};
-ghost use Rattle.rules.specs.Hosts.{heard, finishRefusals, closingTo, doneAs, failedAs, finishOutcome, finished};
+ghost use Rattle.rules.specs.Hosts.{intakeRefusals, appended, startRefusals, openingTo};
+ghost use Rattle.rules.specs.Hosts.{finishRefusals, closingTo, doneAs, failedAs, finishOutcome, finished};
 ghost use Rattle.rules.specs.Hosts.{timeoutRefusals, timedOut, workingRefusals, refreshed, stopped};
 ghost use Rattle.rules.specs.Kinds.{isReading};
 ghost use Rattle.rules.specs.Limits.{operationLimit};
 ghost use Rattle.rules.specs.Network.{freePlaces, howMany};
 ghost use Rattle.rules.specs.Words.{filled};
 ghost use Rattle.rules.specs.Zero.{_among_, zeroOperation};
-ghost use Rattle.host.specs.Keeper.{refused, drawn};
-ghost use Rattle.host.specs.Moves.{moved, hears, begun, starts, finishes};
+ghost use Rattle.host.specs.Moves.{moved, begun, starts, finishes};
+use keeper::Keeper;
 use rules::Action;
 use rules::Attempt;
 use rules::Epoch;
 use rules::Host;
-use rules::Message;
 use rules::Operation;
 use rules::Outcome;
 use rules::Place;
 use rules::Queue;
 use rules::Set;
-use rules::Timestamp;
 
 // What an event makes of its host: 0 and the host after it, or a refusal's code and the host as it was.
 pub struct Moved {
@@ -43,28 +41,7 @@ pub struct Sent {
     pub outcome: Outcome,
 }
 
-// An operation is a read or a write.
-fn is_reading(a: Action) -> bool
-    ensures { λ r. ⌜ r ≡ isReading a ⌝ }
-{
-    match a {
-        Action::Read => true,
-        Action::Write(_) => false,
-    }
-}
-
 // ---- sets of chunks
-
-// Beyond the last chunk's number there is none in the set.
-fn among(chunk: u64, s: Set) -> bool
-    ensures { λ r. ⌜ r ≡ (chunk among s) ⌝ }
-{
-    let i = chunk as usize;
-    if i < rules::CHUNKS {
-        return s.chunks[i];
-    }
-    false
-}
 
 // The set of one chunk; empty where the number is no chunk's.
 fn only(chunk: u64) -> Set
@@ -74,18 +51,6 @@ fn only(chunk: u64) -> Set
     let i = chunk as usize;
     if i < rules::CHUNKS {
         out.chunks[i] = true;
-    }
-    out
-}
-
-// The set with one chunk taken out.
-fn without(s: Set, chunk: u64) -> Set
-    ensures { λ r. ⌜ r ≡ record { chunks = set (s .chunks) chunk false } ⌝ }
-{
-    let mut out = s;
-    let i = chunk as usize;
-    if i < rules::CHUNKS {
-        out.chunks[i] = false;
     }
     out
 }
@@ -235,54 +200,17 @@ fn lacks_room(places: [Place; rules::PLACES], to: Set) -> bool
     network::free_places(places) < network::how_many(to)
 }
 
-// ---- the clock keeper
-
-// "each host's clock keeper hands out a number and remembers it".
-pub struct Keeper {
-    pub host: u64,
-    pub last: u64,
-}
-
-pub struct Drawn {
-    pub keeper: Keeper,
-    pub code: u64,
-    pub timestamp: Timestamp,
-}
-
-// A refused draw leaves the keeper as it was.
-fn refuse(k: Keeper, code: u64) -> Drawn
-    ensures { λ r. ⌜ r ≡ refused k code ⌝ }
-{
-    Drawn {
-        keeper: k,
-        code: code,
-        timestamp: Timestamp(0),
-    }
-}
-
-// "clock not above the host's last drawn" (3); a number too large for a timestamp is outside its range (1).
-pub fn draw(k: Keeper, clock: u64) -> Drawn
-    ensures { λ r. ⌜ r ≡ drawn k clock ⌝ }
-{
-    if rules::HOSTS as u64 <= k.host {
-        return refuse(k, 1);
-    }
-    if rules::GREATEST_CLOCK < clock {
-        return refuse(k, 1);
-    }
-    if clock <= k.last {
-        return refuse(k, 3);
-    }
-    let mut kept = k;
-    kept.last = clock;
-    Drawn {
-        keeper: kept,
-        code: 0,
-        timestamp: Timestamp(clock * 8 + k.host),
-    }
-}
-
 // ---- start
+
+// "a read's copy must be in the set"; "a write passes over it".
+fn lacks_copy(action: Action, copy: u64, holders: Set) -> bool
+    ensures { λ r. ⌜ r ≡ (isReading action && not (copy among holders)) ⌝ }
+{
+    match action {
+        Action::Read => !sets::among(copy, holders),
+        Action::Write(_) => false,
+    }
+}
 
 // "Needs working, no current operation, one waiting, map current (2); .. a read's copy must be in the set (1); clock (3);
 // room (5)".
@@ -310,7 +238,7 @@ fn start_code(
     }
     let o = front(h);
     let a = o.action;
-    if is_reading(a) & !among(copy, holders) {
+    if lacks_copy(a, copy, holders) {
         return 1;
     }
     if clock <= h.clock {
@@ -336,11 +264,11 @@ fn opening_to(action: Action, copy: u64, holders: Set) -> Set
 fn begin(number: u64, clock: u64, h: Host, to: Set) -> Host
     ensures { λ r. ⌜ r ≡ begun number clock h to ⌝ }
 {
-    let keeper = Keeper {
+    let k = Keeper {
         host: number,
         last: h.clock,
     };
-    let d = draw(keeper, clock);
+    let d = keeper::draw(k, clock);
     let now = d.timestamp;
     let a = Attempt {
         timestamp: now,
@@ -388,97 +316,6 @@ pub fn start(
         places: after,
         outcome: Outcome::None,
     }
-}
-
-// ---- a reply arrives
-
-// "a read or prewrite reply suits the operation".
-fn suits(reading: bool, m: Message) -> bool
-    ensures { λ r. ⌜ r ≡ suits reading m ⌝ }
-{
-    match m {
-        Message::ReadReply { .. } => reading,
-        Message::PrewriteReply { .. } => !reading,
-        Message::Mismatch { .. } => true,
-        Message::Error { .. } => true,
-        Message::OutOfOrder { .. } => true,
-        Message::Busy { .. } => true,
-        Message::Read { .. } => true,
-        Message::Prewrite { .. } => true,
-        Message::Commit { .. } => true,
-        Message::Abort { .. } => true,
-    }
-}
-
-// "a reply counts only if its timestamp is the current one, its chunk is outstanding, and a read or prewrite reply suits".
-fn counts(h: Host, m: Message) -> bool
-    ensures { λ r. ⌜ r ≡ counts h m ⌝ }
-{
-    let header = network::header_of(m);
-    let attempt = h.attempt;
-    let o = front(h);
-    let a = o.action;
-    (header.timestamp.0 == attempt.timestamp.0)
-        & among(header.chunk, attempt.outstanding)
-        & suits(is_reading(a), m)
-}
-
-// "The chunk is then no longer outstanding".
-fn answered_by(a: Attempt, chunk: u64) -> Attempt
-    ensures { λ r. ⌜ r ≡ answeredBy a chunk ⌝ }
-{
-    let s = a.outstanding;
-    let rest = without(s, chunk);
-    let mut out = a;
-    out.outstanding = rest;
-    out
-}
-
-// "Mismatch, out of order, busy and error clear okay; mismatch also makes the map not current; error clears restart. A
-// read reply sets the result value."
-fn heard(h: Host, a: Attempt, m: Message) -> Host
-    ensures { λ r. ⌜ r ≡ heard h a m ⌝ }
-{
-    let mut b = a;
-    let mut out = h;
-    match m {
-        Message::Mismatch { .. } => {
-            b.okay = false;
-            out.mapped = false;
-        }
-        Message::OutOfOrder { .. } => {
-            b.okay = false;
-        }
-        Message::Busy { .. } => {
-            b.okay = false;
-        }
-        Message::Error { .. } => {
-            b.okay = false;
-            b.restart = false;
-        }
-        Message::ReadReply { header: _, value } => {
-            b.result = value;
-        }
-        Message::PrewriteReply { .. } => {}
-        Message::Read { .. } => return h,
-        Message::Prewrite { .. } => return h,
-        Message::Commit { .. } => return h,
-        Message::Abort { .. } => return h,
-    }
-    out.attempt = b;
-    out
-}
-
-// ".. and a stopped host take no notice"; a reply that does not count changes nothing.
-pub fn at_host(h: Host, m: Message) -> Host
-    ensures { λ r. ⌜ r ≡ hears h m ⌝ }
-{
-    if h.working & counts(h, m) {
-        let header = network::header_of(m);
-        let a = h.attempt;
-        return heard(h, answered_by(a, header.chunk), m);
-    }
-    h
 }
 
 // ---- finish

@@ -2,19 +2,11 @@
 use Rattle.rules.proofs.Unique.{unique, Determined}
 use Rattle.network.proofs.close.Reads as close-contract
 use Rattle.network.proofs.free_places.Reads as free-places-contract
-use Rattle.network.proofs.header_of.Reads as header-of-contract
 use Rattle.network.proofs.how_many.Reads as how-many-contract
-use Rattle.network.proofs.is_for_chunk.Reads as is-for-chunk-contract
 use Rattle.network.proofs.open.Reads as open-contract
 use Rattle.network.proofs.place_code.Reads as place-code-contract
 use Rattle.network.proofs.remove.Reads as remove-contract
 use Rattle.network.proofs.reply.Reads as reply-contract
-
-header-of-unique : Determined header-of-contract.Learnt
-header-of-unique κs a x y s u = unique
-
-is-for-chunk-unique : Determined is-for-chunk-contract.Learnt
-is-for-chunk-unique κs a x y s u = unique
 
 place-code-unique : Determined place-code-contract.Learnt
 place-code-unique κs a x y s u = unique

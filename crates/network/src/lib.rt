@@ -2,7 +2,7 @@
 ghost use mathlib.Core.Path.{_≡_};
 ghost use Rattle.rules.specs.Codes.{codeOf};
 ghost use Rattle.rules.specs.Hosts.{opening, closing};
-ghost use Rattle.rules.specs.Kinds.{headerOf, isForChunk, headed, isEmptySlot};
+ghost use Rattle.rules.specs.Kinds.{headed, isEmptySlot};
 ghost use Rattle.rules.specs.Network.{isFree, freePlaces, removed, sent, howMany, sentToEach, replied, placeRefusals};
 ghost use Rattle.rules.specs.Words.{place};
 ghost use Rattle.network.specs.Steps.{messageOf, requestTo};
@@ -14,42 +14,6 @@ use rules::Place;
 use rules::Set;
 use rules::Slot;
 use rules::Timestamp;
-
-// "Each has host, chunk, block and timestamp".
-pub fn header_of(m: Message) -> Header
-    ensures { λ r. ⌜ r ≡ headerOf m ⌝ }
-{
-    match m {
-        Message::Read { header, .. } => header,
-        Message::Prewrite { header, .. } => header,
-        Message::Commit { header, .. } => header,
-        Message::Abort { header, .. } => header,
-        Message::Mismatch { header } => header,
-        Message::Error { header } => header,
-        Message::OutOfOrder { header } => header,
-        Message::Busy { header } => header,
-        Message::ReadReply { header, .. } => header,
-        Message::PrewriteReply { header } => header,
-    }
-}
-
-// Requests go to the chunk, replies to the host.
-pub fn is_for_chunk(m: Message) -> bool
-    ensures { λ r. ⌜ r ≡ isForChunk m ⌝ }
-{
-    match m {
-        Message::Read { .. } => true,
-        Message::Prewrite { .. } => true,
-        Message::Commit { .. } => true,
-        Message::Abort { .. } => true,
-        Message::Mismatch { .. } => false,
-        Message::Error { .. } => false,
-        Message::OutOfOrder { .. } => false,
-        Message::Busy { .. } => false,
-        Message::ReadReply { .. } => false,
-        Message::PrewriteReply { .. } => false,
-    }
-}
 
 // A slot holds a message or nothing.
 fn is_empty(s: Slot) -> bool

@@ -68,7 +68,7 @@ fn address(s: Slot) -> Header
             block: 0,
             timestamp: Timestamp(0),
         },
-        Slot::Full(m) => network::header_of(m),
+        Slot::Full(m) => messages::header_of(m),
     }
 }
 

@@ -24,7 +24,8 @@ use Rattle.chunk.specs.declared.Ran.{Ran}
 use Rattle.chunk.specs.Changes.{changed, ranOr}
 use Rattle.host.specs.declared.Moved.{Moved}
 use Rattle.host.specs.declared.Sent.{Sent}
-use Rattle.host.specs.Moves.{moved, hears, starts, finishes}
+use Rattle.host.specs.Moves.{moved, starts, finishes}
+use Rattle.replies.specs.Replies.{hears}
 use Rattle.parts.specs.declared.Parts.{Parts}
 use Rattle.parts.specs.declared.Acted.{Acted}
 use Rattle.parts.specs.declared.Delivered.{Delivered}

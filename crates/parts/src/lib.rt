@@ -190,7 +190,7 @@ fn deliver(blocks: u64, h: Host, c: Chunk, r: Record, s: Slot) -> Delivered
             reply: Slot::Empty,
         },
         Slot::Full(m) => {
-            if network::is_for_chunk(m) {
+            if messages::is_for_chunk(m) {
                 let a = arrival::arrive(blocks, c, r, m);
                 let block = a.block;
                 let reply = a.reply;
@@ -200,7 +200,7 @@ fn deliver(blocks: u64, h: Host, c: Chunk, r: Record, s: Slot) -> Delivered
                     reply: reply,
                 }
             } else {
-                let new = host::at_host(h, m);
+                let new = replies::at_host(h, m);
                 Delivered {
                     host: new,
                     block: r,

@@ -15,10 +15,10 @@ use borrow.Author.Needs.{needs}
 use Rattle.host.proofs.start_code.Statement.{statement}
 use Rattle.host.proofs.start_code.Tie as tie
 
-situation : (c : tie.After-among) →
-    let a = c .before .before .before .before .before .before .before .before .before .before .before .args in
-    (c .before .is-reading .result && not (c .among .result)) ≡ (isReading (front (a .h) .action) && not (a .copy among a .holders))
-situation c = rw (c .among .ensures, c .before .is-reading .ensures, c .before .before .front .ensures) refl
+situation : (c : tie.After-lacks-copy) →
+    let a = c .before .before .before .before .before .before .before .before .before .before .args in
+    c .lacks-copy .result ≡ (isReading (front (a .h) .action) && not (a .copy among a .holders))
+situation c = c .lacks-copy .ensures ∙ rw (c .before .front .ensures) refl
 
 abbrev rows : tie.Start → List Row
 rows c =
@@ -37,10 +37,10 @@ past3 c n e = past2 (c .before .before) n (refused-later _ _ _ n (ne-eqb _ _ (c 
 past4 : (c : tie.Else4) (n : ℕ) → let r = rows (c .before .before .before .before .before .before .before .before) in n ≡ codeOf (drop 4 r) → n ≡ codeOf r
 past4 c n e = past3 (c .before .before) n (refused-later _ _ _ n (c .if4 .left) e)
 
-past5 : (c : tie.Else5) (n : ℕ) → let r = rows (c .before .before .before .before .before .before .before .before .before .before .before .before) in n ≡ codeOf (drop 5 r) → n ≡ codeOf r
-past5 c n e = past4 (c .before .before .before .before) n (refused-later _ _ _ n (sym (situation (c .before)) ∙ c .if5 .left) e)
+past5 : (c : tie.Else5) (n : ℕ) → let r = rows (c .before .before .before .before .before .before .before .before .before .before .before) in n ≡ codeOf (drop 5 r) → n ≡ codeOf r
+past5 c n e = past4 (c .before .before .before) n (refused-later _ _ _ n (sym (situation (c .before)) ∙ c .if5 .left) e)
 
-past6 : (c : tie.Else6) (n : ℕ) → let r = rows (c .before .before .before .before .before .before .before .before .before .before .before .before .before .before) in n ≡ codeOf (drop 6 r) → n ≡ codeOf r
+past6 : (c : tie.Else6) (n : ℕ) → let r = rows (c .before .before .before .before .before .before .before .before .before .before .before .before .before) in n ≡ codeOf (drop 6 r) → n ≡ codeOf r
 past6 c n e = past5 (c .before .before) n (refused-later _ _ _ n (lt-leb _ _ (c .if6 .left)) e)
 
 returns : tie.Need-returns
@@ -61,14 +61,11 @@ returns-4 c = past3 (c .before .before) 2 (refused-here _ _ _ (c .if4 .taken))
 front-requires : tie.Need-front-requires
 front-requires c κs = search needs
 
-is-reading-requires : tie.Need-is-reading-requires
-is-reading-requires c κs = search needs
-
-among-requires : tie.Need-among-requires
-among-requires c κs = search needs
+lacks-copy-requires : tie.Need-lacks-copy-requires
+lacks-copy-requires c κs = search needs
 
 returns-5 : tie.Need-returns-5
-returns-5 c = past4 (c .before .before .before .before) 1 (refused-here _ _ _ (sym (situation (c .before)) ∙ c .if5 .taken))
+returns-5 c = past4 (c .before .before .before) 1 (refused-here _ _ _ (sym (situation (c .before)) ∙ c .if5 .taken))
 
 returns-6 : tie.Need-returns-6
 returns-6 c = past5 (c .before .before) 3 (refused-here _ _ _ (le-leb _ _ (c .if6 .taken)))
@@ -92,8 +89,7 @@ start-code-spec =
     returns-3
     returns-4
     front-requires
-    is-reading-requires
-    among-requires
+    lacks-copy-requires
     returns-5
     returns-6
     lacks-room-requires
