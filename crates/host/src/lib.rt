@@ -268,7 +268,7 @@ fn begin(number: u64, clock: u64, h: Host, to: Set) -> Host
         host: number,
         last: h.clock,
     };
-    let d = keeper::draw(k, clock);
+    let d = keeper::draw_from(k, clock);
     let now = d.timestamp;
     let a = Attempt {
         timestamp: now,

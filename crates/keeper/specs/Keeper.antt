@@ -7,6 +7,7 @@ use Rattle.rules.specs.Limits.{hostLimit, greatestClock}
 use Rattle.rules.specs.Timestamps.{stamp, never}
 use Rattle.rules.specs.Words.{if_then_else_}
 use Rattle.keeper.specs.declared.Drawn.{Drawn}
+use Rattle.keeper.specs.declared.Handed.{Handed}
 use Rattle.keeper.specs.declared.Keeper.{Keeper}
 
 -- "number outside its range" (1): no host's, or above 4,294,967,295; "clock not above the host's last drawn" (3)
@@ -27,3 +28,11 @@ drawn k clock =
     let code = codeOf (drawRefusals k clock) in
     if eqb code 0 then record { keeper = record { host = k .host; last = clock }; code = 0; timestamp = stamp clock (k .host) } else
     refused k code
+
+-- what it hands out
+abbrev pub handed : Keeper → (clock : ℕ) → Handed
+handed k clock = record { code = drawn k clock .code; timestamp = drawn k clock .timestamp }
+
+-- the keeper after a draw, and what was handed out
+abbrev pub drawnAs : Keeper → Handed → Drawn
+drawnAs k h = record { keeper = k; code = h .code; timestamp = h .timestamp }

@@ -4,11 +4,11 @@ use borrow.Author.Needs.{needs}
 use Rattle.host.proofs.begin.Statement.{statement}
 use Rattle.host.proofs.begin.Tie as tie
 
-draw-requires : tie.Need-draw-requires
-draw-requires c κs = search needs
+draw-from-requires : tie.Need-draw-from-requires
+draw-from-requires c κs = search needs
 
 returns : tie.Need-returns
-returns c = rw (← c .before .draw .ensures) refl
+returns c = rw (← c .before .draw-from .ensures) refl
 
 pub begin-spec : {M : Type 1} → statement M
-begin-spec = tie.close (tie.spec draw-requires returns)
+begin-spec = tie.close (tie.spec draw-from-requires returns)
