@@ -2,8 +2,9 @@
 
 use second::event::{operand_count, step, Answer, OPERANDS};
 use second::generate::{generate, generate_with, Sequence, EVENTS};
+use second::guide::Numbers;
 use second::random::Random;
-use second::table::{Table, OPERATIONS, PLACES, WAITING};
+use second::table::{Message, Table, LARGEST, OPERATIONS, PLACES, WAITING};
 
 /// An event is four numbers: kind and three operands.
 pub const NUMBERS: usize = 1 + OPERANDS;
@@ -40,19 +41,15 @@ impl Case {
 }
 
 impl Session {
-    fn events(&self) -> usize {
+    /// The timed ones.
+    pub fn events(&self) -> usize {
         (self.numbers.len() - self.before) / NUMBERS
     }
 
-    /// Lines of events in a driver's input.
-    pub fn lines(&self) -> usize {
-        self.numbers.len() / NUMBERS
-    }
-
     /// The driver's input: "an event a line, its number and then only its own operands".
-    pub fn text(&self) -> Vec<u8> {
+    pub fn text(&self, numbers: &[u64]) -> Vec<u8> {
         let mut text = [&self.first[..], b"\n", &self.second, b"\n"].concat();
-        for event in self.numbers.chunks_exact(NUMBERS) {
+        for event in numbers.chunks_exact(NUMBERS) {
             let used = 1 + operand_count(event[0]).unwrap_or(OPERANDS);
             let words: Vec<String> = event[..used].iter().map(u64::to_string).collect();
             text.extend(words.join(" ").bytes());
@@ -149,7 +146,7 @@ impl Store {
     fn messages(&mut self, kind: u64, host: usize) {
         let clock = self.table.hosts[host].last_clock;
         for place in 0..PLACES {
-            let is_its = |m: second::table::Message| m.host == host && m.timestamp.clock() == clock;
+            let is_its = |m: Message| m.host == host && m.timestamp.clock() == clock;
             if self.table.network[place].is_some_and(is_its) {
                 self.event(kind, [place as u64, 0, 0]);
             }
@@ -279,17 +276,16 @@ impl Session {
         answer
     }
 
-    /// A generated sequence's good lines; none where it names no store.
-    fn of(sequence: &Sequence, keep: fn(u64) -> bool) -> Option<Session> {
+    /// A generated sequence's good lines that are kept; none where it names no store.
+    fn of(sequence: &Sequence, keep: fn(&Numbers) -> bool) -> Option<Session> {
         let mut table = sequence.fresh.clone()?;
         let [first, second] = &sequence.first_lines[..] else {
             return None;
         };
         let mut session = Session::new(first.clone(), second.clone(), table.clone());
-        for (kind, operands) in sequence.lines.iter().filter_map(|line| line.event) {
-            if keep(kind) {
-                session.event(&mut table, kind, operands);
-            }
+        let events = sequence.lines.iter().filter_map(|line| line.event);
+        for (kind, operands) in events.filter(keep) {
+            session.event(&mut table, kind, operands);
         }
         Some(session)
     }
@@ -302,14 +298,19 @@ fn random_sessions() -> Vec<Session> {
     sessions.take(ENOUGH / EVENTS).collect()
 }
 
-/// One for the drivers. Without stops, event 10: a host that stops never works again.
+/// A host that stops never works again, and one that draws the last clock never starts again: a long sequence leaves these out.
+fn goes_on(&(kind, operands): &Numbers) -> bool {
+    kind != 10 && !(kind == 3 && operands[1] == LARGEST)
+}
+
+/// Of some long sequences the one with the most messages under way.
 fn long_session() -> Session {
-    let is_no_stop = |kind: u64| kind != 10;
-    let mut step_unless_stop = |table: &mut Table, kind: u64, operands: [u64; OPERANDS]| {
-        let kind = if is_no_stop(kind) { kind } else { 0 };
-        step(table, kind, operands)
+    let mut step_if_it_goes_on = |table: &mut Table, kind: u64, operands: [u64; OPERANDS]| {
+        let kept = if goes_on(&(kind, operands)) { kind } else { 0 };
+        step(table, kept, operands)
     };
-    let mut sequences = (1..).map(|seed| generate_with(seed, ENOUGH, &mut step_unless_stop));
-    let session = sequences.find_map(|sequence| Session::of(&sequence, is_no_stop));
-    session.expect("some seed names a store")
+    let sequences = (1..=20).map(|seed| generate_with(seed, ENOUGH, &mut step_if_it_goes_on));
+    let sessions = sequences.filter_map(|sequence| Session::of(&sequence, goes_on));
+    let liveliest = sessions.max_by_key(|session| session.held[1]);
+    liveliest.expect("some seed names a store")
 }

@@ -10,9 +10,16 @@ const PROVED: &str = ".ci/driver";
 const SECOND: &str = "second/target/release/second";
 const INPUT: &str = "bench/target/session.in";
 
-/// The time that each takes; an error where they write different things.
+/// The time that a session's events take in each, that of what goes before them taken off.
 pub fn timed(session: &Session) -> Result<[Duration; 2], String> {
-    fs::write(INPUT, session.text()).map_err(|error| format!("{INPUT}: {error}"))?;
+    let [a0, b0] = both(&session.text(&session.numbers[..session.before]))?;
+    let [a1, b1] = both(&session.text(&session.numbers))?;
+    Ok([a1.saturating_sub(a0), b1.saturating_sub(b0)])
+}
+
+/// An error where they write different things.
+fn both(input: &[u8]) -> Result<[Duration; 2], String> {
+    fs::write(INPUT, input).map_err(|error| format!("{INPUT}: {error}"))?;
     let (proved, a) = run(PROVED)?;
     let (second, b) = run(SECOND)?;
     match proved == second {

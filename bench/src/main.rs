@@ -7,7 +7,7 @@ mod layout;
 mod sides;
 mod stack;
 
-use cases::Case;
+use cases::{Case, Session};
 use sides::{checked, proved, second_program, Times};
 use std::process::ExitCode;
 
@@ -28,7 +28,8 @@ fn figures() -> Result<(), String> {
     let cases = cases::all();
     println!("load at the start: {}", load());
     sizes(&cases)?;
-    println!("\nstep, table by value and back (second: in place); before and beside the times, what the store holds on average");
+    println!("\nstep, the table by value in and back (second: in place), an event;");
+    println!("operations, messages, waiting entries: what the store holds on average");
     println!(
         "{:<32} {:>7} {:>10} {:>8} {:>7}  {:>9} {:>9} {:>6}",
         "case", "events", "operations", "messages", "waiting", "proved ns", "second ns", "ratio"
@@ -36,13 +37,16 @@ fn figures() -> Result<(), String> {
     for case in &cases {
         step_line(case)?;
     }
-    println!("\ndriver, standard input to standard output, start included");
+    println!("\ndriver, standard input to standard output, a line; what its start and the first lines take is taken off");
     println!(
         "{:<32} {:>7}  {:>9} {:>9} {:>6}",
         "case", "lines", "proved ns", "second ns", "ratio"
     );
     for case in &cases {
-        driver_line(case)?;
+        // A driver has one session.
+        if let [session] = &case.sessions[..] {
+            driver_line(case, session)?;
+        }
     }
     println!("\nload at the end: {}", load());
     Ok(())
@@ -91,15 +95,12 @@ fn step_line(case: &Case) -> Result<(), String> {
     Ok(())
 }
 
-fn driver_line(case: &Case) -> Result<(), String> {
-    // A driver has one session: where a case has more, the longest stands for them.
-    let session = case.sessions.iter().max_by_key(|s| s.numbers.len());
-    let session = session.ok_or("a case without sessions")?;
-    let lines = session.lines();
+fn driver_line(case: &Case, session: &Session) -> Result<(), String> {
     let mut times = Times::default();
     for _ in 0..ROUNDS {
         times.add(drivers::timed(session)?);
     }
+    let lines = session.events();
     println!("{:<32} {:>7}  {}", case.name, lines, times.a_unit(lines));
     Ok(())
 }

@@ -33,11 +33,18 @@ impl Depth {
 pub fn depth_of(session: &Session) -> Result<Depth, String> {
     let stack = run_on_painted(Some(session))?;
     let idle = run_on_painted(None)?;
-    let touched = |stack: &[u64]| stack.iter().position(|&word| word != PAINT).unwrap_or(WORDS);
+    let touched = |stack: &[u64]| {
+        stack
+            .iter()
+            .position(|&word| word != PAINT)
+            .unwrap_or(WORDS)
+    };
     let (deepest, floor) = (touched(&stack), touched(&idle));
     // The last call that the replay made is that of `step`: the address that it returned to still stands there.
     let code = kerzubian_replay as *const () as u64;
-    let called = stack.iter().position(|word| (code..code + CODE).contains(word));
+    let called = stack
+        .iter()
+        .position(|word| (code..code + CODE).contains(word));
     Ok(Depth {
         step: 8 * (called.ok_or("no trace of a call")? + 1 - deepest),
         replay: 8 * (floor - deepest),
