@@ -21,6 +21,8 @@ pub struct Session {
     pub numbers: Vec<u64>,
     /// Sums over the timed events: operations, messages, waiting entries in the store.
     held: [usize; 3],
+    /// Answers with an outcome.
+    outcomes: usize,
 }
 
 pub struct Case {
@@ -259,6 +261,7 @@ impl Session {
             before: 0,
             numbers: Vec::new(),
             held: [0; 3],
+            outcomes: 0,
         }
     }
 
@@ -273,6 +276,7 @@ impl Session {
             records().map(|record| record.waiting.count).sum(),
         ];
         (0..3).for_each(|i| self.held[i] += held[i]);
+        self.outcomes += usize::from(answer.outcome != 0);
         answer
     }
 
@@ -303,7 +307,7 @@ fn goes_on(&(kind, operands): &Numbers) -> bool {
     kind != 10 && !(kind == 3 && operands[1] == LARGEST)
 }
 
-/// Of some long sequences the one with the most messages under way.
+/// Of some long sequences the one that does the most.
 fn long_session() -> Session {
     let mut step_if_it_goes_on = |table: &mut Table, kind: u64, operands: [u64; OPERANDS]| {
         let kept = if goes_on(&(kind, operands)) { kind } else { 0 };
@@ -311,6 +315,6 @@ fn long_session() -> Session {
     };
     let sequences = (1..=20).map(|seed| generate_with(seed, ENOUGH, &mut step_if_it_goes_on));
     let sessions = sequences.filter_map(|sequence| Session::of(&sequence, goes_on));
-    let liveliest = sessions.max_by_key(|session| session.held[1]);
+    let liveliest = sessions.max_by_key(|session| session.outcomes);
     liveliest.expect("some seed names a store")
 }
