@@ -1,0 +1,85 @@
+// Events replayed through the engine, for programs in other languages that time it (bench/): exported as a C function, a slice as
+// a pointer and then a length. Each event is a `step` on the table by value; what comes back stands for every answer.
+use rules::Event;
+use rules::Outcome;
+use rules::Table;
+ghost use Prim.Native.Nat.{_+_, _*_, _<_, _/_};
+ghost use mathlib.Core.Path.{_≡_};
+ghost use lib.ListN.{length};
+ghost use Rattle.replay.specs.Replay.{eventAt, mixed, mixedWith, replayed, sumAfter};
+
+// An event's numbers: kind, a, b, c.
+const NUMBERS: usize = 4;
+
+// Two to the power 56.
+const TOP: u64 = 72057594037927936;
+
+// One number more in the checksum: a few machine instructions, and no sum overflows.
+fn mix(sum: u64, x: u64) -> u64
+    ensures { λ r. ⌜ r ≡ mixed sum x ⌝ }
+{
+    std::num::wrapping_add_u64(sum / TOP + sum % TOP * 31, x)
+}
+
+fn mix_numbers(sum: u64, code: u64, kind: u64, host: u64, block: u64, value: u64) -> u64
+    ensures { λ r. ⌜ r ≡ mixed (mixed (mixed (mixed (mixed sum code) kind) host) block) value ⌝ }
+{
+    mix(mix(mix(mix(mix(sum, code), kind), host), block), value)
+}
+
+// "code, outcome, host, block, value"
+fn mix_answer(sum: u64, code: u64, o: Outcome) -> u64
+    ensures { λ r. ⌜ r ≡ mixedWith sum code o ⌝ }
+{
+    match o {
+        Outcome::None => mix_numbers(sum, code, 0, 0, 0, 0),
+        Outcome::ReadDone { host, block, value } => mix_numbers(sum, code, 1, host, block, value),
+        Outcome::WriteDone { host, block } => mix_numbers(sum, code, 2, host, block, 0),
+        Outcome::ReadFailed { host, block } => mix_numbers(sum, code, 3, host, block, 0),
+        Outcome::WriteFailed { host, block } => mix_numbers(sum, code, 4, host, block, 0),
+    }
+}
+
+fn event_at(events: &[u64], i: usize) -> Event
+    requires { ⌜ i * 4 + 3 < length (now events) ⌝ }
+    ensures { λ r. ⌜ r ≡ eventAt (now (events .entry)) i ⌝ }
+{
+    let at = i * NUMBERS;
+    Event {
+        kind: events[at],
+        a: events[at + 1],
+        b: events[at + 2],
+        c: events[at + 3],
+    }
+}
+
+// The events one after another, each on the table that the one before it left.
+fn run(table: Table, events: &[u64]) -> u64
+    ensures { λ r. ⌜ r ≡ sumAfter table (now (events .entry)) (length (now (events .entry)) / 4) ⌝ }
+{
+    let mut t = table;
+    let mut sum: u64 = 0;
+    let n = events.len() / NUMBERS;
+    let mut i: usize = 0;
+    while i < n {
+        let a = engine::step(t, event_at(events, i));
+        let o = a.outcome;
+        sum = mix_answer(sum, a.code, o);
+        let next = a.table;
+        t = next;
+        i = i + 1;
+    }
+    sum
+}
+
+// The store that a session's first two lines name, and the events on it. Where they name none, every event meets a table of zeros.
+#[no_mangle]
+pub extern "C" fn kerzubian_replay(first: &[u8], second: &[u8], events: &[u64]) -> u64
+    ensures { λ r. ⌜ r ≡ replayed (now (first .entry)) (now (second .entry)) (now (events .entry)) ⌝ }
+{
+    let named = lines::creation_of(lines::parse(first), lines::parse(second));
+    let k = named.creation;
+    let made = engine::create(k);
+    let t = made.table;
+    run(t, events)
+}
