@@ -47,7 +47,7 @@ fn grant(t: Table, outcome: Outcome) -> Answer
 }
 
 // An event that touches one host, one chunk, one record and the network: they are gathered, it acts on them, they are stored back.
-fn touch(t: Table, e: Event) -> Answer
+fn touch(mut t: Table, e: Event) -> Answer
     requires { ⌜ (wellFormed t ≡ true) × (ruleOf t e .ranges ≡ true) × (e .kind ≡ 11 → ⊥) × (e .kind ≡ 15 → ⊥) ⌝ }
     ensures { λ r. ⌜ r ≡ step t e ⌝ }
 {
@@ -87,12 +87,11 @@ fn touch(t: Table, e: Event) -> Answer
     let new_block = d.block;
     let new_places = d.places;
     let outcome = d.outcome;
-    let mut out = t;
-    out.hosts[i] = new_host;
-    out.chunks[c] = new_chunk;
-    out.records[j] = new_block;
-    out.places = new_places;
-    grant(out, outcome)
+    t.hosts[i] = new_host;
+    t.chunks[c] = new_chunk;
+    t.records[j] = new_block;
+    t.places = new_places;
+    grant(t, outcome)
 }
 
 // "all its waiting entries .. go": those of the chunk's blocks.
@@ -114,7 +113,7 @@ fn without_waiting(records: [Record; rules::RECORDS], chunk: usize) -> [Record; 
 }
 
 // "11 fail (chunk)": the chunk and all its records change.
-fn fail(t: Table, e: Event) -> Answer
+fn fail(mut t: Table, e: Event) -> Answer
     requires { ⌜ (wellFormed t ≡ true) × (ruleOf t e .ranges ≡ true) × (e .kind ≡ 11) ⌝ }
     ensures { λ r. ⌜ r ≡ step t e ⌝ }
 {
@@ -127,14 +126,13 @@ fn fail(t: Table, e: Event) -> Answer
     let new = d.chunk;
     let records = t.records;
     let rest = without_waiting(records, i);
-    let mut out = t;
-    out.chunks[i] = new;
-    out.records = rest;
-    grant(out, Outcome::None)
+    t.chunks[i] = new;
+    t.records = rest;
+    grant(t, Outcome::None)
 }
 
 // "15 epoch change": every block is settled, every chunk renewed, and the epoch grows by one.
-fn change_epoch(t: Table, e: Event) -> Answer
+fn change_epoch(mut t: Table, e: Event) -> Answer
     requires { ⌜ (wellFormed t ≡ true) × (ruleOf t e .ranges ≡ true) × (e .kind ≡ 15) ⌝ }
     ensures { λ r. ⌜ r ≡ step t e ⌝ }
 {
@@ -149,36 +147,29 @@ fn change_epoch(t: Table, e: Event) -> Answer
     let records = t.records;
     let settled = epoch::settle_blocks(k, chunks, records);
     let renewed = epoch::renew(k, next, chunks);
-    let mut out = t;
-    out.epoch = next;
-    out.chunks = renewed;
-    out.records = settled;
-    grant(out, Outcome::None)
+    t.epoch = next;
+    t.chunks = renewed;
+    t.records = settled;
+    grant(t, Outcome::None)
 }
 
-// An event on a well-formed table: "then ranges (1)", then the event's own refusals and effect.
-fn act(t: Table, e: Event) -> Answer
-    requires { ⌜ wellFormed t ≡ true ⌝ }
-    ensures { λ r. ⌜ r ≡ step t e ⌝ }
-{
-    let k = t.creation;
-    if !operands::in_range(k, e) {
-        return refuse(t, 1);
-    }
-    let kind = e.kind;
-    match kind {
-        11 => fail(t, e),
-        15 => change_epoch(t, e),
-        _ => touch(t, e),
-    }
-}
-
-// One event, with any numbers, on any table. "Code 8 is looked for first".
+// One event, with any numbers, on any table. "Code 8 is looked for first, then ranges (1), then the order in each event".
 pub fn step(t: Table, e: Event) -> Answer
     ensures { λ r. ⌜ r ≡ step t e ⌝ }
 {
     if !sound::well_formed(t) {
         return refuse(t, 8);
     }
-    act(t, e)
+    let k = t.creation;
+    if !operands::in_range(k, e) {
+        return refuse(t, 1);
+    }
+    let kind = e.kind;
+    if kind == 11 {
+        return fail(t, e);
+    }
+    if kind == 15 {
+        return change_epoch(t, e);
+    }
+    touch(t, e)
 }

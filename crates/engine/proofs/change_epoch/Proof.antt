@@ -21,8 +21,8 @@ returns c =
     let s = d .before .before .before .before in
     c .refuse .ensures ∙ change-refused (s .args .t) (s .args .e) (s .pre .0) (s .pre .1) (s .pre .2) _ (d .change-code .ensures) (c .before .if1 .taken)
 
-add-t13 : tie.Need-add-t13
-add-t13 c =
+add-t12 : tie.Need-add-t12
+add-t12 c =
     let s = c .before .before .before .before .before .before in
     let b = leb-true (s .args .t .epoch .0) greatestClock (formed (s .args .t) (s .pre .0) .epoch) in
     omega arith
@@ -50,7 +50,7 @@ change-epoch-spec =
     change-code-requires
     refuse-requires
     returns
-    add-t13
+    add-t12
     settle-blocks-requires
     renew-requires
     grant-requires
