@@ -119,11 +119,11 @@ fn fail(mut t: Table, e: Event) -> Answer
 {
     let i = e.a as usize;
     let old = t.chunks[i];
-    let d = chunk::fail(old);
-    if d.code != 0 {
-        return refuse(t, d.code);
+    let failed = chunk::fail(old);
+    if failed.code != 0 {
+        return refuse(t, failed.code);
     }
-    let new = d.chunk;
+    let new = failed.chunk;
     let records = t.records;
     let rest = without_waiting(records, i);
     t.chunks[i] = new;
