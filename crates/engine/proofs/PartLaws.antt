@@ -34,13 +34,15 @@ use Rattle.rules.proofs.Formed.{one-to, formed, message-facts, host-place, chun
 use Rattle.rules.proofs.Lists.{three}
 use Rattle.rules.proofs.Refusals.{granted-exactly}
 use Rattle.arrival.specs.Arrivals.{arrives}
+use Rattle.chunk.specs.declared.Changed.{Changed}
 use Rattle.keeper.specs.Keeper.{drawn}
+use Rattle.host.specs.declared.Moved.{Moved}
 use Rattle.host.specs.Moves.{starts, finishes}
 use Rattle.replies.specs.Replies.{hears}
 use Rattle.parts.specs.declared.Parts.{Parts}
 use Rattle.parts.specs.declared.Acted.{Acted}
 use Rattle.operands.specs.Address.{rangesOf, addressOf, placeAt, hostAt, chunkAt, blockAt}
-use Rattle.parts.specs.Acts.{byMail, unchanged, toChunk, toHost, delivered, taken, hostMoved, chunkChanged, mailTaken, acted}
+use Rattle.parts.specs.Acts.{byHost, byChunk, byMail, unchanged, toChunk, toHost, delivered, taken, hostMoved, chunkChanged, mailTaken, acted}
 
 -- ---- the ranges look at the creation numbers alone
 
@@ -150,62 +152,44 @@ module _ (t : Table) (ok : wellFormed t ≡ true) where
       go zero q = rw q (omega arith)
       go (suc n) q = block-below (front (hostOf t a) .block) (front-block k (hostOf t a) (queue-of t (formed t ok) a h) (omega arith))
 
-  -- ---- the events that change one host and nothing else
+  -- ---- the events that change one host and nothing else: m is what they make of it
+
+  by-host : (e : Event) (m : Moved) → isHost k (e .a) ≡ true
+      → (placeAt e < placeLimit) × (hostHere t e ≡ e .a) × (chunkHere t e < chunkLimit) × (blockHere t e < blockLimit)
+      → acted e (partsOf t e) ≡ byHost (partsOf t e) m → m .code ≡ codeOf (ruleOf t e .refusals)
+      → (m .code ≡ 0 → quietly (withHost t (e .a) (m .host)) ≡ ruleOf t e .effect) → Acts t e
+  by-host e m h stands acted-is code-is effect = record {
+    place = stands .0;
+    host = rw (stands .1) (host-below (e .a) h);
+    chunk = stands .2;
+    block = stands .3;
+    code = ap (λ (a : Acted). a .code) acted-is ∙ code-is;
+    effect = λ z.
+        ap (λ (a : Acted). record { table = stored t e a; outcome = a .outcome }) acted-is
+        ∙ ap quietly (host-alone t (hostHere t e) (chunkHere t e) (blockHere t e) (m .host) (t .places))
+        ∙ ap (λ (i : ℕ). quietly (withHost t i (m .host))) (stands .1)
+        ∙ effect (ap (λ (a : Acted). a .code) (sym acted-is) ∙ z);
+  }
 
   read-acts : (a b c : ℕ) → readRule t a b c .ranges ≡ true → Acts t (event 1 a b c)
   unfolding acted hostMoved ruleOf readRule
-  read-acts a b c r = record {
-    place = omega arith;
-    host = host-below a (three (isHost k a) (isBlock k b) (unused c) r .0);
-    chunk = omega arith;
-    block = omega arith;
-    code = refl;
-    effect = λ z. rw z (ap quietly (host-alone t a 0 0 _ (t .places)));
-  }
+  read-acts a b c r = by-host (event 1 a b c) _ (three (isHost k a) (isBlock k b) (unused c) r .0) (omega arith, refl, omega arith, omega arith) refl refl (λ z. rw z refl)
 
   write-acts : (a b c : ℕ) → writeRule t a b c .ranges ≡ true → Acts t (event 2 a b c)
   unfolding acted hostMoved ruleOf writeRule
-  write-acts a b c r = record {
-    place = omega arith;
-    host = host-below a (three (isHost k a) (isBlock k b) true r .0);
-    chunk = omega arith;
-    block = omega arith;
-    code = refl;
-    effect = λ z. rw z (ap quietly (host-alone t a 0 0 _ (t .places)));
-  }
+  write-acts a b c r = by-host (event 2 a b c) _ (three (isHost k a) (isBlock k b) true r .0) (omega arith, refl, omega arith, omega arith) refl refl (λ z. rw z refl)
 
   timeout-acts : (a b c : ℕ) → timeoutRule t a b c .ranges ≡ true → Acts t (event 7 a b c)
   unfolding acted hostMoved ruleOf timeoutRule
-  timeout-acts a b c r = record {
-    place = omega arith;
-    host = host-below a (three (isHost k a) (unused b) (unused c) r .0);
-    chunk = omega arith;
-    block = omega arith;
-    code = refl;
-    effect = λ z. rw z (ap quietly (host-alone t a 0 0 _ (t .places)));
-  }
+  timeout-acts a b c r = by-host (event 7 a b c) _ (three (isHost k a) (unused b) (unused c) r .0) (omega arith, refl, omega arith, omega arith) refl refl (λ z. rw z refl)
 
   refresh-acts : (a b c : ℕ) → refreshRule t a b c .ranges ≡ true → Acts t (event 8 a b c)
   unfolding acted hostMoved ruleOf refreshRule
-  refresh-acts a b c r = record {
-    place = omega arith;
-    host = host-below a (three (isHost k a) (unused b) (unused c) r .0);
-    chunk = omega arith;
-    block = omega arith;
-    code = refl;
-    effect = λ z. rw z (ap quietly (host-alone t a 0 0 _ (t .places)));
-  }
+  refresh-acts a b c r = by-host (event 8 a b c) _ (three (isHost k a) (unused b) (unused c) r .0) (omega arith, refl, omega arith, omega arith) refl refl (λ z. rw z refl)
 
   stop-acts : (a b c : ℕ) → stopRule t a b c .ranges ≡ true → Acts t (event 10 a b c)
   unfolding acted hostMoved ruleOf stopRule
-  stop-acts a b c r = record {
-    place = omega arith;
-    host = host-below a (three (isHost k a) (unused b) (unused c) r .0);
-    chunk = omega arith;
-    block = omega arith;
-    code = refl;
-    effect = λ z. rw z (ap quietly (host-alone t a 0 0 _ (t .places)));
-  }
+  stop-acts a b c r = by-host (event 10 a b c) _ (three (isHost k a) (unused b) (unused c) r .0) (omega arith, refl, omega arith, omega arith) refl refl (λ z. rw z refl)
 
   -- ---- start and finish
 
@@ -245,53 +229,42 @@ module _ (t : Table) (ok : wellFormed t ≡ true) where
         effect = λ z. rw z (ap (λ (x : Table). record { table = x; outcome = finishRule t a b c .effect .outcome }) (host-alone t a 0 (front (hostOf t a) .block) _ _));
       }
 
-  -- ---- chunks
+  -- ---- the events that change one chunk and nothing else: m is what they make of it
+
+  by-chunk : (e : Event) (m : Changed) → isChunk k (e .a) ≡ true
+      → (placeAt e < placeLimit) × (hostHere t e < hostLimit) × (chunkHere t e ≡ e .a) × (blockHere t e < blockLimit)
+      → acted e (partsOf t e) ≡ byChunk (partsOf t e) m → m .code ≡ codeOf (ruleOf t e .refusals)
+      → (m .code ≡ 0 → quietly (withChunk t (e .a) (m .chunk)) ≡ ruleOf t e .effect) → Acts t e
+  by-chunk e m h stands acted-is code-is effect = record {
+    place = stands .0;
+    host = stands .1;
+    chunk = rw (stands .2) (chunk-below (e .a) h);
+    block = stands .3;
+    code = ap (λ (a : Acted). a .code) acted-is ∙ code-is;
+    effect = λ z.
+        ap (λ (a : Acted). record { table = stored t e a; outcome = a .outcome }) acted-is
+        ∙ ap quietly (chunk-alone t (hostHere t e) (chunkHere t e) (blockHere t e) (m .chunk))
+        ∙ ap (λ (i : ℕ). quietly (withChunk t i (m .chunk))) (stands .2)
+        ∙ effect (ap (λ (a : Acted). a .code) (sym acted-is) ∙ z);
+  }
 
   recover-acts : (a b c : ℕ) → recoverRule t a b c .ranges ≡ true → Acts t (event 12 a b c)
   unfolding acted chunkChanged ruleOf recoverRule
-  recover-acts a b c r = record {
-    place = omega arith;
-    host = omega arith;
-    chunk = chunk-below a (three (isChunk k a) (unused b) (unused c) r .0);
-    block = omega arith;
-    code = refl;
-    effect = λ z. rw z (ap quietly (chunk-alone t 0 a 0 _));
-  }
+  recover-acts a b c r = by-chunk (event 12 a b c) _ (three (isChunk k a) (unused b) (unused c) r .0) (omega arith, omega arith, refl, omega arith) refl refl (λ z. rw z refl)
 
   take-lease-acts : (a b c : ℕ) → takeLeaseRule t a b c .ranges ≡ true → Acts t (event 13 a b c)
   unfolding acted chunkChanged ruleOf takeLeaseRule
-  take-lease-acts a b c r = record {
-    place = omega arith;
-    host = omega arith;
-    chunk = chunk-below a (three (isChunk k a) (unused b) (unused c) r .0);
-    block = omega arith;
-    code = refl;
-    effect = λ z. rw z (ap quietly (chunk-alone t 0 a 0 _));
-  }
+  take-lease-acts a b c r = by-chunk (event 13 a b c) _ (three (isChunk k a) (unused b) (unused c) r .0) (omega arith, omega arith, refl, omega arith) refl refl (λ z. rw z refl)
 
   give-lease-acts : (a b c : ℕ) → giveLeaseRule t a b c .ranges ≡ true → Acts t (event 14 a b c)
   unfolding acted chunkChanged ruleOf giveLeaseRule
-  give-lease-acts a b c r = record {
-    place = omega arith;
-    host = omega arith;
-    chunk = chunk-below a (three (isChunk k a) (unused b) (unused c) r .0);
-    block = omega arith;
-    code = refl;
-    effect = λ z. rw z (ap quietly (chunk-alone t 0 a 0 _));
-  }
+  give-lease-acts a b c r = by-chunk (event 14 a b c) _ (three (isChunk k a) (unused b) (unused c) r .0) (omega arith, omega arith, refl, omega arith) refl refl (λ z. rw z refl)
 
   overdue-acts : (a b c : ℕ) → overdueRule t a b c .ranges ≡ true → Acts t (event 16 a b c)
   unfolding acted chunkChanged ruleOf overdueRule
   overdue-acts a b c r =
       let operands = three (isChunk k a) (isBlock k b) (upTo greatestClock c) r in
-      record {
-        place = omega arith;
-        host = omega arith;
-        chunk = chunk-below a (operands .0);
-        block = block-below b (operands .1);
-        code = refl;
-        effect = λ z. rw z (ap quietly (chunk-alone t 0 a b _));
-      }
+      by-chunk (event 16 a b c) _ (operands .0) (omega arith, omega arith, refl, block-below b (operands .1)) refl refl (λ z. rw z refl)
 
   run-acts : (a b c : ℕ) → runRule t a b c .ranges ≡ true → Acts t (event 9 a b c)
   unfolding acted ruleOf runRule
