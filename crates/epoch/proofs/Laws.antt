@@ -18,8 +18,8 @@ use Rattle.rules.specs.Settlement.{inSet, isLost, settled, allLost}
 use Rattle.rules.specs.Tables.{at, recordOf, recordsBy}
 use Rattle.rules.specs.Words.{each, every, from, numbers}
 use Rattle.rules.specs.Zero.{noRecord, noCopy}
-use Rattle.rules.proofs.Lists.{each-number, grid-at}
-use Rattle.rules.proofs.Loops.{every-those, below-next, made, made-next, grid-length, grid-of, grid-same}
+use Rattle.rules.proofs.Lists.{each-number, grid-at, every-those}
+use Rattle.rules.proofs.Loops.{below-next, made, made-next, grid-length, grid-of, grid-same}
 use Rattle.epoch.specs.Parts.{markedOnly, settledAt}
 
 -- ---- the records by chunk and block
