@@ -5,8 +5,8 @@ use mathlib.Core.Logic.{_⊎_, inl, inr}
 use mathlib.Core.Bool.{Bool, true, false, cond, false≢true, true≢false}
 use mathlib.Core.List.{List, [], _∷_}
 use native.Mathlib.Omega.{arith}
-use lib.Dec.{eqb}
 use lib.ListN.{length, getD, drop, length-take}
+use lib.Dec.{eqb}
 use borrow.Author.Tests.{ltb-false, not-false}
 use Rattle.one_copy.specs.Types.{Timestamp, Kind, Entry, Waiting, Record, Chunk, Header, Message, Slot, Place, Table, Arrived, Outcome}
 use Rattle.rules.specs.Chunks.{withWaiting, emptied, runRefusals, runs, ran, failed, leaseGiven, leaseTaken, recovered, overdue, giveLeaseRefusals}

@@ -5,8 +5,8 @@ use mathlib.Core.Logic.{inl, inr}
 use mathlib.Core.Bool.{Bool, true, false, cond}
 use mathlib.Core.List.{List, [], _∷_, _++_}
 use native.Mathlib.Omega.{arith}
-use borrow.Author.Tests.{lt-ltb}
 use lib.ListN.{length, getD, length-append, length-take, length-set, getD-replicate, List·getD-eq-default}
+use borrow.Author.Tests.{lt-ltb}
 use Rattle.one_copy.specs.Types.{Epoch, Creation, Entry, Record, Chunk, Operation, Host, Place, Table}
 use Rattle.rules.specs.Creation.{freshHost, freshChunk, fresh}
 use Rattle.rules.specs.Hosts.{operationsOf, queueOf, front, appended}

@@ -3,10 +3,10 @@ use Prim.Native.Nat.{ℕ, _+_, _*_, _≤_, _<_}
 use mathlib.Core.Path.{_≡_, refl, sym, _∙_}
 use mathlib.Core.Bool.{Bool, true, false, false≢true}
 use mathlib.Core.List.{List, [], _∷_, _++_}
+use native.Mathlib.Omega.{arith}
 use lib.ListN.{length, drop, length-append, length-drop}
 use lib.Dec.{eqb}
 use borrow.Author.Tests.{le-leb, lt-ltb, eqb-true, not-true}
-use native.Mathlib.Omega.{arith}
 use Rattle.rules.specs.Types.{Timestamp, Epoch, Set, Creation, Action, Operation, Attempt, Host, Header, Message, Table}
 use Rattle.rules.specs.Codes.{Row, codeOf}
 use Rattle.rules.specs.Creation.{isCreation, ofStore}

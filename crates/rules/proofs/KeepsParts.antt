@@ -4,8 +4,8 @@ use mathlib.Core.Path.{_≡_, refl, _∙_}
 use mathlib.Core.Logic.{_⊎_, inl, inr}
 use mathlib.Core.Bool.{true, cond, _&&_}
 use mathlib.Core.List.{List}
-use lib.ListN.{getD, set}
 use native.Mathlib.Omega.{arith}
+use lib.ListN.{getD, set}
 use Rattle.rules.specs.Types.{Set, Creation, Record, Chunk, Host, Message, Slot, Place, Table}
 use Rattle.rules.specs.Codes.{codeOf}
 use Rattle.rules.specs.Creation.{ofStore}

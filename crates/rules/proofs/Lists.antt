@@ -7,10 +7,10 @@ use mathlib.Core.List.{List, [], _∷_, _++_}
 use native.Mathlib.Nat.{suc-mul}
 use native.Mathlib.Decide.{decLe}
 use native.Mathlib.Omega.{arith}
-use borrow.Author.Tests.{ltb-true, ltb-false, lt-ltb}
-use lib.Dec.{ltb}
 use lib.ListN.{length, getD, set, take, drop, replicate, length-take, List·getD-eq-default, List·getD-append, getD-replicate}
+use lib.Dec.{ltb}
 use lib.Seq.{getD-append-add, getD-take, take-take, take-append-seam}
+use borrow.Author.Tests.{ltb-true, ltb-false, lt-ltb}
 use Rattle.rules.specs.Words.{those, each, joined, every, some, fold, from, numbers, filled}
 
 -- ---- tests

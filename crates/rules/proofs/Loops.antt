@@ -3,18 +3,18 @@ use Prim.Native.Nat.{ℕ, zero, suc, _+_, _-_, _≤_, _<_, compare·suc-suc, _*_
 use mathlib.Core.Path.{_≡_, refl, sym, ap, _∙_}
 use mathlib.Core.Bool.{Bool, true, false, cond, _&&_, _||_, true≢false}
 use mathlib.Core.List.{List, [], _∷_, _++_, append-assoc, append-nil}
+use native.Mathlib.Nat.{mod-lt, div-lt-iff-lt-mul, suc-mul, div-add-mod'}
 use native.Mathlib.Numerals.{add-one}
 use native.Mathlib.Decide.{decLe, ℕ-discrete}
 use native.Mathlib.Omega.{arith}
 use lib.ListN.{length, getD, take, drop, drop-of-length-le, length-take, set, List·getD-eq-default, replicate, take-append-drop, length-drop, length-append, length-replicate, getD-replicate, length-set}
 use lib.Dec.{ltb, eqb}
-use borrow.Author.Tests.{lt-ltb, eq-eqb, ne-eqb, le-ltb}
 use lib.Seq.{drop-cons, take-suc, take-take, take-at, append-snoc, length-take-le, set-at, getD-at, getD-take, getD-drop, getD-append-add, take-append-le, drop-append-le, set-append-left, take-set-lt, ext-getD, take-all, getD-set-same, getD-set-other}
-use Rattle.rules.specs.Words.{those, each, joined, every, some, place, fold, from, numbers, first, filled}
-use Rattle.rules.proofs.Lists.{every-number, every-numbers, none-number, some-number, both, filled-at, numbers-length, numbers-at, each-length, each-number, grid-at}
-use native.Mathlib.Nat.{mod-lt, div-lt-iff-lt-mul, suc-mul, div-add-mod'}
 use lib.Arith.{digits-lt, digits-div, digits-mod}
+use borrow.Author.Tests.{lt-ltb, eq-eqb, ne-eqb, le-ltb}
+use Rattle.rules.specs.Words.{those, each, joined, every, some, place, fold, from, numbers, first, filled}
 use Rattle.rules.specs.Codes.{Row, codeOf, _gives_⨾_, granted}
+use Rattle.rules.proofs.Lists.{every-number, every-numbers, none-number, some-number, both, filled-at, numbers-length, numbers-at, each-length, each-number, grid-at}
 
 -- ---- a loop over l by its index i: l from i on is the element at i, and l from i + 1 on
 
