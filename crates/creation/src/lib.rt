@@ -4,23 +4,18 @@ ghost use mathlib.Core.Bool.{true};
 ghost use Rattle.rules.specs.Creation.{isCreation, fresh, created};
 ghost use Rattle.rules.specs.Zero.{zeroTable};
 ghost use Rattle.creation.specs.Fresh.{emptyTable};
-use rules::BLOCKS;
-use rules::CHUNKS;
 use rules::Chunk;
 use rules::Created;
 use rules::Creation;
 use rules::Epoch;
-use rules::HOSTS;
 use rules::Host;
-use rules::PLACES;
 use rules::Place;
-use rules::RECORDS;
 use rules::Slot;
 use rules::State;
 use rules::Table;
 
 // "hosts working with map not current and epoch known 0".
-fn fresh_hosts(k: Creation) -> [Host; HOSTS]
+fn fresh_hosts(k: Creation) -> [Host; rules::HOSTS]
     requires { ⌜ isCreation k ≡ true ⌝ }
     ensures { λ r. ⌜ r ≡ fresh k .hosts ⌝ }
 {
@@ -28,7 +23,7 @@ fn fresh_hosts(k: Creation) -> [Host; HOSTS]
     let mut new = unused;
     new.working = true;
     let n = k.hosts as usize;
-    let mut out = [unused; HOSTS];
+    let mut out = [unused; rules::HOSTS];
     let mut h: usize = 0;
     while h < n {
         out[h] = new;
@@ -38,7 +33,7 @@ fn fresh_hosts(k: Creation) -> [Host; HOSTS]
 }
 
 // "epoch 1, chunks nolease and not lost".
-fn fresh_chunks(k: Creation) -> [Chunk; CHUNKS]
+fn fresh_chunks(k: Creation) -> [Chunk; rules::CHUNKS]
     requires { ⌜ isCreation k ≡ true ⌝ }
     ensures { λ r. ⌜ r ≡ fresh k .chunks ⌝ }
 {
@@ -51,7 +46,7 @@ fn fresh_chunks(k: Creation) -> [Chunk; CHUNKS]
         reconcile: none,
     };
     let n = k.chunks as usize;
-    let mut out = [unused; CHUNKS];
+    let mut out = [unused; rules::CHUNKS];
     let mut c: usize = 0;
     while c < n {
         out[c] = new;
@@ -61,7 +56,12 @@ fn fresh_chunks(k: Creation) -> [Chunk; CHUNKS]
 }
 
 // "all values and timestamps 0, queues and network empty".
-fn empty(k: Creation, epoch: Epoch, hosts: [Host; HOSTS], chunks: [Chunk; CHUNKS]) -> Table
+fn empty(
+    k: Creation,
+    epoch: Epoch,
+    hosts: [Host; rules::HOSTS],
+    chunks: [Chunk; rules::CHUNKS],
+) -> Table
     ensures { λ r. ⌜ r ≡ emptyTable k epoch hosts chunks ⌝ }
 {
     let r = zero::record();
@@ -71,8 +71,8 @@ fn empty(k: Creation, epoch: Epoch, hosts: [Host; HOSTS], chunks: [Chunk; CHUNKS
         epoch: epoch,
         hosts: hosts,
         chunks: chunks,
-        records: [r; RECORDS],
-        places: [p; PLACES],
+        records: [r; rules::RECORDS],
+        places: [p; rules::PLACES],
     }
 }
 
@@ -95,11 +95,11 @@ fn no_store() -> Table
         chunks: 0,
         blocks: 0,
         age: 0,
-        sets: [s; BLOCKS],
+        sets: [s; rules::BLOCKS],
     };
     let h = zero::host();
     let c = zero::chunk();
-    empty(k, Epoch(0), [h; HOSTS], [c; CHUNKS])
+    empty(k, Epoch(0), [h; rules::HOSTS], [c; rules::CHUNKS])
 }
 
 // "Any other creation is refused with code 1 and gives no store".

@@ -1,16 +1,16 @@
 // The store driver: a session from standard input to standard output. Document 01, "One session, whole".
 // What a line says and what an answer looks like is promised by `lines`, what an event does by `engine`; here is what reads and
 // writes, and that it is safe and ends. Memory does not grow with the input: of a line that is too long no more is kept than shows it.
-use lines::Asked;
-use lines::Text;
-use rules::Answer;
-use rules::Outcome;
-use rules::Table;
 ghost use Prim.Native.Nat.{_+_, _≤_, min};
 ghost use mathlib.Core.Path.{_≡_};
 ghost use lib.ListN.{length};
 ghost use lib.Seq.{paste};
 ghost use Rattle.driver.specs.Answers.{answerTo};
+use lines::Asked;
+use lines::Text;
+use rules::Answer;
+use rules::Outcome;
+use rules::Table;
 
 // The bytes of the block of input that are not looked at yet.
 struct Unread {

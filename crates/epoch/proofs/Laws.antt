@@ -5,10 +5,10 @@ use mathlib.Core.Bool.{cond}
 use mathlib.Core.List.{List}
 use native.Mathlib.Decide.{ℕ-discrete}
 use native.Mathlib.Omega.{arith}
-use borrow.Author.Tests.{lt-ltb, le-ltb, eq-eqb, ne-eqb}
-use lib.Dec.{ltb, eqb}
 use lib.ListN.{length, getD, set, length-set}
+use lib.Dec.{ltb, eqb}
 use lib.Seq.{getD-set-same, getD-set-other}
+use borrow.Author.Tests.{lt-ltb, le-ltb, eq-eqb, ne-eqb}
 use Rattle.rules.specs.declared.Record.{Record}
 use Rattle.rules.specs.declared.Copy.{Copy}
 use Rattle.rules.specs.declared.Table.{Table}
@@ -18,8 +18,8 @@ use Rattle.rules.specs.Settlement.{inSet, isLost, settled, allLost}
 use Rattle.rules.specs.Tables.{at, recordOf, recordsBy}
 use Rattle.rules.specs.Words.{each, every, from, numbers}
 use Rattle.rules.specs.Zero.{noRecord, noCopy}
-use Rattle.rules.proofs.Lists.{each-number, grid-at}
-use Rattle.rules.proofs.Loops.{every-those, below-next, made, made-next, grid-length, grid-of, grid-same}
+use Rattle.rules.proofs.Lists.{each-number, grid-at, every-those}
+use Rattle.rules.proofs.Loops.{below-next, made, made-next, grid-length, grid-of, grid-same}
 use Rattle.epoch.specs.Parts.{markedOnly, settledAt}
 
 -- ---- the records by chunk and block

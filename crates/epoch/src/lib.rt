@@ -9,13 +9,10 @@ ghost use Rattle.rules.specs.Limits.{chunkLimit, blockLimit};
 ghost use Rattle.rules.specs.Tables.{recordsBy, withEpoch};
 ghost use Rattle.rules.specs.Words.{if_then_else_, each, some, numbers};
 ghost use Rattle.epoch.specs.Parts.{tableOf, failedAt, lostAt, markedOnly, settledAt, renewedChunk, renewedWith};
-use rules::BLOCKS;
-use rules::CHUNKS;
 use rules::Chunk;
 use rules::Copy;
 use rules::Creation;
 use rules::Epoch;
-use rules::RECORDS;
 use rules::Record;
 use rules::State;
 
@@ -30,11 +27,11 @@ fn is_failed(state: State) -> bool
 }
 
 // "no chunk failed"; an unused place is normal.
-fn any_failed(chunks: [Chunk; CHUNKS]) -> bool
+fn any_failed(chunks: [Chunk; rules::CHUNKS]) -> bool
     ensures { λ r. ⌜ r ≡ some (failedAt chunks) (numbers chunkLimit) ⌝ }
 {
     let mut c: usize = 0;
-    while c < CHUNKS {
+    while c < rules::CHUNKS {
         let chunk = chunks[c];
         let state = chunk.state;
         if is_failed(state) {
@@ -46,7 +43,7 @@ fn any_failed(chunks: [Chunk; CHUNKS]) -> bool
 }
 
 // A block's copies, one a chunk, by their marks alone: each has a zero record.
-fn marks_of(k: Creation, chunks: [Chunk; CHUNKS], b: usize) -> [Copy; CHUNKS]
+fn marks_of(k: Creation, chunks: [Chunk; rules::CHUNKS], b: usize) -> [Copy; rules::CHUNKS]
     requires { ⌜ b < blockLimit ⌝ }
     ensures { λ r. ⌜ r ≡ each (markedOnly (tableOf k chunks []) b) (numbers chunkLimit) ⌝ }
 {
@@ -57,9 +54,9 @@ fn marks_of(k: Creation, chunks: [Chunk; CHUNKS], b: usize) -> [Copy; CHUNKS]
         lost: false,
         block: zero,
     };
-    let mut out = [blank; CHUNKS];
+    let mut out = [blank; rules::CHUNKS];
     let mut c: usize = 0;
-    while c < CHUNKS {
+    while c < rules::CHUNKS {
         let member = set.chunks[c];
         let chunk = chunks[c];
         out[c] = Copy {
@@ -73,11 +70,11 @@ fn marks_of(k: Creation, chunks: [Chunk; CHUNKS], b: usize) -> [Copy; CHUNKS]
 }
 
 // "for some block every chunk of its set is lost"; a block that the store lacks has no set to lose.
-fn any_all_lost(k: Creation, chunks: [Chunk; CHUNKS]) -> bool
+fn any_all_lost(k: Creation, chunks: [Chunk; rules::CHUNKS]) -> bool
     ensures { λ r. ⌜ r ≡ some (lostAt (tableOf k chunks [])) (numbers blockLimit) ⌝ }
 {
     let mut b: usize = 0;
-    while b < BLOCKS {
+    while b < rules::BLOCKS {
         let copies = marks_of(k, chunks, b);
         if ((b as u64) < k.blocks) & settle::all_lost(copies) {
             return true;
@@ -88,7 +85,7 @@ fn any_all_lost(k: Creation, chunks: [Chunk; CHUNKS]) -> bool
 }
 
 // "15 epoch change: no chunk failed (2), then 7, then 6".
-pub fn change_code(k: Creation, epoch: Epoch, chunks: [Chunk; CHUNKS]) -> u64
+pub fn change_code(k: Creation, epoch: Epoch, chunks: [Chunk; rules::CHUNKS]) -> u64
     ensures { λ r. ⌜ r ≡ codeOf (epochRefusals (withEpoch (tableOf k chunks []) epoch)) ⌝ }
 {
     let failed = any_failed(chunks);
@@ -109,18 +106,18 @@ pub fn change_code(k: Creation, epoch: Epoch, chunks: [Chunk; CHUNKS]) -> u64
 // here and in no function of their own, since the records are too large to hand over for each block.
 pub fn settle_blocks(
     k: Creation,
-    chunks: [Chunk; CHUNKS],
-    records: [Record; RECORDS],
-) -> [Record; RECORDS]
+    chunks: [Chunk; rules::CHUNKS],
+    records: [Record; rules::RECORDS],
+) -> [Record; rules::RECORDS]
     ensures { λ r. ⌜ r ≡ recordsBy (settledAt (tableOf k chunks records)) ⌝ }
 {
     let mut out = records;
     let mut b: usize = 0;
-    while b < BLOCKS {
+    while b < rules::BLOCKS {
         let mut copies = marks_of(k, chunks, b);
         let mut c: usize = 0;
-        while c < CHUNKS {
-            let held = records[c * BLOCKS + b];
+        while c < rules::CHUNKS {
+            let held = records[c * rules::BLOCKS + b];
             let mut copy = copies[c];
             copy.block = held;
             copies[c] = copy;
@@ -128,10 +125,10 @@ pub fn settle_blocks(
         }
         let settled = settle::settle(copies);
         let mut d: usize = 0;
-        while d < CHUNKS {
+        while d < rules::CHUNKS {
             let copy = settled[d];
             let held = copy.block;
-            out[d * BLOCKS + b] = held;
+            out[d * rules::BLOCKS + b] = held;
             d = d + 1;
         }
         b = b + 1;
@@ -148,19 +145,19 @@ fn renewed(used: bool, next: Epoch, old: Chunk) -> Chunk
             state: State::Normal,
             lost: false,
             epoch: next,
-            reconcile: [false; BLOCKS],
+            reconcile: [false; rules::BLOCKS],
         };
     }
     old
 }
 
 // "reconciliation sets and lost marks cleared, the epoch grows by one in every chunk, and every chunk is normal".
-pub fn renew(k: Creation, next: Epoch, chunks: [Chunk; CHUNKS]) -> [Chunk; CHUNKS]
+pub fn renew(k: Creation, next: Epoch, chunks: [Chunk; rules::CHUNKS]) -> [Chunk; rules::CHUNKS]
     ensures { λ r. ⌜ r ≡ each (renewedWith k next chunks) (numbers chunkLimit) ⌝ }
 {
     let mut out = chunks;
     let mut c: usize = 0;
-    while c < CHUNKS {
+    while c < rules::CHUNKS {
         let old = chunks[c];
         out[c] = renewed((c as u64) < k.chunks, next, old);
         c = c + 1;

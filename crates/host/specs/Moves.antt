@@ -39,9 +39,9 @@ unfoldable pub starts : (number clock copy : ℕ) → Set → Host → List Plac
 starts number clock copy holders h places =
     let o = front h in
     let to = openingTo (o .action) copy holders in
-    let d = drawn (record { host = number; last = h .clock }) clock in
-    sentOr (startRefusals h clock copy holders (freePlaces places) (howMany to)) h (started h (d .timestamp) (d .keeper .last) to)
-    places (sentToEach places to (λ chunk. opening (headed number chunk (o .block) (d .timestamp)) (h .epoch) (o .action))) Outcome.None
+    let new = begun number clock h to in
+    sentOr (startRefusals h clock copy holders (freePlaces places) (howMany to)) h new
+    places (sentToEach places to (λ chunk. opening (headed number chunk (o .block) (new .attempt .timestamp)) (h .epoch) (o .action))) Outcome.None
 
 -- "6 finish (host)"
 unfoldable pub finishes : (number : ℕ) → Set → Host → List Place → Sent

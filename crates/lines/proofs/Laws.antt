@@ -10,8 +10,8 @@ use lib.Dec.{eqb, ltb}
 use lib.Seq.{set-out}
 use borrow.Author.Tests.{ltb-false, le-ltb, lt-ltb, le-leb, lt-leb, eq-eqb, ne-eqb}
 use Rattle.rules.specs.Words.{each, every, fold}
-use Rattle.rules.proofs.Lists.{true-or-false, walk, each-length}
-use Rattle.rules.proofs.Loops.{fold-append, each-append, every-append, filled-more}
+use Rattle.rules.proofs.Lists.{true-or-false, walk, each-length, every-append}
+use Rattle.rules.proofs.Loops.{fold-append, each-append, filled-more}
 use Rattle.lines.specs.declared.Line.{Line}
 use Rattle.lines.specs.declared.Reading.{Reading}
 use Rattle.lines.specs.Lines.{space, isDigit, wordsAfter, words, value, isNumber, numberLimit, lineLimit, isLine, badLine, saying, lineOf}

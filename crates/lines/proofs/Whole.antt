@@ -1,5 +1,5 @@
 -- What the definitions say together: nothing of a line is lost on its way, and what is written reads back
-use Prim.Native.Nat.{ℕ, zero, suc, _+_, _-_, _/_, _%_, _^_, _≤_, _<_, compare·suc-suc}
+use Prim.Native.Nat.{ℕ, zero, suc, _+_, _/_, _%_, _^_, _≤_, _<_, compare·suc-suc}
 use mathlib.Core.Path.{_≡_, refl, sym, ap, _∙_}
 use mathlib.Core.Bool.{Bool, true, false, cond, true≢false}
 use mathlib.Core.List.{List, [], _∷_, _++_, append-assoc, append-nil}
@@ -16,8 +16,8 @@ use Rattle.rules.specs.Codes.{numbersOf}
 use Rattle.rules.specs.Limits.{chunkLimit}
 use Rattle.rules.specs.Words.{each, those, every, place, fold, from, numbers}
 use Rattle.rules.specs.Zero.{_among_}
-use Rattle.rules.proofs.Lists.{both, every-number}
-use Rattle.rules.proofs.Loops.{fold-append, every-append}
+use Rattle.rules.proofs.Lists.{both, every-number, every-append}
+use Rattle.rules.proofs.Loops.{fold-append}
 use Rattle.lines.specs.declared.Text.{Text}
 use Rattle.lines.specs.Lines.{space, isDigit, wordsAfter, words, value, lineOf}
 use Rattle.lines.specs.Meanings.{setWith}

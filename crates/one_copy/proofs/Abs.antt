@@ -1,8 +1,8 @@
 -- One block's view of the store, and what every sequence keeps. No table appears here
+use Prim.Native.Nat.{ℕ, _≤_, _<_}
 use mathlib.Core.Path.{_≡_, subst}
 use mathlib.Core.Logic.{_⊎_}
 use mathlib.Core.Bool.{Bool, true, false}
-use Prim.Native.Nat.{ℕ, _≤_, _<_}
 use native.Mathlib.Omega.{arith}
 
 -- what was begun under a timestamp: nothing, a read or a write

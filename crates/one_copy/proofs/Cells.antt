@@ -1,8 +1,8 @@
 -- Moves of one cell: the globals stay
+use Prim.Native.Nat.{ℕ, _≤_, _<_}
 use mathlib.Core.Path.{_≡_, refl, sym, subst, _∙_, ap}
 use mathlib.Core.Logic.{_⊎_, inl, inr}
 use mathlib.Core.Bool.{true, false, true≢false}
-use Prim.Native.Nat.{ℕ, _≤_, _<_}
 use native.Mathlib.Omega.{arith}
 use Rattle.rules.proofs.Lists.{true-or-false}
 use Rattle.one_copy.proofs.Tests.{at, at-all, not-both}

@@ -1,7 +1,7 @@
 -- Moves of the history: a start, a host's commit, a host's abort
+use Prim.Native.Nat.{ℕ, _≤_}
 use mathlib.Core.Path.{_≡_, sym, _∙_, ap}
 use mathlib.Core.Logic.{_⊎_, inl, inr}
-use Prim.Native.Nat.{ℕ, _≤_}
 use native.Mathlib.Omega.{arith}
 use Rattle.one_copy.proofs.Tests.{at, at-same, at-other, eq-or-ne, le-or-lt, not-both}
 use Rattle.one_copy.proofs.Abs.{Began, abt, idle, readK, writeK, Cell, Book, Flow, Promise, Wrote, readK≢writeK, idle≢readK, idle≢writeK, CellOk, GlobOk, Seen, Inv}

@@ -5,8 +5,8 @@ use mathlib.Core.Logic.{_⊎_, inl, inr}
 use mathlib.Core.Bool.{Bool, true, false, _&&_}
 use mathlib.Core.List.{List, [], _∷_, _++_}
 use native.Mathlib.Omega.{arith}
-use lib.Dec.{eqb}
 use lib.ListN.{getD}
+use lib.Dec.{eqb}
 use borrow.Author.Tests.{ltb-true, lt-ltb, eqb-true, eq-eqb}
 use Rattle.one_copy.specs.Types.{Timestamp, Creation, Table, Event, Outcome}
 use Rattle.one_copy.specs.Runs.{Write, write, after, byHost, byChange, isChange, listedAt, listed, mentions, lists, last, lastBefore, timestampAt, attemptAt, heldBy}

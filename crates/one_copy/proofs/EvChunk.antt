@@ -5,9 +5,9 @@ use mathlib.Core.Logic.{_⊎_, inl, inr}
 use mathlib.Core.Bool.{Bool, true, false, cond, false≢true, true≢false}
 use mathlib.Core.List.{List, [], _∷_}
 use native.Mathlib.Omega.{arith}
-use lib.Dec.{eqb, ltb}
 use lib.ListN.{length, getD, drop, length-take}
-use borrow.Author.Tests.{ltb-true, ltb-false, not-false}
+use lib.Dec.{eqb}
+use borrow.Author.Tests.{ltb-false, not-false}
 use Rattle.one_copy.specs.Types.{Timestamp, Kind, Entry, Waiting, Record, Chunk, Header, Message, Slot, Place, Table, Arrived, Outcome}
 use Rattle.rules.specs.Chunks.{withWaiting, emptied, runRefusals, runs, ran, failed, leaseGiven, leaseTaken, recovered, overdue, giveLeaseRefusals}
 use Rattle.rules.specs.Codes.{codeOf}
@@ -20,7 +20,7 @@ use Rattle.rules.specs.Waiting.{inOrder, head, headRemoved}
 use Rattle.rules.specs.Words.{every}
 use Rattle.rules.specs.Zero.{zeroEntry, noChunk}
 use Rattle.rules.proofs.Formed.{Formed, FormedWaiting, chunk-place, block-place, waiting-of}
-use Rattle.rules.proofs.Lists.{walk}
+use Rattle.rules.proofs.Lists.{walk, upper-left, upper-right, upper-one}
 use Rattle.rules.proofs.Refusals.{granted-exactly}
 use Rattle.rules.proofs.Relies.{run-head}
 use Rattle.one_copy.proofs.Tests.{at, at-pair, eq-or-ne}
@@ -35,22 +35,16 @@ use Rattle.one_copy.proofs.EvHost.{net-same}
 
 -- ---- the later of two timestamps
 
--- the later one is the second where it is not below
-later-up : (t u : Timestamp) → t .0 ≤ u .0 → later t u .0 ≡ u .0
-later-up t u h = go (ltb (t .0) (u .0)) refl
-  where
-    go : (x : Bool) → ltb (t .0) (u .0) ≡ x → cond x u t .0 ≡ u .0
-    go true e = refl
-    go false e = let z = ltb-false (t .0) (u .0) e in omega arith
-
 -- it is one of the two, and neither is above it
 later-one : (t u : Timestamp) → ((later t u .0 ≡ u .0) × (t .0 ≤ later t u .0)) ⊎ ((later t u .0 ≡ t .0) × (u .0 ≤ later t u .0))
-later-one t u = go (ltb (t .0) (u .0)) refl
-  where
-    go : (x : Bool) → ltb (t .0) (u .0) ≡ x → ((cond x u t .0 ≡ u .0) × (t .0 ≤ cond x u t .0))
-        ⊎ ((cond x u t .0 ≡ t .0) × (u .0 ≤ cond x u t .0))
-    go true e = let z = ltb-true (t .0) (u .0) e in inl (refl, omega arith)
-    go false e = let z = ltb-false (t .0) (u .0) e in inr (refl, z)
+later-one t u = let key : Timestamp → ℕ = λ x. x .0 in elim (upper-one key t u) [
+  | inl e ↦ inr (ap key e, upper-right key t u)
+  | inr e ↦ inl (ap key e, upper-left key t u)
+]
+
+-- the later one is the second where it is not below
+later-up : (t u : Timestamp) → t .0 ≤ u .0 → later t u .0 ≡ u .0
+later-up t u h = elim (later-one t u) [ inl z ↦ z .0 | inr z ↦ omega (arith, z .0, z .1) ]
 
 -- ---- a reply that says nothing of block b
 

@@ -5,8 +5,8 @@ use mathlib.Core.Logic.{inl, inr}
 use mathlib.Core.Bool.{Bool, true, false, cond}
 use mathlib.Core.List.{List, [], _∷_}
 use native.Mathlib.Omega.{arith}
-use lib.Dec.{eqb}
 use lib.ListN.{length, getD, take, drop}
+use lib.Dec.{eqb}
 use borrow.Author.Tests.{ltb-true, leb-false}
 use Rattle.one_copy.specs.Types.{Timestamp, Epoch, Set, Kind, Entry, Waiting, Record, Action, Operation, Queue, Host, Header, Message, Slot, Place, Table, Arrived}
 use Rattle.rules.specs.Chunks.{withWaiting, emptied, failed, answering, silent, entryOf, waits, arrived, decides, atChunk, runs, ran}

@@ -5,11 +5,11 @@ use mathlib.Core.Logic.{_⊎_, inl, inr}
 use mathlib.Core.Bool.{Bool, true, false, cond, not, _&&_}
 use mathlib.Core.List.{List, [], _∷_}
 use native.Mathlib.Omega.{arith}
-use lib.Dec.{eqb}
 use lib.ListN.{drop}
+use lib.Dec.{eqb}
 use borrow.Author.Tests.{ltb-true, leb-false, eqb-true, eq-eqb, ne-eqb, not-false}
 use Rattle.one_copy.specs.Types.{Set, Action, Operation, Host, Message, Place, Table, Outcome}
-use Rattle.one_copy.specs.Runs.{Write, written, timestampAt, attemptAt, byHost}
+use Rattle.one_copy.specs.Runs.{written, timestampAt, attemptAt, byHost}
 use Rattle.rules.specs.Codes.{codeOf}
 use Rattle.rules.specs.Events.{holdersOf}
 use Rattle.rules.specs.Hosts.{operationsOf, queueOf, front, appended, startRefusals, only, openingTo, opening, started, finishRefusals, closingTo, closing, doneAs, failedAs, goesBack, finishOutcome, ended, finished, timedOut, refreshed, stopped, withQueue}

@@ -1,8 +1,8 @@
 -- Moves that change what hosts and the network hold
+use Prim.Native.Nat.{ℕ, _≤_, _<_}
 use mathlib.Core.Path.{_≡_, refl, sym, _∙_, ap}
 use mathlib.Core.Logic.{_⊎_, inl, inr}
 use mathlib.Core.Bool.{false}
-use Prim.Native.Nat.{ℕ, _≤_, _<_}
 use native.Mathlib.Omega.{arith}
 use Rattle.one_copy.proofs.Tests.{at, at-all, at-same, not-both}
 use Rattle.one_copy.proofs.Abs.{Mark, und, readK, writeK, Cell, Book, Flow, Promise, Last, EntryOk, Pre, und≢cmt, und≢abt, readK≢writeK, idle≢readK, CellOk, GlobOk, Inv}

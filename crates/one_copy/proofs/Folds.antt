@@ -1,67 +1,37 @@
 -- Laws of the words that settlement and the lists are written with: the greatest of a list, the first that is, every of those
-use Prim.Native.Nat.{ℕ, zero, suc, _≤_, _<_}
+use Prim.Native.Nat.{ℕ, suc, _≤_, _<_}
 use mathlib.Core.Path.{_≡_, refl, sym, _∙_}
 use mathlib.Core.Logic.{_⊎_, inl, inr}
-use mathlib.Core.Bool.{Bool, true, false, cond, true≢false}
+use mathlib.Core.Bool.{Bool, true, false, cond, not, _||_, true≢false}
 use mathlib.Core.List.{List, [], _∷_}
 use native.Mathlib.Omega.{arith}
-use lib.Dec.{ltb}
 use lib.ListN.{length, getD}
-use borrow.Author.Tests.{ltb-true, ltb-false}
 use Rattle.rules.specs.Words.{those, every, place, fold}
-use Rattle.rules.proofs.Lists.{both, and-true}
+use Rattle.rules.proofs.Lists.{upper, upper-left, upper-right, upper-one, every-at, every-of, implied, implies, every-those}
 use Rattle.one_copy.proofs.Lists.{Any}
 
 -- ---- the one with the greatest key, from s on
 
 module _ {A : Type 0} (key : A → ℕ) where
-  -- the second where its key is greater
-  abbrev pub upper : A → A → A
-  upper x y = cond (ltb (key x) (key y)) y x
-
-  -- it is not below the first
-  upper-left : (x y : A) → key x ≤ key (upper x y)
-  upper-left x y = go (ltb (key x) (key y)) refl
-    where
-      go : (t : Bool) → ltb (key x) (key y) ≡ t → key x ≤ key (cond t y x)
-      go true e = let z = ltb-true (key x) (key y) e in omega arith
-      go false e = omega arith
-
-  -- nor below the second
-  upper-right : (x y : A) → key y ≤ key (upper x y)
-  upper-right x y = go (ltb (key x) (key y)) refl
-    where
-      go : (t : Bool) → ltb (key x) (key y) ≡ t → key y ≤ key (cond t y x)
-      go true e = omega arith
-      go false e = ltb-false (key x) (key y) e
-
-  -- and is one of them
-  upper-one : (x y : A) → (upper x y ≡ x) ⊎ (upper x y ≡ y)
-  upper-one x y = go (ltb (key x) (key y))
-    where
-      go : (t : Bool) → (cond t y x ≡ x) ⊎ (cond t y x ≡ y)
-      go true = inr refl
-      go false = inl refl
-
   -- the greatest is not below s
-  pub top-up : (s : A) (l : List A) → key s ≤ key (fold upper s l)
+  pub top-up : (s : A) (l : List A) → key s ≤ key (fold (upper key) s l)
   unfolding fold
   top-up s [] = omega arith
-  top-up s (x ∷ xs) = let z = top-up (upper s x) xs in let y = upper-left s x in omega arith
+  top-up s (x ∷ xs) = let z = top-up (upper key s x) xs in let y = upper-left key s x in omega arith
 
   -- nor below any of the list
-  pub top-all : (s : A) (l : List A) (k : ℕ) → Any (λ x. key x ≡ k) l → k ≤ key (fold upper s l)
+  pub top-all : (s : A) (l : List A) (k : ℕ) → Any (λ x. key x ≡ k) l → k ≤ key (fold (upper key) s l)
   unfolding fold
   top-all s [] k h = absurd h
-  top-all s (x ∷ xs) k (inl h) = let z = top-up (upper s x) xs in let y = upper-right s x in omega arith
-  top-all s (x ∷ xs) k (inr h) = top-all (upper s x) xs k h
+  top-all s (x ∷ xs) k (inl h) = let z = top-up (upper key s x) xs in let y = upper-right key s x in omega arith
+  top-all s (x ∷ xs) k (inr h) = top-all (upper key s x) xs k h
 
   -- and is s or one of the list
-  pub top-is : (s : A) (l : List A) → (fold upper s l ≡ s) ⊎ Any (λ x. x ≡ fold upper s l) l
+  pub top-is : (s : A) (l : List A) → (fold (upper key) s l ≡ s) ⊎ Any (λ x. x ≡ fold (upper key) s l) l
   unfolding fold
   top-is s [] = inl refl
-  top-is s (x ∷ xs) = elim (top-is (upper s x) xs) [
-    | inl e ↦ elim (upper-one s x) [
+  top-is s (x ∷ xs) = elim (top-is (upper key s x) xs) [
+    | inl e ↦ elim (upper-one key s x) [
       | inl q ↦ inl (e ∙ q)
       | inr q ↦
           inr (inl (sym (e ∙ q)))
@@ -90,26 +60,12 @@ place-at p (x ∷ xs) d h = go (p x) refl h (place-at p xs d)
 module _ {A : Type 0} (q p : A → Bool) where
   -- one of those is q
   pub those-at : (l : List A) (i : ℕ) (d : A) → every q (those p l) ≡ true → i < length l → p (getD l i d) ≡ true → q (getD l i d) ≡ true
-  unfolding every those
-  those-at [] i d h k e = absurd (omega arith)
-  those-at (x ∷ xs) zero d h k e = both (q x) (every q (those p xs)) (rw e at h) .0
-  those-at (x ∷ xs) (suc i) d h k e = go (p x) h (λ z. those-at xs i d z (omega arith) e)
-    where
-      go : (t : Bool) → every q (cond t (x ∷ those p xs) (those p xs)) ≡ true → (every q (those p xs) ≡ true → q (getD xs i d) ≡ true)
-          → q (getD xs i d) ≡ true
-      go true z g = g (both (q x) (every q (those p xs)) z .1)
-      go false z g = g z
+  those-at l i d h k = implied (p (getD l i d)) (q (getD l i d)) (every-at (λ x. not (p x) || q x) l i d (sym (every-those q p l) ∙ h) k)
 
   -- the way back
   pub those-of : (l : List A) (d : A) → ((i : ℕ) → i < length l → p (getD l i d) ≡ true → q (getD l i d) ≡ true)
       → every q (those p l) ≡ true
-  unfolding every those
-  those-of [] d h = refl
-  those-of (x ∷ xs) d h = go (p x) (h 0 (omega arith)) (those-of xs d (λ i k. h (suc i) (omega arith)))
-    where
-      go : (t : Bool) → (t ≡ true → q x ≡ true) → every q (those p xs) ≡ true → every q (cond t (x ∷ those p xs) (those p xs)) ≡ true
-      go true g z = and-true (q x) (every q (those p xs)) (g refl) z
-      go false g z = z
+  those-of l d h = every-those q p l ∙ every-of (λ x. not (p x) || q x) l d (λ i k. implies (p (getD l i d)) (q (getD l i d)) (h i k))
 
   -- where not every one is q, one of those is not
   pub those-not : (l : List A) (d : A) → every q (those p l) ≡ false → (i : ℕ) × (i < length l) × (p (getD l i d) ≡ true)

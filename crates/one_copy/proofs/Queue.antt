@@ -15,7 +15,7 @@ use Rattle.rules.specs.Words.{place}
 use Rattle.rules.specs.Zero.{zeroEntry}
 use Rattle.rules.proofs.Formed.{FormedWaiting, entries-ordered}
 use Rattle.rules.proofs.Lists.{filled-take, take-short}
-use Rattle.rules.proofs.Order.{OrderedFrom, Ordered}
+use Rattle.rules.proofs.Order.{OrderedFrom, Ordered, insert-length}
 use Rattle.one_copy.proofs.Abs.{Mark, und, cmt, abt}
 use Rattle.one_copy.proofs.Lists.{Any}
 use Rattle.one_copy.proofs.View.{isW, isR}
@@ -47,16 +47,6 @@ insert-from P e (x ∷ xs) h = go (e .timestamp below x .timestamp) h (λ z. ins
     go true (inr h) f = inl h
     go false (inl h) f = elim h [ inl p ↦ inl p | inr p ↦ inr (f (inl p)) ]
     go false (inr h) f = inr (f (inr h))
-
--- one more waits
-insert-length : (e : Entry) (q : List Entry) → length (insert e q) ≡ suc (length q)
-unfolding insert
-insert-length e [] = refl
-insert-length e (x ∷ xs) = go (e .timestamp below x .timestamp) (insert-length e xs)
-  where
-    go : (t : Bool) → length (insert e xs) ≡ suc (length xs) → length (cond t (e ∷ x ∷ xs) (x ∷ insert e xs)) ≡ suc (suc (length xs))
-    go true h = refl
-    go false h = ap suc h
 
 -- ---- a decision
 

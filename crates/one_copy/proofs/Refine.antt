@@ -1,8 +1,8 @@
 -- The same facts under another reading of cells and of the list
+use Prim.Native.Nat.{ℕ}
 use mathlib.Core.Path.{_≡_, refl}
 use mathlib.Core.Logic.{_⊎_, inl, inr}
 use mathlib.Core.Bool.{Bool}
-use Prim.Native.Nat.{ℕ}
 use native.Mathlib.Omega.{arith}
 use Rattle.one_copy.proofs.Tests.{at, at-both}
 use Rattle.one_copy.proofs.Abs.{Mark, cmt, abt, Cell, Book, Flow, CellOk, Inv}

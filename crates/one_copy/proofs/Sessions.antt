@@ -1,7 +1,7 @@
 -- Sessions by computation: their answers, and the lists that they leave. The statement says something
 use Prim.Native.Nat.{ℕ}
-use mathlib.Core.List.{List, [], _∷_, _++_}
 use mathlib.Core.Path.{_≡_, refl, ap, _∙_}
+use mathlib.Core.List.{List, [], _∷_, _++_}
 use Rattle.one_copy.specs.Types.{Table, Event, Outcome}
 use Rattle.rules.specs.Chunks.{atChunk, arrived, decides, ran}
 use Rattle.rules.specs.Codes.{codeOf}

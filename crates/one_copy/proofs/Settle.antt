@@ -1,8 +1,8 @@
 -- The epoch change of one block
+use Prim.Native.Nat.{ℕ, suc, _≤_, _<_}
 use mathlib.Core.Path.{_≡_, sym, _∙_, ap}
 use mathlib.Core.Logic.{_⊎_, inl, inr}
 use mathlib.Core.Bool.{true, false, true≢false}
-use Prim.Native.Nat.{ℕ, suc, _≤_, _<_}
 use native.Mathlib.Omega.{arith}
 use Rattle.rules.proofs.Lists.{true-or-false}
 use Rattle.one_copy.proofs.Tests.{le-or-lt, not-both}

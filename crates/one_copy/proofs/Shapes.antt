@@ -5,18 +5,19 @@ use mathlib.Core.Logic.{inl, inr}
 use mathlib.Core.Bool.{Bool, true, false, cond}
 use mathlib.Core.List.{List, [], _∷_, _++_}
 use native.Mathlib.Omega.{arith}
+use lib.ListN.{length, getD, length-append, length-take, length-set, getD-replicate, List·getD-eq-default}
 use borrow.Author.Tests.{lt-ltb}
-use lib.ListN.{length, getD, replicate, length-append, length-take, length-replicate, length-set, getD-replicate, List·getD-eq-default}
 use Rattle.one_copy.specs.Types.{Epoch, Creation, Entry, Record, Chunk, Operation, Host, Place, Table}
 use Rattle.rules.specs.Creation.{freshHost, freshChunk, fresh}
 use Rattle.rules.specs.Hosts.{operationsOf, queueOf, front, appended}
 use Rattle.rules.specs.Limits.{hostLimit, chunkLimit, blockLimit, operationLimit, waitingLimit}
 use Rattle.rules.specs.Tables.{isHost, isChunk, hostOf, recordOf, recordsBy, withHost, withChunk, withRecord, withRecords, withPlaces, withChunks, withEpoch}
 use Rattle.rules.specs.Waiting.{holding}
-use Rattle.rules.specs.Words.{each, joined, from, numbers, filled}
+use Rattle.rules.specs.Words.{each, joined, from, numbers}
 use Rattle.rules.specs.Zero.{zeroEntry, zeroRecord, zeroOperation, zeroHost, zeroChunk, noHost, noRecord}
 use Rattle.rules.proofs.Formed.{Formed, host-place, host-of, host-facts, attempt-facts}
 use Rattle.rules.proofs.Lists.{filled-take, take-short, get-set, set-all, each-length, numbers-length, each-number, grid-at}
+use Rattle.rules.proofs.Loops.{filled-length}
 
 pub record Shape (t : Table) : Type 0 where
   pub hosts : length (t .hosts) ≡ hostLimit
@@ -27,19 +28,15 @@ pub record Shape (t : Table) : Type 0 where
 
 -- ---- what is filled has its length
 
--- an array that is filled
-filled-length : {A : Type 0} (n : ℕ) (d : A) (l : List A) → length (filled n d l) ≡ n
-filled-length n d l = omega (arith, length-take n (l ++ replicate n d), length-append l (replicate n d), length-replicate n d)
-
 -- a waiting list
 pub holding-length : (l : List Entry) → length (holding l .entries) ≡ waitingLimit
 unfolding holding
-holding-length l = filled-length waitingLimit zeroEntry l
+holding-length l = filled-length zeroEntry waitingLimit l
 
 -- a queue
 pub queue-length : (l : List Operation) → length (queueOf l .operations) ≡ operationLimit
 unfolding queueOf
-queue-length l = filled-length operationLimit zeroOperation l
+queue-length l = filled-length zeroOperation operationLimit l
 
 -- all records
 records-length : (f : ℕ → ℕ → Record) → length (recordsBy f) ≡ chunkLimit * blockLimit

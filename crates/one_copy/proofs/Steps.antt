@@ -4,8 +4,8 @@ use mathlib.Core.Path.{_≡_, refl, sym, subst⁻¹, _∙_, ap}
 use mathlib.Core.Bool.{Bool, true, false, _&&_, false≢true}
 use mathlib.Core.List.{List, [], append-nil}
 use native.Mathlib.Omega.{arith}
-use lib.Dec.{eqb}
 use lib.ListN.{length-take}
+use lib.Dec.{eqb}
 use borrow.Author.Tests.{ltb-true, eqb-true}
 use Rattle.one_copy.specs.Types.{Action, Operation, Message, Slot, Table, Event, Outcome, Answer}
 use Rattle.one_copy.specs.Runs.{Write, byHost, isChange, listedAt}

@@ -1,8 +1,8 @@
 -- Demand 3: the mirrors answer as one plain copy
 use Prim.Native.Nat.{ℕ}
+use mathlib.Core.Path.{_≡_}
 use mathlib.Core.Bool.{true, false}
 use mathlib.Core.List.{List, [], _∷_, _++_}
-use mathlib.Core.Path.{_≡_}
 use Rattle.one_copy.specs.Types.{Timestamp, Creation, Table, Event, Outcome, Answer}
 use Rattle.rules.specs.Creation.{fresh}
 use Rattle.rules.specs.Events.{step}

@@ -1,12 +1,12 @@
 // An event's operands: are they in their ranges, and which place, host, chunk and block do they mean?
+ghost use mathlib.Core.Path.{_≡_};
+ghost use Rattle.operands.specs.Address.{addressOf, isMailEvent, isHostEvent, isChunkEvent, placeAt, hostAt, chunkAt, blockAt, rangesOf};
 use rules::Creation;
 use rules::Event;
 use rules::Header;
 use rules::Host;
 use rules::Slot;
 use rules::Timestamp;
-ghost use mathlib.Core.Path.{_≡_};
-ghost use Rattle.operands.specs.Address.{addressOf, isMailEvent, isHostEvent, isChunkEvent, placeAt, hostAt, chunkAt, blockAt, rangesOf};
 
 // "number outside its range, unknown kind, unused operand not 0".
 pub fn in_range(k: Creation, e: Event) -> bool

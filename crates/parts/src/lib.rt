@@ -1,4 +1,6 @@
 // One event on the parts of the table that it touches: a host, a chunk, a record, the network. Failure and epoch change touch more.
+ghost use mathlib.Core.Path.{_≡_};
+ghost use Rattle.parts.specs.Acts.{byHost, byMessages, byChunk, byRun, byMail, unchanged, hostMoved, chunkChanged, delivered, taken, mailTaken, acted};
 use chunk::Changed;
 use chunk::Ran;
 use host::Moved;
@@ -15,8 +17,6 @@ use rules::Record;
 use rules::Set;
 use rules::Slot;
 use rules::Waiting;
-ghost use mathlib.Core.Path.{_≡_};
-ghost use Rattle.parts.specs.Acts.{byHost, byMessages, byChunk, byRun, byMail, unchanged, hostMoved, chunkChanged, delivered, taken, mailTaken, acted};
 
 // What an event looks at: numbers of the store, the place's slot, and the parts.
 pub struct Parts {

@@ -1,12 +1,12 @@
 // Events replayed through the engine, for programs in other languages that time it (bench/): exported as a C function, a slice as
 // a pointer and then a length. Each event is a `step` on the table by value; what comes back stands for every answer.
-use rules::Event;
-use rules::Outcome;
-use rules::Table;
 ghost use Prim.Native.Nat.{_+_, _*_, _<_, _/_};
 ghost use mathlib.Core.Path.{_≡_};
 ghost use lib.ListN.{length};
 ghost use Rattle.replay.specs.Replay.{eventAt, mixed, mixedWith, replayed, sumAfter};
+use rules::Event;
+use rules::Outcome;
+use rules::Table;
 
 // An event's numbers: kind, a, b, c.
 const NUMBERS: usize = 4;

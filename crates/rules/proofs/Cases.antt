@@ -1,10 +1,10 @@
 -- Document 01, "Proved cases", P1 to P12: one table. "Unless said, last read and last write are 0, value 0, no chunk lost"
 use Prim.Native.Nat.{ℕ}
+use mathlib.Core.Path.{_≡_, refl}
 use mathlib.Core.Bool.{Bool, true, false}
 use mathlib.Core.List.{List, [], _∷_}
-use mathlib.Core.Path.{_≡_, refl}
-use lib.Dec.{eqb}
 use lib.ListN.{drop, replicate}
+use lib.Dec.{eqb}
 use Rattle.rules.specs.Types.{Timestamp, Set, Kind, Entry, Record, State, Action, Header, Message, Slot, Table, Event, Answer}
 use Rattle.rules.specs.Chunks.{atChunk, arrived}
 use Rattle.rules.specs.Codes.{codeOf}

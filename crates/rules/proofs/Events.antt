@@ -11,7 +11,6 @@ use Rattle.rules.specs.Codes.{codeOf}
 use Rattle.rules.specs.Creation.{isCreation, fresh, created}
 use Rattle.rules.specs.Formed.{wellFormed}
 use Rattle.rules.specs.Events.{Rule, readRule, writeRule, startRule, deliverRule, dropRule, finishRule, timeoutRule, refreshRule, runRule, stopRule, failRule, recoverRule, takeLeaseRule, giveLeaseRule, epochRule, overdueRule, unknownRule, ruleOf, rows, done, refused, answered, step}
-use Rattle.rules.specs.Formed.{wellFormed}
 use Rattle.rules.specs.Words.{every}
 use Rattle.rules.specs.Zero.{zeroTable}
 use Rattle.rules.proofs.Lists.{walk}

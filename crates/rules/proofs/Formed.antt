@@ -3,11 +3,11 @@ use Prim.Native.Nat.{ℕ, zero, suc, _-_, _≤_, _<_}
 use mathlib.Core.Path.{_≡_, refl, sym, ap, _∙_}
 use mathlib.Core.Bool.{Bool, true, false, cond, not, _&&_, _||_, true≢false}
 use mathlib.Core.List.{List}
+use native.Mathlib.Omega.{arith}
 use lib.ListN.{length, getD}
 use lib.Dec.{eqb, ltb, leb}
 use lib.Seq.{getD-take}
 use borrow.Author.Tests.{ltb-true, ltb-false, leb-true, le-leb, le-ltb, eqb-true, not-true}
-use native.Mathlib.Omega.{arith}
 use Rattle.rules.specs.Types.{Timestamp, Epoch, Set, Creation, Entry, Waiting, Record, Chunk, Operation, Queue, Attempt, Host, Header, Message, Place, Table}
 use Rattle.rules.specs.Creation.{isCreation, ofStore, isSetOf}
 use Rattle.rules.specs.Formed.{operationFormed, operationAt, queueFormed, attemptFormed, hostFormed, chunkFormed, entryFormed, entryAt, waitingFormed, recordFormed, messageFormed, slotFormed, hostAt, chunkAt, recordAt, recordsAt, placeAt, wellFormed}
@@ -19,7 +19,7 @@ use Rattle.rules.specs.Timestamps.{never, _is_, _above_, _same_, isTimes
 use Rattle.rules.specs.Waiting.{inOrder, holding, head}
 use Rattle.rules.specs.Words.{every, some, numbers, filled}
 use Rattle.rules.specs.Zero.{_among_, isEmpty, zeroEntry, isZeroEntry, isZeroRecord, zeroOperation, isZeroOperation}
-use Rattle.rules.proofs.Lists.{both, three, four, five, implied, implies, every-at, every-number, every-numbers, none-number, used-at, used-of, take-short, every-take, filled-here, filled-past}
+use Rattle.rules.proofs.Lists.{both, three, four, five, implied, implies, every-at, every-number, every-numbers, none-number, used-at, used-of, take-short, every-take, filled-any, filled-past}
 use Rattle.rules.proofs.Order.{Ordered, ascends-ordered, ordered-ascends}
 
 -- a number from 1 to the greatest
@@ -127,7 +127,7 @@ module _ (k : Creation) where
       let o : ℕ → Operation = λ i. getD (filled operationLimit zeroOperation l) i zeroOperation in
       rw (le-leb (length l) operationLimit n)
       (used-of (λ i. operationFormed k (o i)) (λ i. isZeroOperation (o i)) operationLimit (length l)
-      (λ i m. rw (filled-here zeroOperation operationLimit l n i m) (every-at (operationFormed k) l i zeroOperation h m))
+      (λ i m. rw (filled-any zeroOperation operationLimit l n i) (every-at (operationFormed k) l i zeroOperation h m))
       (λ i _ m. rw (filled-past zeroOperation operationLimit l n i m) refl))
 
   -- the front operation is about a block
@@ -280,10 +280,10 @@ module _ (k : Creation) where
       a = filled waitingLimit zeroEntry l
 
       here : (i : ℕ) → i < length l → entryFormed k (getD a i zeroEntry) ≡ true
-      here i m = rw (filled-here zeroEntry waitingLimit l n i m) (every-at (entryFormed k) l i zeroEntry h m)
+      here i m = rw (filled-any zeroEntry waitingLimit l n i) (every-at (entryFormed k) l i zeroEntry h m)
 
       stamped : (i : ℕ) → i < length l → stampAt a i ≡ stampAt l i
-      stamped i m = ap (λ (e : Entry). e .timestamp .0) (filled-here zeroEntry waitingLimit l n i m)
+      stamped i m = ap (λ (e : Entry). e .timestamp .0) (filled-any zeroEntry waitingLimit l n i)
 
       ahead : (i : ℕ) → i < length l → stampAt l (i - 1) ≤ stampAt l i
       ahead zero m = omega arith

@@ -3,10 +3,10 @@ use Prim.Native.Nat.{ℕ, _*_, _≤_}
 use mathlib.Core.Path.{_≡_, refl}
 use mathlib.Core.Bool.{Bool, true, false, cond, not, _&&_}
 use mathlib.Core.List.{List, [], _∷_}
+use native.Mathlib.Omega.{arith}
 use lib.ListN.{getD-replicate}
 use lib.Dec.{eqb, leb}
 use borrow.Author.Tests.{leb-true, eqb-true}
-use native.Mathlib.Omega.{arith}
 use Rattle.rules.specs.Types.{Creation, Table, Event, Answer}
 use Rattle.rules.specs.Codes.{Row, _gives_⨾_, codeOf}
 use Rattle.rules.specs.Creation.{isCreation, firstEpoch, freshChunk, freshHost, fresh}

@@ -3,10 +3,10 @@ use Prim.Native.Nat.{ℕ, _<_}
 use mathlib.Core.Path.{_≡_, refl, sym, _∙_}
 use mathlib.Core.Bool.{Bool, true, false, cond, not, _&&_, true≢false}
 use mathlib.Core.List.{List}
+use native.Mathlib.Omega.{arith}
 use lib.ListN.{getD, drop, length-drop, length-set, getD-replicate}
 use lib.Dec.{eqb, ltb, leb}
 use borrow.Author.Tests.{ltb-true, lt-ltb, leb-false, not-false}
-use native.Mathlib.Omega.{arith}
 use Rattle.rules.specs.Types.{Timestamp, Epoch, Creation, Kind, Entry, Waiting, Record, State, Chunk, Header, Message, Slot, Table, Arrived}
 use Rattle.rules.specs.Chunks.{withState, withValue, withRead, withWrite, withWaiting, answering, silent, isOutOfOrder, entryOf, arrived, decides, atChunk, runs, ran, failed, emptied, recoverRefusals, takeLeaseRefusals, giveLeaseRefusals, overdue}
 use Rattle.rules.specs.Codes.{Row}

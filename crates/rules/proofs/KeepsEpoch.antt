@@ -19,7 +19,6 @@ use Rattle.rules.specs.Zero.{_among_, noBlocks, isZeroChunk, noCopy, noC
 use Rattle.rules.proofs.Lists.{three, walk, every-of-all, every-each, every-each-number, every-joined, fold-keeps, each-number, each-each-number}
 use Rattle.rules.proofs.Formed.{Formed, of-store, set-of-store, set-of-block, waiting-facts, entries-formed, record-facts, record-formed, record-of}
 use Rattle.rules.proofs.Relies.{epoch-next}
-use Rattle.rules.specs.Timestamps.{isEpoch, next}
 use Rattle.rules.proofs.KeepsParts.{Keeps, keeps, RecordAt, records-kept}
 use Rattle.rules.proofs.KeepsChunks.{later-formed, none-waiting, emptied-at, blank-formed}
 

@@ -3,10 +3,10 @@ use Prim.Native.Nat.{ℕ, _+_, _*_, _≤_, _<_}
 use mathlib.Core.Path.{_≡_, refl, sym, _∙_}
 use mathlib.Core.Bool.{Bool, true, false, false≢true}
 use mathlib.Core.List.{List, [], _∷_, _++_}
+use native.Mathlib.Omega.{arith}
 use lib.ListN.{length, drop, length-append, length-drop}
 use lib.Dec.{eqb}
 use borrow.Author.Tests.{le-leb, lt-ltb, eqb-true, not-true}
-use native.Mathlib.Omega.{arith}
 use Rattle.rules.specs.Types.{Timestamp, Epoch, Set, Creation, Action, Operation, Attempt, Host, Header, Message, Table}
 use Rattle.rules.specs.Codes.{Row, codeOf}
 use Rattle.rules.specs.Creation.{isCreation, ofStore}
@@ -20,7 +20,7 @@ use Rattle.rules.specs.Tables.{isHost, isChunk, isBlock, hostOf, withHos
 use Rattle.rules.specs.Timestamps.{stamp, never, _is_, _above_, isTimestamp, isEpoch}
 use Rattle.rules.specs.Words.{every, some, from}
 use Rattle.rules.specs.Zero.{_among_, isEmpty, zeroSet, zeroAttempt, isZeroAttempt}
-use Rattle.rules.proofs.Lists.{three, walk, every-one, every-append, every-drop, each-number, set-all, take-short}
+use Rattle.rules.proofs.Lists.{three, and-true, walk, every-one, every-append, every-drop, each-number, set-all, take-short}
 use Rattle.rules.proofs.Formed.{one-to, Formed, host-place, chunk-place, block-place, member-some, of-store, is-of-store, set-of-store, queue-facts, operations-length, operations-formed, queue-formed, front-block, FormedAttempt, attempt-facts, attempt-formed, outstanding-current, host-facts, host-formed, FormedHeader, message-facts, message-formed, host-of, queue-of}
 use Rattle.rules.proofs.KeepsParts.{Keeps, keeps, host-kept, sent-to-each-kept}
 use Rattle.rules.proofs.Relies.{intake-place, start-front, finish-current, timeout-outstanding}
@@ -84,7 +84,7 @@ module _ (k : Creation) where
       let old = operations-formed k h (queue-facts k (h .queue) (r .queue)) in
       host-formed k (appended h o) (record {
         queue = queue-formed k l (omega (arith, take-short (h .queue .count) (h .queue .operations)))
-            (every-append (operationFormed k) (operationsOf h) (o ∷ []) old (every-one (operationFormed k) o e));
+            (every-append (operationFormed k) (operationsOf h) (o ∷ []) ∙ and-true _ _ old (every-one (operationFormed k) o e));
         attempt = recounted (h .queue .count) (length l) (h .attempt) (r .attempt) (omega arith);
         epoch = r .epoch;
         clock = r .clock;

@@ -1,11 +1,11 @@
 -- A formed part put into a well-formed table keeps it well formed
 use Prim.Native.Nat.{ℕ, _<_}
-use mathlib.Core.Path.{_≡_, refl}
+use mathlib.Core.Path.{_≡_, refl, _∙_}
 use mathlib.Core.Logic.{_⊎_, inl, inr}
 use mathlib.Core.Bool.{true, cond, _&&_}
 use mathlib.Core.List.{List}
-use lib.ListN.{getD, set}
 use native.Mathlib.Omega.{arith}
+use lib.ListN.{getD, set}
 use Rattle.rules.specs.Types.{Set, Creation, Record, Chunk, Host, Message, Slot, Place, Table}
 use Rattle.rules.specs.Codes.{codeOf}
 use Rattle.rules.specs.Creation.{ofStore}
@@ -150,4 +150,4 @@ module _ (t : Table) (f : Formed t) where
       let k = t .creation in
       places-kept t f (sentToEach (t .places) to m)
       (fold-keeps (messageFormed k) (FormedPlaces k) sent (sent-formed k) (t .places) (each m (chunksOf to)) (f .places)
-      (every-each (messageFormed k) (isChunk k) m (chunksOf to) g (every-those (isChunk k) (λ c. c among to) (numbers chunkLimit) h)))
+      (every-each (messageFormed k) (isChunk k) m (chunksOf to) g (every-those (isChunk k) (λ c. c among to) (numbers chunkLimit) ∙ h)))

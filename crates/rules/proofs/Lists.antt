@@ -1,16 +1,16 @@
 -- Laws about the words of the rules, over any element
 use Prim.Native.Nat.{ℕ, zero, suc, _+_, _-_, _*_, _≤_, _<_}
-use mathlib.Core.Path.{_≡_, refl, ap, _∙_}
+use mathlib.Core.Path.{_≡_, refl, sym, ap, _∙_}
 use mathlib.Core.Logic.{_⊎_, inl, inr}
-use mathlib.Core.Bool.{Bool, true, false, cond, not, _&&_, _||_, true≢false, false≢true}
+use mathlib.Core.Bool.{Bool, true, false, cond, not, _&&_, _||_, false≢true}
 use mathlib.Core.List.{List, [], _∷_, _++_}
 use native.Mathlib.Nat.{suc-mul}
 use native.Mathlib.Decide.{decLe}
 use native.Mathlib.Omega.{arith}
-use borrow.Author.Tests.{ltb-true, ltb-false, lt-ltb}
+use lib.ListN.{length, getD, set, take, drop, replicate, length-take, List·getD-eq-default, List·getD-append, getD-replicate}
 use lib.Dec.{ltb}
-use lib.ListN.{length, getD, set, take, drop, replicate, length-take, List·getD-eq-default, List·getD-append}
 use lib.Seq.{getD-append-add, getD-take, take-take, take-append-seam}
+use borrow.Author.Tests.{ltb-true, ltb-false, lt-ltb}
 use Rattle.rules.specs.Words.{those, each, joined, every, some, fold, from, numbers, filled}
 
 -- ---- tests
@@ -35,6 +35,20 @@ pub walk : {A : Type 0} (P : A → Type 0) (b : Bool) (x y : A) → (b ≡ true 
 walk P true x y f g = f refl
 walk P false x y f g = g refl
 
+-- the one with the greater key, the first of equals
+module _ {A : Type 0} (key : A → ℕ) where
+  abbrev pub upper : A → A → A
+  upper x y = cond (ltb (key x) (key y)) y x
+
+  pub upper-left : (x y : A) → key x ≤ key (upper x y)
+  upper-left x y = walk (λ (z : A). key x ≤ key z) (ltb (key x) (key y)) y x (λ e. let z = ltb-true (key x) (key y) e in omega arith) (λ _. omega arith)
+
+  pub upper-right : (x y : A) → key y ≤ key (upper x y)
+  upper-right x y = walk (λ (z : A). key y ≤ key z) (ltb (key x) (key y)) y x (λ _. omega arith) (ltb-false (key x) (key y))
+
+  pub upper-one : (x y : A) → (upper x y ≡ x) ⊎ (upper x y ≡ y)
+  upper-one x y = walk (λ (z : A). (z ≡ x) ⊎ (z ≡ y)) (ltb (key x) (key y)) y x (λ _. inr refl) (λ _. inl refl)
+
 -- ---- every, some: what they say of each element
 
 module _ {A : Type 0} (p : A → Bool) where
@@ -49,14 +63,14 @@ module _ {A : Type 0} (p : A → Bool) where
   every-of [] d h = refl
   every-of (x ∷ xs) d h = rw (h 0 (omega arith), every-of xs d (λ i k. h (suc i) (omega arith))) refl
 
-  pub some-of : (l : List A) → some p l ≡ false → every (λ x. not (p x)) l ≡ true
+  pub none-every : (l : List A) → not (some p l) ≡ every (λ x. not (p x)) l
   unfolding some every
-  some-of [] h = refl
-  some-of (x ∷ xs) h = go (p x) h (some-of xs)
+  none-every [] = refl
+  none-every (x ∷ xs) = go (p x) (none-every xs)
     where
-      go : (b : Bool) → b || some p xs ≡ false → (some p xs ≡ false → every (λ x. not (p x)) xs ≡ true) → not b && every (λ x. not (p x)) xs ≡ true
-      go true h f = absurd (true≢false h)
-      go false h f = f h
+      go : (b : Bool) → not (some p xs) ≡ every (λ x. not (p x)) xs → not (b || some p xs) ≡ (not b && every (λ x. not (p x)) xs)
+      go true h = refl
+      go false h = h
 
   pub some-at : (l : List A) (d : A) → some p l ≡ true → (i : ℕ) × (i < length l) × (p (getD l i d) ≡ true)
   unfolding some
@@ -100,7 +114,7 @@ module _ (p : ℕ → Bool) (n : ℕ) where
       go : (b : Bool) → p i ≡ b → b ≡ false
       go false e = refl
       go true e =
-          let z : not (p i) ≡ true = rw (numbers-at n i 0 k) at (every-at (λ i. not (p i)) (numbers n) i 0 (some-of p (numbers n) h) (rw numbers-length k)) in
+          let z : not (p i) ≡ true = rw (numbers-at n i 0 k) at (every-at (λ i. not (p i)) (numbers n) i 0 (sym (none-every p (numbers n)) ∙ ap not h) (rw numbers-length k)) in
           absurd (false≢true (rw e at z))
 
   pub some-number : some p (numbers n) ≡ true → (i : ℕ) × (i < n) × (p i ≡ true)
@@ -149,23 +163,27 @@ set-all P d l j x h k i = go (get-set l j i x d)
 
 -- ---- an array filled from the front
 
-replicate-any : {A : Type 0} (n i : ℕ) (d : A) → getD (replicate n d) i d ≡ d
-replicate-any zero i d = refl
-replicate-any (suc n) zero d = refl
-replicate-any (suc n) (suc i) d = replicate-any n i d
+module _ {A : Type 0} (d : A) (n : ℕ) (l : List A) where
+  pub filled-at : (i : ℕ) → i < n → getD (filled n d l) i d ≡ getD l i d
+  filled-at i h = getD-take n (l ++ replicate n d) i d h ∙ go (decLe (length l) i)
+    where
+      go : Dec (length l ≤ i) → getD (l ++ replicate n d) i d ≡ getD l i d
+      go (yes k) =
+          let e : i ≡ length l + (i - length l) = omega arith in
+          rw e (getD-append-add l (replicate n d) (i - length l) d ∙ getD-replicate n (i - length l) d d (omega arith)) ∙ sym (List·getD-eq-default l d k)
+      go (no k) = List·getD-append l (replicate n d) d i (omega arith)
 
 module _ {A : Type 0} (d : A) (n : ℕ) (l : List A) (room : length l ≤ n) where
-  pub filled-here : (i : ℕ) → i < length l → getD (filled n d l) i d ≡ getD l i d
-  filled-here i h = getD-take n (l ++ replicate n d) i d (omega arith) ∙ List·getD-append l (replicate n d) d i h
+  pub filled-any : (i : ℕ) → getD (filled n d l) i d ≡ getD l i d
+  filled-any i = go (decLe n i)
+    where
+      go : Dec (n ≤ i) → getD (filled n d l) i d ≡ getD l i d
+      go (yes k) =
+          List·getD-eq-default (filled n d l) d (omega (arith, length-take n (l ++ replicate n d))) ∙ sym (List·getD-eq-default l d (omega arith))
+      go (no k) = filled-at d n l i (omega arith)
 
   pub filled-past : (i : ℕ) → length l ≤ i → getD (filled n d l) i d ≡ d
-  filled-past i h = go (decLe n i)
-    where
-      go : Dec (n ≤ i) → getD (take n (l ++ replicate n d)) i d ≡ d
-      go (yes k) = List·getD-eq-default (take n (l ++ replicate n d)) d (omega (arith, length-take n (l ++ replicate n d)))
-      go (no k) =
-          let e : i ≡ length l + (i - length l) = omega arith in
-          getD-take n (l ++ replicate n d) i d (omega arith) ∙ rw e (getD-append-add l (replicate n d) (i - length l) d ∙ replicate-any n (i - length l) d)
+  filled-past i h = filled-any i ∙ List·getD-eq-default l d h
 
   pub filled-take : take (length l) (filled n d l) ≡ l
   filled-take = take-take (length l) n (l ++ replicate n d) room ∙ take-append-seam l (replicate n d)
@@ -199,10 +217,14 @@ module _ {A : Type 0} (p : A → Bool) where
   unfolding every
   every-one x h = and-true (p x) true h refl
 
-  pub every-append : (l m : List A) → every p l ≡ true → every p m ≡ true → every p (l ++ m) ≡ true
+  pub every-append : (k l : List A) → every p (k ++ l) ≡ (every p k && every p l)
   unfolding every
-  every-append [] m h k = k
-  every-append (x ∷ xs) m h k = let b = both (p x) (every p xs) h in and-true (p x) (every p (xs ++ m)) (b .0) (every-append xs m (b .1) k)
+  every-append [] l = refl
+  every-append (x ∷ k) l = go (p x) (every-append k l)
+    where
+      go : (b : Bool) → every p (k ++ l) ≡ (every p k && every p l) → (b && every p (k ++ l)) ≡ ((b && every p k) && every p l)
+      go true h = h
+      go false h = refl
 
   pub every-drop : (n : ℕ) (l : List A) → every p l ≡ true → every p (drop n l) ≡ true
   unfolding every
@@ -226,17 +248,17 @@ module _ {A : Type 0} (p : A → Bool) where
   pub every-joined : (ls : List (List A)) → every (every p) ls ≡ true → every p (joined ls) ≡ true
   unfolding every joined
   every-joined [] h = refl
-  every-joined (l ∷ ls) h = let b = both (every p l) (every (every p) ls) h in every-append l (joined ls) (b .0) (every-joined ls (b .1))
+  every-joined (l ∷ ls) h = let b = both (every p l) (every (every p) ls) h in every-append l (joined ls) ∙ and-true (every p l) (every p (joined ls)) (b .0) (every-joined ls (b .1))
 
-  -- those that are q, where each that is q is p
-  pub every-those : (q : A → Bool) (l : List A) → every (λ x. not (q x) || p x) l ≡ true → every p (those q l) ≡ true
+  -- those that are q are p exactly when each that is q is p
+  pub every-those : (q : A → Bool) (l : List A) → every p (those q l) ≡ every (λ x. not (q x) || p x) l
   unfolding every those
-  every-those q [] h = refl
-  every-those q (x ∷ xs) h =
-      let b = both (not (q x) || p x) (every (λ x. not (q x) || p x) xs) h in
-      walk (λ (l : List A). every p l ≡ true) (q x) (x ∷ those q xs) (those q xs)
-      (λ e. and-true (p x) (every p (those q xs)) (implied (q x) (p x) (b .0) e) (every-those q xs (b .1)))
-      (λ _. every-those q xs (b .1))
+  every-those q [] = refl
+  every-those q (x ∷ xs) = go (q x) (every-those q xs)
+    where
+      go : (b : Bool) → every p (those q xs) ≡ every (λ x. not (q x) || p x) xs → every p (cond b (x ∷ those q xs) (those q xs)) ≡ ((not b || p x) && every (λ x. not (q x) || p x) xs)
+      go true h = ap (λ (t : Bool). p x && t) h
+      go false h = h
 
   -- those that are q, where each is p
   pub every-of-all : (q : A → Bool) (l : List A) → every p l ≡ true → every p (those q l) ≡ true

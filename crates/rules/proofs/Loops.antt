@@ -1,20 +1,20 @@
 -- Loops: what a loop over an array cites, and how a word of the rules is a loop. Over any element
 use Prim.Native.Nat.{ℕ, zero, suc, _+_, _-_, _≤_, _<_, compare·suc-suc, _*_, _/_, _%_, min}
 use mathlib.Core.Path.{_≡_, refl, sym, ap, _∙_}
-use mathlib.Core.Bool.{Bool, true, false, cond, _&&_, _||_, not, true≢false}
+use mathlib.Core.Bool.{Bool, true, false, cond, _&&_, _||_, true≢false}
 use mathlib.Core.List.{List, [], _∷_, _++_, append-assoc, append-nil}
+use native.Mathlib.Nat.{mod-lt, div-lt-iff-lt-mul, suc-mul, div-add-mod'}
 use native.Mathlib.Numerals.{add-one}
 use native.Mathlib.Decide.{decLe, ℕ-discrete}
 use native.Mathlib.Omega.{arith}
-use lib.ListN.{length, getD, take, drop, drop-of-length-le, length-take, set, List·getD-eq-default, replicate, take-append-drop, length-drop, length-append, length-replicate, getD-replicate, List·getD-append, length-set}
+use lib.ListN.{length, getD, take, drop, drop-of-length-le, length-take, set, List·getD-eq-default, replicate, take-append-drop, length-drop, length-append, length-replicate, getD-replicate, length-set}
 use lib.Dec.{ltb, eqb}
-use borrow.Author.Tests.{lt-ltb, eq-eqb, ne-eqb, le-ltb}
 use lib.Seq.{drop-cons, take-suc, take-take, take-at, append-snoc, length-take-le, set-at, getD-at, getD-take, getD-drop, getD-append-add, take-append-le, drop-append-le, set-append-left, take-set-lt, ext-getD, take-all, getD-set-same, getD-set-other}
-use Rattle.rules.specs.Words.{those, each, joined, every, some, place, fold, from, numbers, first, filled}
-use Rattle.rules.proofs.Lists.{every-number, every-numbers, none-number, some-number, both, filled-here, filled-past, numbers-length, numbers-at, each-length, each-number, grid-at}
-use native.Mathlib.Nat.{mod-lt, div-lt-iff-lt-mul, suc-mul, div-add-mod'}
 use lib.Arith.{digits-lt, digits-div, digits-mod}
+use borrow.Author.Tests.{lt-ltb, eq-eqb, ne-eqb, le-ltb}
+use Rattle.rules.specs.Words.{those, each, joined, every, some, place, fold, from, numbers, first, filled}
 use Rattle.rules.specs.Codes.{Row, codeOf, _gives_⨾_, granted}
+use Rattle.rules.proofs.Lists.{every-number, every-numbers, none-number, some-number, both, filled-at, numbers-length, numbers-at, each-length, each-number, grid-at}
 
 -- ---- a loop over l by its index i: l from i on is the element at i, and l from i + 1 on
 
@@ -104,15 +104,6 @@ pub every-same : {A : Type 0} (p q : A → Bool) → ((x : A) → p x ≡ q x) �
 unfolding every
 every-same p q h [] = refl
 every-same p q h (x ∷ xs) = rw (h x, every-same p q h xs) refl
-
-pub every-those : {A : Type 0} (p q : A → Bool) (l : List A) → every p (those q l) ≡ every (λ x. not (q x) || p x) l
-unfolding every those
-every-those p q [] = refl
-every-those p q (x ∷ xs) = go (q x) (every-those p q xs)
-  where
-    go : (b : Bool) → every p (those q xs) ≡ every (λ x. not (q x) || p x) xs → every p (cond b (x ∷ those q xs) (those q xs)) ≡ ((not b || p x) && every (λ x. not (q x) || p x) xs)
-    go true h = ap (λ (t : Bool). p x && t) h
-    go false h = h
 
 -- some one is p exactly when the place of the first is one of the list
 pub some-place : {A : Type 0} (p : A → Bool) (l : List A) → some p l ≡ ltb (place p l) (length l)
@@ -233,15 +224,6 @@ unfolding those every
 those-every p [] h = refl
 those-every p (x ∷ xs) h = let r = both (p x) (every p xs) h in rw (r .0, those-every p xs (r .1)) refl
 
-pub none-every : {A : Type 0} (p : A → Bool) (l : List A) → not (some p l) ≡ every (λ x. not (p x)) l
-unfolding some every
-none-every p [] = refl
-none-every p (x ∷ xs) = go (p x) (none-every p xs)
-  where
-    go : (b : Bool) → not (some p xs) ≡ every (λ x. not (p x)) xs → not (b || some p xs) ≡ (not b && every (λ x. not (p x)) xs)
-    go true h = refl
-    go false h = h
-
 pub every-both : {A : Type 0} (p q : A → Bool) (l : List A) → (every p l && every q l) ≡ every (λ x. p x && q x) l
 unfolding every
 every-both p q [] = refl
@@ -358,15 +340,6 @@ module _ {A : Type 0} (d : A) (n : ℕ) (l : List A) where
   pub filled-length : length (filled n d l) ≡ n
   filled-length = simp (length-take, length-append, length-replicate) (omega arith)
 
-  pub filled-at : (i : ℕ) → i < n → getD (filled n d l) i d ≡ getD l i d
-  filled-at i h = getD-take n (l ++ replicate n d) i d h ∙ go (decLe (length l) i)
-    where
-      go : Dec (length l ≤ i) → getD (l ++ replicate n d) i d ≡ getD l i d
-      go (yes k) =
-          let e : i ≡ length l + (i - length l) = omega arith in
-          rw e (getD-append-add l (replicate n d) (i - length l) d ∙ getD-replicate n (i - length l) d d (omega arith)) ∙ sym (List·getD-eq-default l d k)
-      go (no k) = List·getD-append l (replicate n d) d i (omega arith)
-
   pub filled-set : (i : ℕ) (x : A) → i < length l → i < n → set (filled n d l) i x ≡ filled n d (set l i x)
   filled-set i x h k = sym (take-set-lt n (l ++ replicate n d) i x k) ∙ ap (take n) (set-append-left l (replicate n d) i x h)
 
@@ -380,13 +353,6 @@ pub filled-same : {A : Type 0} (d : A) (n : ℕ) (k l : List A) → ((i : ℕ) �
 filled-same d n k l h =
     ext-getD d (filled n d k) (filled n d l) (filled-length d n k ∙ sym (filled-length d n l))
     (λ i m. let q : i < n = rw (filled-length d n k) at m in filled-at d n k i q ∙ h i ∙ sym (filled-at d n l i q))
-
-pub filled-any : {A : Type 0} (d : A) (n : ℕ) (l : List A) → length l ≤ n → (i : ℕ) → getD (filled n d l) i d ≡ getD l i d
-filled-any d n l room i = go (decLe (length l) i)
-  where
-    go : Dec (length l ≤ i) → getD (filled n d l) i d ≡ getD l i d
-    go (yes k) = filled-past d n l room i k ∙ sym (List·getD-eq-default l d k)
-    go (no k) = filled-here d n l room i (omega arith)
 
 -- ---- refusals in code, a row of early returns
 
@@ -449,15 +415,6 @@ pub each-append : {A B : Type 0} (f : A → B) (k l : List A) → each f (k ++ l
 unfolding each
 each-append f [] l = refl
 each-append f (x ∷ k) l = ap (λ (t : List _). f x ∷ t) (each-append f k l)
-
-pub every-append : {A : Type 0} (p : A → Bool) (k l : List A) → every p (k ++ l) ≡ (every p k && every p l)
-unfolding every
-every-append p [] l = refl
-every-append p (x ∷ k) l = go (p x) (every-append p k l)
-  where
-    go : (b : Bool) → every p (k ++ l) ≡ (every p k && every p l) → (b && every p (k ++ l)) ≡ ((b && every p k) && every p l)
-    go true h = h
-    go false h = refl
 
 module _ {A : Type 0} (d x : A) where
   replicate-cut : (n m : ℕ) → n ≤ m → take n (replicate m d) ≡ take n (replicate (suc m) d)

@@ -5,13 +5,12 @@ use mathlib.Core.Logic.{_⊎_, inl, inr, _↔_}
 use mathlib.Core.Bool.{Bool, true, false, cond, true≢false}
 use mathlib.Core.List.{List, [], _∷_}
 use native.Mathlib.Omega.{arith}
-use lib.Dec.{leb}
 use lib.ListN.{length, getD}
 use Rattle.rules.specs.Codes.{Row, codeOf}
 use Rattle.rules.specs.Limits.{oneTo}
 use Rattle.rules.specs.Words.{every}
-use Rattle.rules.proofs.Lists.{both, every-at}
-use borrow.Author.Tests.{leb-true}
+use Rattle.rules.proofs.Lists.{every-at}
+use Rattle.rules.proofs.Formed.{one-to}
 
 -- row i of a list; what lies beyond the last never holds
 abbrev pub row : List Row → ℕ → Row
@@ -65,14 +64,11 @@ first-code (r ∷ rs) k f = go (f .at) (f .inside) (f .holds) (f .code) (f .befo
     go zero l h c b f = rw h c
     go (suc i) l h c b f = rw (b 0 (omega arith)) (f (record { at = i; inside = omega arith; holds = h; code = c; before = λ j m. b (suc j) (omega arith) }))
 
-one-to : (k : ℕ) → oneTo 8 k ≡ true → (1 ≤ k) × (k ≤ 8)
-one-to k h = (leb-true 1 k (both (leb 1 k) (leb k 8) h .0), leb-true k 8 (both (leb 1 k) (leb k 8) h .1))
-
 module _ (rs : List Row) (proper : coded rs ≡ true) where
   -- a first row's code is 1 to 8
   pub first-range : (k : ℕ) → First rs k → (1 ≤ k) × (k ≤ 8)
   first-range k f =
-      one-to k (rw (f .code) at (every-at (λ (r : Row). oneTo 8 (r .code)) rs (f .at) (record { holds = false; code = 0 }) proper (f .inside)))
+      one-to 8 k (rw (f .code) at (every-at (λ (r : Row). oneTo 8 (r .code)) rs (f .at) (record { holds = false; code = 0 }) proper (f .inside)))
 
   -- code k, not 0: exactly when a situation of code k holds and none before it does
   pub refused-exactly : (k : ℕ) → (k ≡ 0 → ⊥) → (codeOf rs ≡ k) ↔ First rs k

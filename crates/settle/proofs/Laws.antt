@@ -5,10 +5,10 @@ use mathlib.Core.Logic.{⊎-elim}
 use mathlib.Core.Bool.{Bool, true, false, cond, _&&_, _||_, not, and-true, and-false, true≢false, false≢true}
 use mathlib.Core.List.{List, [], _∷_, _++_}
 use native.Mathlib.Omega.{arith}
-use lib.Dec.{ltb}
 use lib.ListN.{length, getD, take, length-take}
+use lib.Dec.{ltb}
 use lib.Seq.{getD-take}
-use borrow.Author.Tests.{lt-ltb, le-ltb, ltb-true, ltb-false, eqb-true}
+use borrow.Author.Tests.{lt-ltb, le-ltb, ltb-true, eqb-true}
 use Rattle.rules.specs.declared.Timestamp.{Timestamp}
 use Rattle.rules.specs.declared.Entry.{Entry}
 use Rattle.rules.specs.declared.Record.{Record}
@@ -20,8 +20,8 @@ use Rattle.rules.specs.Timestamps.{never, later, _is_, _above_, greatest}
 use Rattle.rules.specs.Waiting.{inOrder}
 use Rattle.rules.specs.Words.{those, each, joined, every, some, none, first, fold}
 use Rattle.rules.specs.Zero.{zeroEntry, zeroWaiting, noCopy}
-use Rattle.rules.proofs.Lists.{both, true-or-false}
-use Rattle.rules.proofs.Loops.{fold-those, fold-each, fold-append, fold-same, every-same, every-those, every-both, first-those, those-both, those-every, none-every}
+use Rattle.rules.proofs.Lists.{both, true-or-false, upper-left, upper-right, every-those, none-every}
+use Rattle.rules.proofs.Loops.{fold-those, fold-each, fold-append, fold-same, every-same, every-both, first-those, those-both, those-every}
 use Rattle.settle.specs.Steps.{withWrite, withRead, beside, agrees, withEntry, withBlock}
 
 -- ---- an entry that waits is the array's at its place
@@ -69,13 +69,6 @@ agreed-steps t cs =
 
 -- ---- the latest of those timestamps of a list that are p, or m
 
-later-least : (m t : Timestamp) → (m .0 ≤ later m t .0) × (t .0 ≤ later m t .0)
-later-least m t = go (ltb (m .0) (t .0)) refl
-  where
-    go : (b : Bool) → ltb (m .0) (t .0) ≡ b → (m .0 ≤ cond b t m .0) × (t .0 ≤ cond b t m .0)
-    go true e = let k = ltb-true (m .0) (t .0) e in (omega arith, omega arith)
-    go false e = let k = ltb-false (m .0) (t .0) e in (omega arith, omega arith)
-
 later-above : (m t : Timestamp) → m .0 < t .0 → later m t ≡ t
 later-above m t h = rw (lt-ltb (m .0) (t .0) h) refl
 
@@ -92,7 +85,7 @@ module _ (p : Timestamp → Bool) where
   grows m (x ∷ xs) = go (p x) (grows (taken m x) xs)
     where
       go : (b : Bool) → cond b (later m x) m .0 ≤ fold taken (cond b (later m x) m) xs .0 → m .0 ≤ fold taken (cond b (later m x) m) xs .0
-      go true h = let k = later-least m x .0 in omega arith
+      go true h = let k = upper-left (λ (t : Timestamp). t .0) m x in omega arith
       go false h = h
 
   reaches : (u m : Timestamp) (l : List Timestamp) → p u ≡ true → some (λ t. t is u) l ≡ true → u .0 ≤ fold taken m l .0
@@ -105,7 +98,7 @@ module _ (p : Timestamp → Bool) where
           let z : x .0 ≡ u .0 = eqb-true (x .0) (u .0) e in
           let y : x ≡ u = λ i. record { 0 = z i } in
           let g : taken m x ≡ later m x = rw (y, h) refl in
-          rw g (let a = later-least m x .1 in let b = grows (later m x) xs in omega arith)
+          rw g (let a = upper-right (λ (t : Timestamp). t .0) m x in let b = grows (later m x) xs in omega arith)
       go false e j f = f j
 
   stays : (m : Timestamp) (l : List Timestamp) → ((u : Timestamp) → p u ≡ true → u .0 ≤ m .0) → fold taken m l ≡ m

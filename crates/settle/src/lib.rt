@@ -10,13 +10,11 @@ ghost use Rattle.rules.specs.Waiting.{inOrder};
 ghost use Rattle.rules.specs.Words.{if_then_else_, some, place, first, fold};
 ghost use Rattle.rules.specs.Zero.{zeroEntry, noCopy};
 ghost use Rattle.settle.specs.Steps.{withWrite, withRead, beside, agrees, withEntry, withBlock};
-use rules::CHUNKS;
 use rules::Copy;
 use rules::Entry;
 use rules::Kind;
 use rules::Record;
 use rules::Timestamp;
-use rules::WAITING;
 use rules::Waiting;
 
 fn later(t: Timestamp, u: Timestamp) -> Timestamp
@@ -68,10 +66,10 @@ fn used(q: Waiting) -> usize
     ensures { λ r. ⌜ (r ≡ length (inOrder q)) × (r ≤ waitingLimit) ⌝ }
 {
     let n = q.count as usize;
-    if n < WAITING {
+    if n < rules::WAITING {
         return n;
     }
-    WAITING
+    rules::WAITING
 }
 
 fn write_with(t: Timestamp, e: Entry) -> bool
@@ -151,12 +149,12 @@ fn with_write(m: Timestamp, c: Copy) -> Timestamp
 }
 
 // "W is the greatest last write over the set".
-fn greatest_write(copies: [Copy; CHUNKS]) -> Timestamp
+fn greatest_write(copies: [Copy; rules::CHUNKS]) -> Timestamp
     ensures { λ r. ⌜ r ≡ fold withWrite never copies ⌝ }
 {
     let mut m = Timestamp(0);
     let mut i: usize = 0;
-    while i < CHUNKS {
+    while i < rules::CHUNKS {
         let c = copies[i];
         m = with_write(m, c);
         i = i + 1;
@@ -172,11 +170,11 @@ fn beside(w: Timestamp, c: Copy) -> bool
 }
 
 // "V the value beside it (lowest chunk if several)".
-fn value_beside(copies: [Copy; CHUNKS], w: Timestamp) -> u64
+fn value_beside(copies: [Copy; rules::CHUNKS], w: Timestamp) -> u64
     ensures { λ r. ⌜ r ≡ first noCopy (beside w) copies .block .value ⌝ }
 {
     let mut i: usize = 0; // the lowest chunk first
-    while i < CHUNKS {
+    while i < rules::CHUNKS {
         let c = copies[i];
         if beside(w, c) {
             let b = c.block;
@@ -200,11 +198,11 @@ fn agrees(t: Timestamp, c: Copy) -> bool
     !c.member | (c.lost & unread) | (!c.lost & kept)
 }
 
-fn agreed(copies: [Copy; CHUNKS], t: Timestamp) -> bool
+fn agreed(copies: [Copy; rules::CHUNKS], t: Timestamp) -> bool
     ensures { λ r. ⌜ r ≡ agreed copies t ⌝ }
 {
     let mut i: usize = 0;
-    while i < CHUNKS {
+    while i < rules::CHUNKS {
         let c = copies[i];
         if !agrees(t, c) {
             return false;
@@ -215,11 +213,11 @@ fn agreed(copies: [Copy; CHUNKS], t: Timestamp) -> bool
 }
 
 // The lowest chunk of the set that is not lost, or 8.
-fn lowest(copies: [Copy; CHUNKS]) -> usize
+fn lowest(copies: [Copy; rules::CHUNKS]) -> usize
     ensures { λ r. ⌜ r ≡ place notLost copies ⌝ }
 {
     let mut i: usize = 0;
-    while i < CHUNKS {
+    while i < rules::CHUNKS {
         let c = copies[i];
         if c.member & !c.lost {
             break;
@@ -230,11 +228,11 @@ fn lowest(copies: [Copy; CHUNKS]) -> usize
 }
 
 // What waits there. A committed write waits in every chunk not lost, so these are all that can be committed.
-fn candidates(copies: [Copy; CHUNKS]) -> Waiting
+fn candidates(copies: [Copy; rules::CHUNKS]) -> Waiting
     ensures { λ r. ⌜ inOrder r ≡ waiting (first noCopy notLost copies) ⌝ }
 {
     let i = lowest(copies);
-    if i < CHUNKS {
+    if i < rules::CHUNKS {
         let c = copies[i];
         let b = c.block;
         return b.waiting;
@@ -243,7 +241,7 @@ fn candidates(copies: [Copy; CHUNKS]) -> Waiting
 }
 
 // The later of m and the entry's timestamp, where that is committed.
-fn with_entry(copies: [Copy; CHUNKS], w: Timestamp, m: Timestamp, e: Entry) -> Timestamp
+fn with_entry(copies: [Copy; rules::CHUNKS], w: Timestamp, m: Timestamp, e: Entry) -> Timestamp
     ensures { λ r. ⌜ r ≡ withEntry copies w m e ⌝ }
 {
     let k = e.kind;
@@ -255,7 +253,7 @@ fn with_entry(copies: [Copy; CHUNKS], w: Timestamp, m: Timestamp, e: Entry) -> T
 }
 
 // The latest committed of the entries q, else w.
-fn latest(copies: [Copy; CHUNKS], w: Timestamp, q: Waiting) -> Timestamp
+fn latest(copies: [Copy; rules::CHUNKS], w: Timestamp, q: Waiting) -> Timestamp
     ensures { λ r. ⌜ r ≡ fold (withEntry copies w) w (inOrder q) ⌝ }
 {
     let n = used(q);
@@ -281,12 +279,12 @@ fn with_read(m: Timestamp, c: Copy) -> Timestamp
     m
 }
 
-fn greatest_read(copies: [Copy; CHUNKS]) -> Timestamp
+fn greatest_read(copies: [Copy; rules::CHUNKS]) -> Timestamp
     ensures { λ r. ⌜ r ≡ fold withRead never copies ⌝ }
 {
     let mut m = Timestamp(0);
     let mut i: usize = 0;
-    while i < CHUNKS {
+    while i < rules::CHUNKS {
         let c = copies[i];
         m = with_read(m, c);
         i = i + 1;
@@ -295,7 +293,7 @@ fn greatest_read(copies: [Copy; CHUNKS]) -> Timestamp
 }
 
 // Where l is later than w, its value; else V.
-fn value(copies: [Copy; CHUNKS], w: Timestamp, q: Waiting, l: Timestamp) -> u64
+fn value(copies: [Copy; rules::CHUNKS], w: Timestamp, q: Waiting, l: Timestamp) -> u64
     ensures { λ r. ⌜ r ≡ if l above w then valueOf (first zeroEntry (writeWith l) (inOrder q) .kind) else first noCopy (beside w) copies .block .value ⌝ }
 {
     if w.0 < l.0 {
@@ -305,7 +303,7 @@ fn value(copies: [Copy; CHUNKS], w: Timestamp, q: Waiting, l: Timestamp) -> u64
 }
 
 // "The latest committed one, else V and W, .. last read becomes the greatest over the set".
-fn settled_block(copies: [Copy; CHUNKS]) -> Record
+fn settled_block(copies: [Copy; rules::CHUNKS]) -> Record
     ensures { λ r. ⌜ r ≡ settledRecord copies ⌝ }
 {
     let w = greatest_write(copies);
@@ -338,13 +336,13 @@ fn with_block(r: Record, c: Copy) -> Copy
 }
 
 // Every chunk of the set has the settled block; what waits in the others goes too.
-pub fn settle(copies: [Copy; CHUNKS]) -> [Copy; CHUNKS]
+pub fn settle(copies: [Copy; rules::CHUNKS]) -> [Copy; rules::CHUNKS]
     ensures { λ r. ⌜ r ≡ settled copies ⌝ }
 {
     let r = settled_block(copies);
     let mut out = copies;
     let mut i: usize = 0;
-    while i < CHUNKS {
+    while i < rules::CHUNKS {
         let c = copies[i];
         out[i] = with_block(r, c);
         i = i + 1;
@@ -353,8 +351,8 @@ pub fn settle(copies: [Copy; CHUNKS]) -> [Copy; CHUNKS]
 }
 
 // Code 6: "every chunk of its set is lost".
-pub fn all_lost(copies: [Copy; CHUNKS]) -> bool
+pub fn all_lost(copies: [Copy; rules::CHUNKS]) -> bool
     ensures { λ r. ⌜ r ≡ allLost copies ⌝ }
 {
-    !(lowest(copies) < CHUNKS)
+    !(lowest(copies) < rules::CHUNKS)
 }

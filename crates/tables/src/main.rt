@@ -1,5 +1,6 @@
 // Tables handed in, one for each clause of document 01's sentence on well-formed tables and one on each limit just inside and just
 // outside. Each is asked event 8 (refresh of host 0). A line has the part, the case and the answer's code: 0 inside, 8 outside.
+ghost use Prim.Native.Nat.{_<_, _≤_};
 use rules::Action;
 use rules::Attempt;
 use rules::Chunk;
@@ -21,7 +22,6 @@ use rules::State;
 use rules::Table;
 use rules::Timestamp;
 use rules::Waiting;
-ghost use Prim.Native.Nat.{_<_, _≤_};
 
 // The greatest timestamp, and the greatest clock and epoch.
 const TIMESTAMP: u64 = 34359738367;

@@ -14,8 +14,8 @@ use Rattle.rules.specs.Timestamps.{_is_, _below_}
 use Rattle.rules.specs.Waiting.{inOrder, holding, insert, inserted, headRemoved, firstWith, decided, mark, marked}
 use Rattle.rules.specs.Words.{place, filled}
 use Rattle.rules.specs.Zero.{zeroEntry}
-use Rattle.rules.proofs.Lists.{filled-past, filled-take}
-use Rattle.rules.proofs.Loops.{place-other, place-here, place-le, mixed, mixed-more, mixed-whole, take-rest, taken-at, opened, opened-length, filled-length, filled-at, filled-set, filled-opened, filled-same, filled-any}
+use Rattle.rules.proofs.Lists.{filled-past, filled-take, filled-at, filled-any}
+use Rattle.rules.proofs.Loops.{place-other, place-here, place-le, mixed, mixed-more, mixed-whole, take-rest, taken-at, opened, opened-length, filled-length, filled-set, filled-opened, filled-same}
 use Rattle.rules.proofs.Order.{behind, insert-place}
 
 -- an array of eight with l in its first places

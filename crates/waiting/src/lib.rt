@@ -1,7 +1,7 @@
 // The waiting list of a block in a chunk. Each function is total: a count above 8 stands for 8 entries, and what lies in unused places
 // does not survive.
-ghost use mathlib.Core.Path.{_≡_};
 ghost use Prim.Native.Nat.{_≤_};
+ghost use mathlib.Core.Path.{_≡_};
 ghost use lib.ListN.{length};
 ghost use Rattle.rules.specs.Limits.{waitingLimit};
 ghost use Rattle.rules.specs.Waiting.{inOrder, holding, inserted, head, headRemoved, firstWith, decidedKind, decided, marked};

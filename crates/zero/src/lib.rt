@@ -1,4 +1,6 @@
 // What zero is for each type: unused places hold it, and a created store begins with it.
+ghost use mathlib.Core.Path.{_≡_};
+ghost use Rattle.rules.specs.Zero.{zeroSet, zeroEntry, zeroWaiting, zeroRecord, zeroChunk, zeroOperation, zeroAttempt, zeroHost};
 use rules::Action;
 use rules::Attempt;
 use rules::Chunk;
@@ -13,8 +15,6 @@ use rules::Set;
 use rules::State;
 use rules::Timestamp;
 use rules::Waiting;
-ghost use mathlib.Core.Path.{_≡_};
-ghost use Rattle.rules.specs.Zero.{zeroSet, zeroEntry, zeroWaiting, zeroRecord, zeroChunk, zeroOperation, zeroAttempt, zeroHost};
 
 // The set with no chunk in it.
 pub fn set() -> Set

@@ -1,7 +1,7 @@
 -- `arrival::arrive` meets its contract
 use mathlib.Core.Path.{sym, _∙_}
-use Rattle.arrival.proofs.Laws.{noticed, unnoticed}
 use borrow.Author.Needs.{needs}
+use Rattle.arrival.proofs.Laws.{noticed, unnoticed}
 use Rattle.arrival.proofs.arrive.Statement.{statement}
 use Rattle.arrival.proofs.arrive.Tie as tie
 

@@ -1,7 +1,7 @@
 -- `chunk::fail` meets its contract
 use mathlib.Core.Path.{_∙_}
-use Rattle.chunk.proofs.Laws.{changed-as}
 use borrow.Author.Needs.{needs}
+use Rattle.chunk.proofs.Laws.{changed-as}
 use Rattle.chunk.proofs.fail.Statement.{statement}
 use Rattle.chunk.proofs.fail.Tie as tie
 

@@ -1,7 +1,7 @@
 -- `chunk::is_overdue` meets its contract
 use native.Mathlib.Omega.{arith}
-use borrow.Author.Needs.{needs}
 use lib.Dec.{leb}
+use borrow.Author.Needs.{needs}
 use borrow.Author.Tests.{leb-true}
 use Rattle.rules.proofs.Lists.{both}
 use Rattle.chunk.proofs.Difference.{below-zero, not-below-zero}

@@ -2,9 +2,9 @@
 use mathlib.Core.Path.{_≡_, refl, sym, ap}
 use mathlib.Core.Bool.{true}
 use native.Mathlib.Omega.{arith}
-use borrow.Author.Needs.{needs}
 use lib.ListN.{length, length-map}
 use lib.Seq.{set-out}
+use borrow.Author.Needs.{needs}
 use Rattle.rules.specs.Chunks.{withReconcile}
 use Rattle.chunk.proofs.join_set.Statement.{statement}
 use Rattle.chunk.proofs.join_set.Tie as tie

@@ -1,6 +1,6 @@
 -- `chunk::run` meets its contract
-use Rattle.chunk.proofs.Laws.{run-refused, run-granted}
 use borrow.Author.Needs.{needs}
+use Rattle.chunk.proofs.Laws.{run-refused, run-granted}
 use Rattle.chunk.proofs.run.Statement.{statement}
 use Rattle.chunk.proofs.run.Tie as tie
 

@@ -1,7 +1,7 @@
 -- `chunk::take_lease` meets its contract
 use mathlib.Core.Path.{_∙_}
-use Rattle.chunk.proofs.Laws.{changed-as}
 use borrow.Author.Needs.{needs}
+use Rattle.chunk.proofs.Laws.{changed-as}
 use Rattle.chunk.proofs.take_lease.Statement.{statement}
 use Rattle.chunk.proofs.take_lease.Tie as tie
 

@@ -2,12 +2,12 @@
 use Prim.Native.Nat.{ℕ}
 use mathlib.Core.Path.{_≡_, sym, ap, _∙_}
 use mathlib.Core.Bool.{true}
+use borrow.Author.Needs.{needs}
 use borrow.Author.Tests.{not-true, not-false}
 use Rattle.rules.specs.declared.Table.{Table}
 use Rattle.rules.specs.declared.Created.{Created}
 use Rattle.rules.specs.Creation.{isCreation}
 use Rattle.rules.proofs.Events.{creation-granted, creation-refused}
-use borrow.Author.Needs.{needs}
 use Rattle.creation.proofs.create.Statement.{statement}
 use Rattle.creation.proofs.create.Tie as tie
 

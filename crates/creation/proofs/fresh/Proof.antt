@@ -1,7 +1,7 @@
 -- `creation::fresh` meets its contract
 use mathlib.Core.Path.{_∙_}
-use Rattle.creation.proofs.Laws.{fresh-parts}
 use borrow.Author.Needs.{needs}
+use Rattle.creation.proofs.Laws.{fresh-parts}
 use Rattle.creation.proofs.fresh.Statement.{statement}
 use Rattle.creation.proofs.fresh.Tie as tie
 

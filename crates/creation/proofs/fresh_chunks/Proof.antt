@@ -2,12 +2,12 @@
 use Prim.Native.Nat.{_-_, _≤_}
 use mathlib.Core.Path.{_≡_}
 use native.Mathlib.Omega.{arith}
+use borrow.Author.Needs.{needs}
 use Rattle.rules.specs.Creation.{freshChunk, fresh}
 use Rattle.rules.specs.Limits.{chunkLimit}
 use Rattle.rules.specs.Zero.{zeroChunk}
 use Rattle.rules.proofs.Formed.{creation-facts}
 use Rattle.rules.proofs.Loops.{made, made-blank, made-next}
-use borrow.Author.Needs.{needs}
 use Rattle.creation.proofs.fresh_chunks.Statement.{statement}
 use Rattle.creation.proofs.fresh_chunks.Tie as tie
 

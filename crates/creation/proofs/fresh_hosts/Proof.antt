@@ -2,12 +2,12 @@
 use Prim.Native.Nat.{_-_, _≤_}
 use mathlib.Core.Path.{_≡_}
 use native.Mathlib.Omega.{arith}
+use borrow.Author.Needs.{needs}
 use Rattle.rules.specs.Creation.{freshHost, fresh}
 use Rattle.rules.specs.Limits.{hostLimit}
 use Rattle.rules.specs.Zero.{zeroHost}
 use Rattle.rules.proofs.Formed.{creation-facts}
 use Rattle.rules.proofs.Loops.{made, made-blank, made-next}
-use borrow.Author.Needs.{needs}
 use Rattle.creation.proofs.fresh_hosts.Statement.{statement}
 use Rattle.creation.proofs.fresh_hosts.Tie as tie
 

@@ -4,6 +4,7 @@ use mathlib.Core.Path.{_≡_, sym, ap, _∙_}
 use mathlib.Core.Bool.{Bool, false, _&&_}
 use mathlib.Core.List.{[]}
 use native.Mathlib.Omega.{arith}
+use borrow.Author.Needs.{needs}
 use Rattle.rules.specs.declared.Table.{Table}
 use Rattle.rules.specs.Settlement.{allLost}
 use Rattle.rules.specs.Tables.{isBlock}
@@ -11,7 +12,6 @@ use Rattle.rules.specs.Words.{some, numbers}
 use Rattle.rules.proofs.Loops.{some-begin, some-next, some-stop}
 use Rattle.epoch.specs.Parts.{tableOf, lostAt}
 use Rattle.epoch.proofs.Laws.{lost-marks}
-use borrow.Author.Needs.{needs}
 use Rattle.epoch.proofs.any_all_lost.Statement.{statement}
 use Rattle.epoch.proofs.any_all_lost.Tie as tie
 

@@ -3,10 +3,10 @@ use Prim.Native.Nat.{_-_, _≤_}
 use mathlib.Core.Path.{_≡_, sym, _∙_}
 use mathlib.Core.Bool.{false}
 use native.Mathlib.Omega.{arith}
+use borrow.Author.Needs.{needs}
 use Rattle.rules.specs.Words.{some, numbers}
 use Rattle.rules.proofs.Loops.{some-begin, some-next, some-stop}
 use Rattle.epoch.specs.Parts.{failedAt}
-use borrow.Author.Needs.{needs}
 use Rattle.epoch.proofs.any_failed.Statement.{statement}
 use Rattle.epoch.proofs.any_failed.Tie as tie
 

@@ -1,11 +1,11 @@
 -- `epoch::change_code` meets its contract
 use mathlib.Core.Path.{_≡_, sym, _∙_}
 use mathlib.Core.Bool.{false}
+use borrow.Author.Needs.{needs}
 use Rattle.rules.specs.Limits.{chunkLimit}
 use Rattle.rules.specs.Words.{some, numbers}
 use Rattle.rules.proofs.Loops.{refused-here, refused-later, refused-nowhere}
 use Rattle.epoch.specs.Parts.{failedAt}
-use borrow.Author.Needs.{needs}
 use Rattle.epoch.proofs.change_code.Statement.{statement}
 use Rattle.epoch.proofs.change_code.Tie as tie
 

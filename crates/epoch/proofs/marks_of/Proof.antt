@@ -5,13 +5,13 @@ use mathlib.Core.Bool.{false}
 use mathlib.Core.List.{List}
 use native.Mathlib.Omega.{arith}
 use lib.ListN.{getD}
+use borrow.Author.Needs.{needs}
 use Rattle.rules.specs.declared.Set.{Set}
 use Rattle.rules.specs.declared.Chunk.{Chunk}
 use Rattle.rules.specs.declared.Copy.{Copy}
 use Rattle.rules.specs.Tables.{setOf}
 use Rattle.rules.specs.Zero.{_among_, zeroRecord, noChunk}
 use Rattle.rules.proofs.Loops.{made, made-blank, made-next, made-end}
-use borrow.Author.Needs.{needs}
 use Rattle.epoch.proofs.marks_of.Statement.{statement}
 use Rattle.epoch.proofs.marks_of.Tie as tie
 

@@ -3,10 +3,10 @@ use Prim.Native.Nat.{ℕ, _-_, _≤_}
 use mathlib.Core.Path.{_≡_, refl, ap, _∙_}
 use native.Mathlib.Omega.{arith}
 use lib.ListN.{length, getD}
+use borrow.Author.Needs.{needs}
 use Rattle.rules.specs.declared.Chunk.{Chunk}
 use Rattle.rules.specs.Zero.{noChunk}
 use Rattle.rules.proofs.Loops.{made, made-begin, made-next, made-end}
-use borrow.Author.Needs.{needs}
 use Rattle.epoch.specs.Parts.{renewedWith}
 use Rattle.epoch.proofs.renew.Statement.{statement}
 use Rattle.epoch.proofs.renew.Tie as tie

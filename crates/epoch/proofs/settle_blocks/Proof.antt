@@ -3,6 +3,7 @@ use Prim.Native.Nat.{ℕ, _-_, _≤_}
 use mathlib.Core.Path.{_≡_, ap, _∙_}
 use native.Mathlib.Omega.{arith}
 use lib.ListN.{length}
+use borrow.Author.Needs.{needs}
 use Rattle.rules.specs.declared.Table.{Table}
 use Rattle.rules.specs.Events.{copyOf, copiesOf}
 use Rattle.rules.specs.Settlement.{settled}
@@ -10,7 +11,6 @@ use Rattle.rules.specs.Tables.{recordsBy}
 use Rattle.rules.proofs.Loops.{made, made-end}
 use Rattle.epoch.specs.Parts.{tableOf, markedOnly}
 use Rattle.epoch.proofs.Laws.{records-length, gathered-begin, gathered-next, storedTo, stored-begin, stored-next, stored-end, settledTo, settled-begin, settled-next, settled-end}
-use borrow.Author.Needs.{needs}
 use Rattle.epoch.proofs.settle_blocks.Statement.{statement}
 use Rattle.epoch.proofs.settle_blocks.Tie as tie
 

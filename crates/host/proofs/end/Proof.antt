@@ -1,7 +1,7 @@
 -- `host::end` meets its contract
 use mathlib.Core.Path.{refl}
-use Rattle.rules.specs.Hosts.{finished}
 use borrow.Author.Needs.{needs}
+use Rattle.rules.specs.Hosts.{finished}
 use Rattle.host.proofs.end.Statement.{statement}
 use Rattle.host.proofs.end.Tie as tie
 

@@ -1,6 +1,6 @@
 -- `host::finish` meets its contract
-use Rattle.host.proofs.Laws.{finish-refused, finish-granted}
 use borrow.Author.Needs.{needs}
+use Rattle.host.proofs.Laws.{finish-refused, finish-granted}
 use Rattle.host.proofs.finish.Statement.{statement}
 use Rattle.host.proofs.finish.Tie as tie
 

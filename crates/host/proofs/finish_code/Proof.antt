@@ -4,11 +4,11 @@ use mathlib.Core.Path.{_≡_, sym, ap, _∙_}
 use mathlib.Core.Bool.{not}
 use mathlib.Core.List.{List}
 use lib.ListN.{drop}
+use borrow.Author.Needs.{needs}
 use Rattle.rules.specs.Codes.{Row, codeOf}
 use Rattle.rules.specs.Hosts.{finishRefusals}
 use Rattle.rules.specs.Network.{freePlaces, howMany}
 use Rattle.rules.proofs.Loops.{refused-here, refused-later, refused-nowhere}
-use borrow.Author.Needs.{needs}
 use Rattle.host.proofs.finish_code.Statement.{statement}
 use Rattle.host.proofs.finish_code.Tie as tie
 

@@ -1,7 +1,7 @@
 -- `host::finish_outcome` meets its contract
 use mathlib.Core.Path.{refl}
-use Rattle.rules.specs.Hosts.{finishOutcome}
 use borrow.Author.Needs.{needs}
+use Rattle.rules.specs.Hosts.{finishOutcome}
 use Rattle.host.proofs.finish_outcome.Statement.{statement}
 use Rattle.host.proofs.finish_outcome.Tie as tie
 

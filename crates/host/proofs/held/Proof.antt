@@ -1,8 +1,8 @@
 -- `host::held` meets its contract
 use mathlib.Core.Path.{_≡_, sym}
 use lib.ListN.{length, length-map}
-use Rattle.rules.proofs.Loops.{take-count, take-whole}
 use borrow.Author.Needs.{needs}
+use Rattle.rules.proofs.Loops.{take-count, take-whole}
 use Rattle.host.proofs.held.Statement.{statement}
 use Rattle.host.proofs.held.Tie as tie
 

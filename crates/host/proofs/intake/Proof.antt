@@ -1,7 +1,7 @@
 -- `host::intake` meets its contract
+use borrow.Author.Needs.{needs}
 use Rattle.rules.specs.Hosts.{appended}
 use Rattle.host.proofs.Laws.{unmoved, moves}
-use borrow.Author.Needs.{needs}
 use Rattle.host.proofs.intake.Statement.{statement}
 use Rattle.host.proofs.intake.Tie as tie
 

@@ -3,10 +3,10 @@ use Prim.Native.Nat.{_-_, _≤_}
 use mathlib.Core.Path.{_≡_, refl}
 use mathlib.Core.Bool.{false}
 use native.Mathlib.Omega.{arith}
+use borrow.Author.Needs.{needs}
 use Rattle.rules.specs.Words.{some, numbers}
 use Rattle.rules.specs.Zero.{_among_}
 use Rattle.rules.proofs.Loops.{some-begin, some-next, some-stop}
-use borrow.Author.Needs.{needs}
 use Rattle.host.proofs.is_outstanding.Statement.{statement}
 use Rattle.host.proofs.is_outstanding.Tie as tie
 

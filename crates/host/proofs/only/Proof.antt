@@ -5,8 +5,8 @@ use mathlib.Core.Bool.{true, false}
 use native.Mathlib.Omega.{arith}
 use lib.ListN.{length, replicate}
 use lib.Seq.{set-out}
-use Rattle.rules.proofs.Loops.{marked-only}
 use borrow.Author.Needs.{needs}
+use Rattle.rules.proofs.Loops.{marked-only}
 use Rattle.host.proofs.only.Statement.{statement}
 use Rattle.host.proofs.only.Tie as tie
 

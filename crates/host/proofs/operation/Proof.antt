@@ -4,8 +4,8 @@ use mathlib.Core.Path.{sym, _∙_}
 use native.Mathlib.Omega.{arith}
 use lib.ListN.{length, take, length-take, List·getD-eq-default}
 use lib.Seq.{getD-take}
-use Rattle.rules.specs.Zero.{zeroOperation}
 use borrow.Author.Needs.{needs}
+use Rattle.rules.specs.Zero.{zeroOperation}
 use Rattle.host.proofs.operation.Statement.{statement}
 use Rattle.host.proofs.operation.Tie as tie
 

@@ -4,10 +4,11 @@ use mathlib.Core.Path.{_≡_, refl, sym, _∙_}
 use native.Mathlib.Omega.{arith}
 use lib.ListN.{length, getD, take, drop, length-map}
 use lib.Seq.{getD-drop}
+use borrow.Author.Needs.{needs}
 use Rattle.rules.specs.Words.{filled}
 use Rattle.rules.specs.Zero.{zeroOperation}
-use Rattle.rules.proofs.Loops.{mixed, mixed-more, mixed-end, filled-length, filled-at}
-use borrow.Author.Needs.{needs}
+use Rattle.rules.proofs.Lists.{filled-at}
+use Rattle.rules.proofs.Loops.{mixed, mixed-more, mixed-end, filled-length}
 use Rattle.host.proofs.operations_from.Statement.{statement}
 use Rattle.host.proofs.operations_from.Tie as tie
 

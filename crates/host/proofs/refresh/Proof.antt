@@ -1,6 +1,6 @@
 -- `host::refresh` meets its contract
-use Rattle.host.proofs.Laws.{unmoved, moves}
 use borrow.Author.Needs.{needs}
+use Rattle.host.proofs.Laws.{unmoved, moves}
 use Rattle.host.proofs.refresh.Statement.{statement}
 use Rattle.host.proofs.refresh.Tie as tie
 

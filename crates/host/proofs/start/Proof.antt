@@ -1,6 +1,6 @@
 -- `host::start` meets its contract
-use Rattle.host.proofs.Laws.{start-refused, start-granted}
 use borrow.Author.Needs.{needs}
+use Rattle.host.proofs.Laws.{start-refused, start-granted}
 use Rattle.host.proofs.start.Statement.{statement}
 use Rattle.host.proofs.start.Tie as tie
 

@@ -3,15 +3,15 @@ use Prim.Native.Nat.{ℕ}
 use mathlib.Core.Path.{_≡_, refl, sym, _∙_}
 use mathlib.Core.Bool.{_&&_, not}
 use mathlib.Core.List.{List}
-use borrow.Author.Tests.{lt-leb, le-leb, eq-eqb, ne-eqb}
 use lib.ListN.{drop}
+use borrow.Author.Needs.{needs}
+use borrow.Author.Tests.{lt-leb, le-leb, eq-eqb, ne-eqb}
 use Rattle.rules.specs.Codes.{Row, codeOf}
 use Rattle.rules.specs.Hosts.{front, startRefusals}
 use Rattle.rules.specs.Kinds.{isReading}
 use Rattle.rules.specs.Zero.{_among_}
 use Rattle.rules.specs.Network.{freePlaces, howMany}
 use Rattle.rules.proofs.Loops.{refused-here, refused-later, refused-nowhere}
-use borrow.Author.Needs.{needs}
 use Rattle.host.proofs.start_code.Statement.{statement}
 use Rattle.host.proofs.start_code.Tie as tie
 

@@ -1,6 +1,6 @@
 -- `host::stop` meets its contract
-use Rattle.host.proofs.Laws.{unmoved, moves}
 use borrow.Author.Needs.{needs}
+use Rattle.host.proofs.Laws.{unmoved, moves}
 use Rattle.host.proofs.stop.Statement.{statement}
 use Rattle.host.proofs.stop.Tie as tie
 

@@ -1,6 +1,6 @@
 -- `host::time_out` meets its contract
-use Rattle.host.proofs.Laws.{unmoved, moves}
 use borrow.Author.Needs.{needs}
+use Rattle.host.proofs.Laws.{unmoved, moves}
 use Rattle.host.proofs.time_out.Statement.{statement}
 use Rattle.host.proofs.time_out.Tie as tie
 

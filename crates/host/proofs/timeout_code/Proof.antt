@@ -1,7 +1,7 @@
 -- `host::timeout_code` meets its contract
 use mathlib.Core.Path.{refl}
-use Rattle.rules.specs.Codes.{codeOf}
 use borrow.Author.Needs.{needs}
+use Rattle.rules.specs.Codes.{codeOf}
 use Rattle.host.proofs.timeout_code.Statement.{statement}
 use Rattle.host.proofs.timeout_code.Tie as tie
 

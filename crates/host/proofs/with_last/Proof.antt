@@ -1,16 +1,16 @@
 -- `host::with_last` meets its contract
 use Prim.Native.Nat.{_≤_}
 use mathlib.Core.Path.{_≡_, refl, sym, _∙_}
-use mathlib.Core.List.{[], _∷_, _++_}
 use mathlib.Core.Logic.{⊎-elim}
+use mathlib.Core.List.{[], _∷_, _++_}
 use native.Mathlib.Omega.{arith}
 use lib.ListN.{length, set, take, length-append}
 use lib.Seq.{set-out}
+use borrow.Author.Needs.{needs}
 use Rattle.rules.specs.Words.{filled}
 use Rattle.rules.specs.Zero.{zeroOperation}
 use Rattle.rules.proofs.Loops.{filled-length, filled-more}
 use Rattle.host.proofs.Laws.{queue-is}
-use borrow.Author.Needs.{needs}
 use Rattle.host.proofs.with_last.Statement.{statement}
 use Rattle.host.proofs.with_last.Tie as tie
 

@@ -1,8 +1,8 @@
 -- `host::without_front` meets its contract
 use native.Mathlib.Omega.{arith}
 use lib.ListN.{take, drop, length-drop}
-use Rattle.host.proofs.Laws.{queue-is}
 use borrow.Author.Needs.{needs}
+use Rattle.host.proofs.Laws.{queue-is}
 use Rattle.host.proofs.without_front.Statement.{statement}
 use Rattle.host.proofs.without_front.Tie as tie
 

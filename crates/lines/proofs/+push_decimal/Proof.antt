@@ -4,12 +4,12 @@ use mathlib.Core.Path.{_∙_}
 use native.Mathlib.Omega.{arith}
 use borrow.Fn.Kinds.{In}
 use borrow.Fn.PlainCycle.{Measures, is, falls, and}
-use Rattle.lines.proofs.push_decimal.Reads as push-decimal
 use Rattle.lines.proofs.push_decimal.Kinds as push-decimal-kinds
 use Rattle.lines.proofs.+push_decimal.Lts-push_decimal as push-decimal-lts
-use Rattle.lines.proofs.push.Reads as push-reads
 use Rattle.lines.proofs.Texts.{push-one, push-more}
 use Rattle.lines.proofs.+push_decimal.{statement}
+use Rattle.lines.proofs.push_decimal.Reads as push-decimal
+use Rattle.lines.proofs.push.Reads as push-reads
 use Rattle.lines.proofs.+push_decimal.Tie.{close}
 
 abbrev μ-push-decimal : Measures 0 push-decimal-kinds.ps ℕ

@@ -3,8 +3,8 @@ use Prim.Native.Nat.{_-_, _≤_}
 use mathlib.Core.Path.{_≡_, refl, sym, _∙_}
 use native.Mathlib.Omega.{arith}
 use lib.ListN.{length, drop}
-use borrow.Author.Tests.{lt-ltb, le-ltb}
 use borrow.Author.Needs.{needs}
+use borrow.Author.Tests.{lt-ltb, le-ltb}
 use Rattle.rules.specs.Words.{every}
 use Rattle.rules.proofs.Loops.{every-other, every-here, every-end}
 use Rattle.lines.specs.Meanings.{isSum}

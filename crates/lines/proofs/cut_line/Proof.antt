@@ -2,8 +2,8 @@
 use Prim.Native.Nat.{_+_, _-_}
 use mathlib.Core.Path.{_≡_, refl, ap, _∙_}
 use lib.ListN.{length}
-use borrow.Author.Tests.{eq-eqb, ne-eqb}
 use borrow.Author.Needs.{needs}
+use borrow.Author.Tests.{eq-eqb, ne-eqb}
 use Rattle.lines.specs.declared.Text.{Text}
 use Rattle.lines.specs.Texts.{cutAt}
 use Rattle.lines.proofs.Texts.{cut-end, cut-here, cut-other}

@@ -1,7 +1,7 @@
 -- `lines::end_word` meets its contract
 use mathlib.Core.Path.{refl}
-use borrow.Author.Tests.{not-true, not-false}
 use borrow.Author.Needs.{needs}
+use borrow.Author.Tests.{not-true, not-false}
 use Rattle.lines.specs.Steps.{ended}
 use Rattle.lines.proofs.end_word.Statement.{statement}
 use Rattle.lines.proofs.end_word.Tie as tie

@@ -1,7 +1,7 @@
 -- `lines::push` meets its contract
 use mathlib.Core.Path.{refl}
-use borrow.Author.Tests.{lt-ltb, le-ltb}
 use borrow.Author.Needs.{needs}
+use borrow.Author.Tests.{lt-ltb, le-ltb}
 use Rattle.lines.specs.Texts.{followed}
 use Rattle.lines.proofs.push.Statement.{statement}
 use Rattle.lines.proofs.push.Tie as tie

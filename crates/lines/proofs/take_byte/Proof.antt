@@ -1,8 +1,8 @@
 -- `lines::take_byte` meets its contract: one law a way
 use Prim.Native.Nat.{ℕ, _-_}
 use mathlib.Core.Path.{_∙_, ap}
-use borrow.Author.Tests.{not-true, not-false}
 use borrow.Author.Needs.{needs}
+use borrow.Author.Tests.{not-true, not-false}
 use Rattle.lines.specs.Steps.{continued}
 use Rattle.lines.proofs.Laws.{taken-bad, taken-space, taken-below, taken-above, taken-digit}
 use Rattle.lines.proofs.take_byte.Statement.{statement}

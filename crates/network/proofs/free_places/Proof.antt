@@ -4,11 +4,11 @@ use mathlib.Core.Path.{_≡_, sym, _∙_}
 use mathlib.Core.Logic.{⊎-elim}
 use native.Mathlib.Omega.{arith}
 use lib.ListN.{length, drop, drop-of-length-le}
+use borrow.Author.Needs.{needs}
 use Rattle.rules.specs.Network.{isFree, freePlaces}
 use Rattle.rules.specs.Words.{those}
 use Rattle.rules.specs.Zero.{zeroPlace}
 use Rattle.rules.proofs.Loops.{drop-more, count-here, count-other, count-end}
-use borrow.Author.Needs.{needs}
 use Rattle.network.proofs.free_places.Statement.{statement}
 use Rattle.network.proofs.free_places.Tie as tie
 

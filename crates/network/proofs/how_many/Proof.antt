@@ -4,11 +4,11 @@ use mathlib.Core.Path.{_≡_}
 use mathlib.Core.Logic.{⊎-elim}
 use native.Mathlib.Omega.{arith}
 use lib.ListN.{length, drop}
+use borrow.Author.Needs.{needs}
 use Rattle.rules.specs.Network.{chunksOf, howMany}
 use Rattle.rules.specs.Words.{those, numbers}
 use Rattle.rules.specs.Zero.{_among_}
 use Rattle.rules.proofs.Loops.{numbers-more, numbers-end, count-here, count-other, count-end}
-use borrow.Author.Needs.{needs}
 use Rattle.network.proofs.how_many.Statement.{statement}
 use Rattle.network.proofs.how_many.Tie as tie
 

@@ -3,11 +3,11 @@ use Prim.Native.Nat.{_+_, _-_, _≤_}
 use mathlib.Core.Path.{_≡_, sym, _∙_}
 use native.Mathlib.Omega.{arith}
 use lib.ListN.{length, drop}
+use borrow.Author.Needs.{needs}
 use Rattle.rules.specs.Network.{isFree}
 use Rattle.rules.specs.Words.{place}
 use Rattle.rules.specs.Zero.{zeroPlace}
 use Rattle.rules.proofs.Loops.{place-other, place-here, place-end}
-use borrow.Author.Needs.{needs}
 use Rattle.network.proofs.lowest_free.Statement.{statement}
 use Rattle.network.proofs.lowest_free.Tie as tie
 

@@ -1,7 +1,7 @@
 -- `network::place_code` meets its contract
 use mathlib.Core.Path.{refl, sym, _∙_}
-use Rattle.rules.specs.Codes.{codeOf}
 use borrow.Author.Needs.{needs}
+use Rattle.rules.specs.Codes.{codeOf}
 use Rattle.network.proofs.place_code.Statement.{statement}
 use Rattle.network.proofs.place_code.Tie as tie
 

@@ -1,7 +1,7 @@
 -- `network::reply` meets its contract
 use mathlib.Core.Path.{refl}
-use Rattle.rules.specs.Network.{replied}
 use borrow.Author.Needs.{needs}
+use Rattle.rules.specs.Network.{replied}
 use Rattle.network.proofs.reply.Statement.{statement}
 use Rattle.network.proofs.reply.Tie as tie
 

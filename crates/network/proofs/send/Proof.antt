@@ -4,8 +4,8 @@ use mathlib.Core.Path.{refl, sym}
 use native.Mathlib.Omega.{arith}
 use lib.ListN.{length}
 use lib.Seq.{set-out}
-use Rattle.rules.specs.Network.{sent}
 use borrow.Author.Needs.{needs}
+use Rattle.rules.specs.Network.{sent}
 use Rattle.network.proofs.send.Statement.{statement}
 use Rattle.network.proofs.send.Tie as tie
 

@@ -4,11 +4,11 @@ use mathlib.Core.Path.{_≡_, refl, sym, ap, _∙_}
 use mathlib.Core.Logic.{⊎-elim}
 use native.Mathlib.Omega.{arith}
 use lib.ListN.{drop}
+use borrow.Author.Needs.{needs}
 use Rattle.rules.specs.Network.{sent}
 use Rattle.rules.specs.Words.{fold, numbers}
 use Rattle.network.specs.Steps.{requestTo, sentTo}
 use Rattle.network.proofs.Laws.{sent-all, sent-more, sent-end}
-use borrow.Author.Needs.{needs}
 use Rattle.network.proofs.send_to_each.Statement.{statement}
 use Rattle.network.proofs.send_to_each.Tie as tie
 

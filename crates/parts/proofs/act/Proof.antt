@@ -1,8 +1,8 @@
 -- `parts::act` meets its contract
 use mathlib.Core.Path.{refl, _∙_}
+use borrow.Author.Needs.{needs}
 use borrow.Author.Tests.{ne-eqb}
 use Rattle.parts.specs.Acts.{acted}
-use borrow.Author.Needs.{needs}
 use Rattle.parts.proofs.act.Statement.{statement}
 use Rattle.parts.proofs.act.Tie as tie
 

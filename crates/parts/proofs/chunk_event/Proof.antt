@@ -1,7 +1,7 @@
 -- `parts::chunk_event` meets its contract
+use borrow.Author.Needs.{needs}
 use borrow.Author.Tests.{ne-eqb}
 use Rattle.parts.specs.Acts.{chunkChanged}
-use borrow.Author.Needs.{needs}
 use Rattle.parts.proofs.chunk_event.Statement.{statement}
 use Rattle.parts.proofs.chunk_event.Tie as tie
 

@@ -1,7 +1,7 @@
 -- `parts::host_event` meets its contract
+use borrow.Author.Needs.{needs}
 use borrow.Author.Tests.{ne-eqb}
 use Rattle.parts.specs.Acts.{hostMoved}
-use borrow.Author.Needs.{needs}
 use Rattle.parts.proofs.host_event.Statement.{statement}
 use Rattle.parts.proofs.host_event.Tie as tie
 

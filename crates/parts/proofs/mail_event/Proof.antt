@@ -1,8 +1,8 @@
 -- `parts::mail_event` meets its contract
 use mathlib.Core.Path.{refl, sym, _∙_}
+use borrow.Author.Needs.{needs}
 use borrow.Author.Tests.{ne-eqb}
 use Rattle.parts.specs.Acts.{mailTaken}
-use borrow.Author.Needs.{needs}
 use Rattle.parts.proofs.mail_event.Statement.{statement}
 use Rattle.parts.proofs.mail_event.Tie as tie
 

@@ -1,7 +1,7 @@
 -- `parts::taken` meets its contract
 use mathlib.Core.Path.{refl}
-use borrow.Author.Tests.{ne-eqb}
 use borrow.Author.Needs.{needs}
+use borrow.Author.Tests.{ne-eqb}
 use Rattle.parts.proofs.taken.Statement.{statement}
 use Rattle.parts.proofs.taken.Tie as tie
 

@@ -1,6 +1,6 @@
 -- `replies::at_host` meets its contract
-use Rattle.replies.proofs.Laws.{noticed, unnoticed}
 use borrow.Author.Needs.{needs}
+use Rattle.replies.proofs.Laws.{noticed, unnoticed}
 use Rattle.replies.proofs.at_host.Statement.{statement}
 use Rattle.replies.proofs.at_host.Tie as tie
 

@@ -1,3 +1,4 @@
+-- `settle::aborted_with` meets its contract
 use mathlib.Core.Path.{refl}
 use borrow.Author.Needs.{needs}
 use Rattle.settle.proofs.aborted_with.Statement.{statement}

@@ -1,3 +1,4 @@
+-- `settle::agrees` meets its contract
 use mathlib.Core.Path.{refl}
 use borrow.Author.Needs.{needs}
 use Rattle.settle.proofs.agrees.Statement.{statement}

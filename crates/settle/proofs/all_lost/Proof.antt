@@ -1,3 +1,4 @@
+-- `settle::all_lost` meets its contract
 use Prim.Native.Nat.{ℕ}
 use mathlib.Core.Path.{_≡_, sym, ap, _∙_}
 use mathlib.Core.Bool.{not}

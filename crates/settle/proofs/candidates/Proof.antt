@@ -1,3 +1,4 @@
+-- `settle::candidates` meets its contract
 use Prim.Native.Nat.{ℕ}
 use mathlib.Core.Path.{_≡_, sym, ap, _∙_}
 use native.Mathlib.Omega.{arith}

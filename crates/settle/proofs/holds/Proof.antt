@@ -1,3 +1,4 @@
+-- `settle::holds` meets its contract
 use mathlib.Core.Path.{sym}
 use borrow.Author.Needs.{needs}
 use Rattle.rules.specs.Settlement.{writeWith}

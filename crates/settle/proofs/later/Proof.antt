@@ -1,3 +1,4 @@
+-- `settle::later` meets its contract
 use mathlib.Core.Path.{refl}
 use borrow.Author.Tests.{lt-ltb, le-ltb}
 use Rattle.settle.proofs.later.Statement.{statement}

@@ -1,3 +1,4 @@
+-- `settle::settled_block` meets its contract
 use borrow.Author.Needs.{needs}
 use Rattle.settle.proofs.Laws.{block-is}
 use Rattle.settle.proofs.settled_block.Statement.{statement}

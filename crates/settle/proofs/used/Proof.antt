@@ -1,3 +1,4 @@
+-- `settle::used` meets its contract
 use mathlib.Core.Path.{_≡_, sym}
 use lib.ListN.{length, length-map}
 use borrow.Author.Needs.{needs}

@@ -1,3 +1,4 @@
+-- `settle::value` meets its contract
 use borrow.Author.Needs.{needs}
 use borrow.Author.Tests.{lt-ltb, le-ltb}
 use Rattle.settle.proofs.value.Statement.{statement}

@@ -1,3 +1,4 @@
+-- `settle::value_with` meets its contract
 use Prim.Native.Nat.{ℕ}
 use mathlib.Core.Path.{sym, ap, _∙_}
 use native.Mathlib.Omega.{arith}

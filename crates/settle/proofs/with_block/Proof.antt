@@ -1,3 +1,4 @@
+-- `settle::with_block` meets its contract
 use mathlib.Core.Path.{refl}
 use borrow.Author.Needs.{needs}
 use Rattle.settle.proofs.with_block.Statement.{statement}

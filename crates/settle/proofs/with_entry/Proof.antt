@@ -1,3 +1,4 @@
+-- `settle::with_entry` meets its contract
 use mathlib.Core.Path.{refl}
 use borrow.Author.Needs.{needs}
 use Rattle.settle.proofs.with_entry.Statement.{statement}

@@ -1,3 +1,4 @@
+-- `settle::with_read` meets its contract
 use borrow.Author.Needs.{needs}
 use Rattle.settle.proofs.with_read.Statement.{statement}
 use Rattle.settle.proofs.with_read.Tie as tie

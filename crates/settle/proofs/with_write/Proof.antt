@@ -1,3 +1,4 @@
+-- `settle::with_write` meets its contract
 use borrow.Author.Needs.{needs}
 use Rattle.settle.proofs.with_write.Statement.{statement}
 use Rattle.settle.proofs.with_write.Tie as tie

@@ -1,3 +1,4 @@
+-- `settle::write_with` meets its contract
 use mathlib.Core.Path.{refl}
 use borrow.Author.Needs.{needs}
 use Rattle.settle.proofs.write_with.Statement.{statement}

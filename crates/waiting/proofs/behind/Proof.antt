@@ -2,9 +2,9 @@
 use Prim.Native.Nat.{_+_, _-_, _≤_}
 use mathlib.Core.Path.{_≡_}
 use native.Mathlib.Omega.{arith}
+use lib.ListN.{drop}
 use borrow.Author.Needs.{needs}
 use borrow.Author.Tests.{lt-ltb, le-ltb}
-use lib.ListN.{drop}
 use Rattle.rules.specs.Waiting.{inOrder}
 use Rattle.rules.specs.Words.{place}
 use Rattle.rules.specs.Zero.{zeroEntry}

@@ -1,8 +1,8 @@
 -- `waiting::head` meets its contract
 use mathlib.Core.Path.{sym}
 use native.Mathlib.Omega.{arith}
-use borrow.Author.Needs.{needs}
 use lib.Seq.{getD-take}
+use borrow.Author.Needs.{needs}
 use Rattle.rules.specs.Zero.{zeroEntry}
 use Rattle.waiting.proofs.head.Statement.{statement}
 use Rattle.waiting.proofs.head.Tie as tie

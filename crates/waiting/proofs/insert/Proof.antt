@@ -2,8 +2,8 @@
 use Prim.Native.Nat.{_-_, _≤_}
 use mathlib.Core.Path.{_≡_, refl, sym, _∙_}
 use native.Mathlib.Omega.{arith}
-use borrow.Author.Needs.{needs}
 use lib.ListN.{length, getD}
+use borrow.Author.Needs.{needs}
 use Rattle.rules.specs.Zero.{zeroEntry}
 use Rattle.rules.proofs.Loops.{mixed, mixed-at, mixed-more, opened, opened-here, opened-start, opened-length, opened-later}
 use Rattle.waiting.proofs.Laws.{count-is, entries-length, place-inside, put-in}

@@ -2,8 +2,8 @@
 use Prim.Native.Nat.{_+_, _-_, _≤_}
 use mathlib.Core.Path.{_≡_, refl, sym}
 use native.Mathlib.Omega.{arith}
-use borrow.Author.Needs.{needs}
 use lib.ListN.{length, drop, List·getD-eq-default}
+use borrow.Author.Needs.{needs}
 use Rattle.rules.specs.Zero.{zeroEntry}
 use Rattle.rules.proofs.Loops.{mixed, mixed-at, filled-length}
 use Rattle.waiting.proofs.Laws.{places, forward, entries-length, removed, none-removed}

@@ -2,8 +2,8 @@
 use Prim.Native.Nat.{_-_, _≤_}
 use mathlib.Core.Path.{_≡_}
 use native.Mathlib.Omega.{arith}
-use borrow.Author.Needs.{needs}
 use lib.ListN.{length, length-map}
+use borrow.Author.Needs.{needs}
 use Rattle.rules.specs.Waiting.{inOrder}
 use Rattle.rules.proofs.Loops.{mixed}
 use Rattle.waiting.proofs.Laws.{places, tidy-start, tidy-more, tidied}

@@ -1,7 +1,7 @@
 -- `waiting::used` meets its contract
 use mathlib.Core.Path.{_≡_, sym}
-use borrow.Author.Needs.{needs}
 use lib.ListN.{length, length-map}
+use borrow.Author.Needs.{needs}
 use Rattle.rules.proofs.Loops.{take-count, take-whole}
 use Rattle.waiting.proofs.used.Statement.{statement}
 use Rattle.waiting.proofs.used.Tie as tie
