@@ -35,7 +35,7 @@ use Rattle.rules.proofs.Lists.{three}
 use Rattle.rules.proofs.Refusals.{granted-exactly}
 use Rattle.arrival.specs.Arrivals.{arrives}
 use Rattle.keeper.specs.Keeper.{drawn}
-use Rattle.host.specs.Moves.{starts, finishes}
+use Rattle.attempts.specs.Moves.{starts, finishes}
 use Rattle.replies.specs.Replies.{hears}
 use Rattle.parts.specs.declared.Parts.{Parts}
 use Rattle.parts.specs.declared.Acted.{Acted}

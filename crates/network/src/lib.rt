@@ -3,7 +3,7 @@ ghost use mathlib.Core.Path.{_≡_};
 ghost use Rattle.rules.specs.Codes.{codeOf};
 ghost use Rattle.rules.specs.Hosts.{opening, closing};
 ghost use Rattle.rules.specs.Kinds.{headed, isEmptySlot};
-ghost use Rattle.rules.specs.Network.{isFree, freePlaces, removed, sent, howMany, sentToEach, replied, placeRefusals};
+ghost use Rattle.rules.specs.Network.{isFree, freePlaces, removed, sent, sentToEach, replied, placeRefusals};
 ghost use Rattle.rules.specs.Words.{place};
 ghost use Rattle.network.specs.Steps.{messageOf, requestTo};
 use rules::Action;
@@ -108,21 +108,6 @@ pub fn reply(places: [Place; rules::PLACES], s: Slot) -> [Place; rules::PLACES]
         Slot::Empty => places,
         Slot::Full(m) => send(places, m),
     }
-}
-
-// How many chunks a set has, and so how many messages go to it.
-pub fn how_many(to: Set) -> u64
-    ensures { λ r. ⌜ r ≡ howMany to ⌝ }
-{
-    let mut count: u64 = 0;
-    let mut i: usize = 0;
-    while i < rules::CHUNKS {
-        if to.chunks[i] {
-            count = count + 1;
-        }
-        i = i + 1;
-    }
-    count
 }
 
 // What a host asks of each chunk of a set: a start opens its operation there, a finish closes it.

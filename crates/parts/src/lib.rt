@@ -1,8 +1,8 @@
 // One event on the parts of the table that it touches: a host, a chunk, a record, the network. Failure and epoch change touch more.
+use attempts::Sent;
 use chunk::Changed;
 use chunk::Ran;
 use host::Moved;
-use host::Sent;
 use rules::Action;
 use rules::Chunk;
 use rules::Epoch;
@@ -253,11 +253,11 @@ pub fn act(e: Event, p: Parts) -> Acted
     let set = p.set;
     let places = p.places;
     if kind == 3 {
-        let s = host::start(e.a, e.b, e.c, set, h, places);
+        let s = attempts::start(e.a, e.b, e.c, set, h, places);
         return by_messages(p, s);
     }
     if kind == 6 {
-        let s = host::finish(e.a, set, h, places);
+        let s = attempts::finish(e.a, set, h, places);
         return by_messages(p, s);
     }
     if (kind == 1) | (kind == 2) | (kind == 7) | (kind == 8) | (kind == 10) {
