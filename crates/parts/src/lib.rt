@@ -1,7 +1,7 @@
 // One event on the parts of the table that it touches: a host, a chunk, a record, the network. Failure and epoch change touch more.
 use attempts::Sent;
 use chunk::Changed;
-use chunk::Ran;
+use head::Ran;
 use host::Moved;
 use rules::Action;
 use rules::Chunk;
@@ -175,7 +175,7 @@ fn chunk_event(e: Event, c: Chunk, w: Waiting, age: u64) -> Changed
         12 => chunk::recover(c),
         13 => chunk::take_lease(c),
         14 => chunk::give_lease(c),
-        _ => chunk::overdue(c, e.b, w, e.c, age),
+        _ => head::overdue(c, e.b, w, e.c, age),
     }
 }
 
@@ -270,7 +270,7 @@ pub fn act(e: Event, p: Parts) -> Acted
     if kind == 9 {
         let state = c.state;
         let free = network::free_places(places);
-        let a = chunk::run(e.a, e.b, state, r, free);
+        let a = head::run(e.a, e.b, state, r, free);
         return by_run(p, a);
     }
     let w = r.waiting;

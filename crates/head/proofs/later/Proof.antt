@@ -1,8 +1,8 @@
--- `chunk::later` meets its contract
+-- `head::later` meets its contract
 use mathlib.Core.Path.{refl}
 use borrow.Author.Tests.{lt-ltb, le-ltb}
-use Rattle.chunk.proofs.later.Statement.{statement}
-use Rattle.chunk.proofs.later.Tie as tie
+use Rattle.head.proofs.later.Statement.{statement}
+use Rattle.head.proofs.later.Tie as tie
 
 returns : tie.Need-returns
 returns c = rw (lt-ltb _ _ (c .if1 .taken)) refl

@@ -1,8 +1,8 @@
--- `chunk::run` meets its contract
-use Rattle.chunk.proofs.Laws.{run-refused, run-granted}
+-- `head::run` meets its contract
+use Rattle.head.proofs.Laws.{run-refused, run-granted}
 use borrow.Author.Needs.{needs}
-use Rattle.chunk.proofs.run.Statement.{statement}
-use Rattle.chunk.proofs.run.Tie as tie
+use Rattle.head.proofs.run.Statement.{statement}
+use Rattle.head.proofs.run.Tie as tie
 
 run-code-requires : tie.Need-run-code-requires
 run-code-requires c κs = search needs

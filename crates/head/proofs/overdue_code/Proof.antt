@@ -1,4 +1,4 @@
--- `chunk::overdue_code` meets its contract
+-- `head::overdue_code` meets its contract
 use mathlib.Core.Path.{_≡_, sym, ap, _∙_}
 use mathlib.Core.Bool.{not, false}
 use borrow.Author.Needs.{needs}
@@ -7,8 +7,8 @@ use Rattle.rules.specs.Chunks.{isOverdue}
 use Rattle.rules.specs.Kinds.{isNormal, isUndecided}
 use Rattle.rules.specs.Waiting.{head}
 use Rattle.rules.proofs.Loops.{refused-here, refused-later, refused-nowhere}
-use Rattle.chunk.proofs.overdue_code.Statement.{statement}
-use Rattle.chunk.proofs.overdue_code.Tie as tie
+use Rattle.head.proofs.overdue_code.Statement.{statement}
+use Rattle.head.proofs.overdue_code.Tie as tie
 
 normal : (c : tie.Else1) → not (isNormal (c .before .before .args .state)) ≡ false
 normal c = ap not (sym (c .before .is-normal .ensures)) ∙ c .if1 .left

@@ -1,8 +1,8 @@
--- `chunk::signed_above` meets its contract
+-- `head::signed_above` meets its contract
 use borrow.Author.Needs.{needs}
-use Rattle.chunk.proofs.Difference.{difference-fits, difference-above}
-use Rattle.chunk.proofs.signed_above.Statement.{statement}
-use Rattle.chunk.proofs.signed_above.Tie as tie
+use Rattle.head.proofs.Difference.{difference-fits, difference-above}
+use Rattle.head.proofs.signed_above.Statement.{statement}
+use Rattle.head.proofs.signed_above.Tie as tie
 
 cast-difference : tie.Need-cast-difference
 cast-difference c = search needs

@@ -1,4 +1,4 @@
--- `chunk::run_code` meets its contract
+-- `head::run_code` meets its contract
 use mathlib.Core.Path.{_≡_, sym, ap, _∙_}
 use mathlib.Core.Bool.{Bool, false, not, _&&_}
 use lib.Dec.{eqb}
@@ -8,8 +8,8 @@ use Rattle.rules.specs.declared.Entry.{Entry}
 use Rattle.rules.specs.Kinds.{isNormal, isRead, isUndecided}
 use Rattle.rules.specs.Waiting.{head}
 use Rattle.rules.proofs.Loops.{refused-here, refused-later, refused-nowhere}
-use Rattle.chunk.proofs.run_code.Statement.{statement}
-use Rattle.chunk.proofs.run_code.Tie as tie
+use Rattle.head.proofs.run_code.Statement.{statement}
+use Rattle.head.proofs.run_code.Tie as tie
 
 normal : (c : tie.Else1) → not (isNormal (c .before .before .args .state)) ≡ false
 normal c = ap not (sym (c .before .is-normal .ensures)) ∙ c .if1 .left

@@ -1,12 +1,12 @@
--- `chunk::is_overdue` meets its contract
+-- `head::is_overdue` meets its contract
 use native.Mathlib.Omega.{arith}
 use borrow.Author.Needs.{needs}
 use lib.Dec.{leb}
 use borrow.Author.Tests.{leb-true}
 use Rattle.rules.proofs.Lists.{both}
-use Rattle.chunk.proofs.Difference.{below-zero, not-below-zero}
-use Rattle.chunk.proofs.is_overdue.Statement.{statement}
-use Rattle.chunk.proofs.is_overdue.Tie as tie
+use Rattle.head.proofs.Difference.{below-zero, not-below-zero}
+use Rattle.head.proofs.is_overdue.Statement.{statement}
+use Rattle.head.proofs.is_overdue.Tie as tie
 
 signed-above-requires : tie.Need-signed-above-requires
 signed-above-requires c κs =

@@ -1,4 +1,4 @@
--- `chunk::join_set` meets its contract
+-- `head::join_set` meets its contract
 use mathlib.Core.Path.{_≡_, refl, sym, ap}
 use mathlib.Core.Bool.{true}
 use native.Mathlib.Omega.{arith}
@@ -6,8 +6,8 @@ use borrow.Author.Needs.{needs}
 use lib.ListN.{length, length-map}
 use lib.Seq.{set-out}
 use Rattle.rules.specs.Chunks.{withReconcile}
-use Rattle.chunk.proofs.join_set.Statement.{statement}
-use Rattle.chunk.proofs.join_set.Tie as tie
+use Rattle.head.proofs.join_set.Statement.{statement}
+use Rattle.head.proofs.join_set.Tie as tie
 
 len : (c : tie.Start) → length (c .args .c .reconcile) ≡ 16
 len c = simp length-map at (c .good .0 .1 .1 .1 .1 .1 .0 .1 .0 .1)

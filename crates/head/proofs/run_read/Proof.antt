@@ -1,9 +1,9 @@
--- `chunk::run_read` meets its contract
+-- `head::run_read` meets its contract
 use mathlib.Core.Path.{refl}
 use borrow.Author.Needs.{needs}
 use borrow.Author.Tests.{lt-ltb, le-ltb}
-use Rattle.chunk.proofs.run_read.Statement.{statement}
-use Rattle.chunk.proofs.run_read.Tie as tie
+use Rattle.head.proofs.run_read.Statement.{statement}
+use Rattle.head.proofs.run_read.Tie as tie
 
 returns : tie.Need-returns
 returns c = rw (lt-ltb _ _ (c .if1 .taken)) refl

@@ -1,9 +1,9 @@
--- `chunk::run_head` meets its contract
+-- `head::run_head` meets its contract
 use mathlib.Core.Path.{_∙_}
 use borrow.Author.Needs.{needs}
-use Rattle.chunk.proofs.Laws.{ran-as}
-use Rattle.chunk.proofs.run_head.Statement.{statement}
-use Rattle.chunk.proofs.run_head.Tie as tie
+use Rattle.head.proofs.Laws.{ran-as}
+use Rattle.head.proofs.run_head.Statement.{statement}
+use Rattle.head.proofs.run_head.Tie as tie
 
 head-requires : tie.Need-head-requires
 head-requires c κs = search needs

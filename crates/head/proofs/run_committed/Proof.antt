@@ -1,8 +1,8 @@
--- `chunk::run_committed` meets its contract
+-- `head::run_committed` meets its contract
 use mathlib.Core.Path.{refl}
 use borrow.Author.Needs.{needs}
-use Rattle.chunk.proofs.run_committed.Statement.{statement}
-use Rattle.chunk.proofs.run_committed.Tie as tie
+use Rattle.head.proofs.run_committed.Statement.{statement}
+use Rattle.head.proofs.run_committed.Tie as tie
 
 later-requires : tie.Need-later-requires
 later-requires c κs = search needs
