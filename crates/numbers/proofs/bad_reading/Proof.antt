@@ -1,9 +1,9 @@
--- `lines::bad_reading` meets its contract
+-- `numbers::bad_reading` meets its contract
 use mathlib.Core.Path.{ap, _∙_}
 use borrow.Author.Needs.{needs}
-use Rattle.lines.specs.Steps.{betweenWords}
-use Rattle.lines.proofs.bad_reading.Statement.{statement}
-use Rattle.lines.proofs.bad_reading.Tie as tie
+use Rattle.numbers.specs.Steps.{betweenWords}
+use Rattle.numbers.proofs.bad_reading.Statement.{statement}
+use Rattle.numbers.proofs.bad_reading.Tie as tie
 
 bad-line-requires : tie.Need-bad-line-requires
 bad-line-requires c κs = search needs

@@ -5,9 +5,9 @@ use mathlib.Core.List.{[]}
 use lib.ListN.{set}
 use lib.Dec.{eqb, ltb}
 use Rattle.rules.specs.Words.{if_then_else_}
-use Rattle.lines.specs.declared.Line.{Line}
-use Rattle.lines.specs.declared.Reading.{Reading}
-use Rattle.lines.specs.Lines.{space, isDigit, badLine, saying}
+use Rattle.numbers.specs.declared.Line.{Line}
+use Rattle.numbers.specs.declared.Reading.{Reading}
+use Rattle.numbers.specs.Lines.{space, isDigit, badLine, saying}
 
 -- no word has begun
 abbrev pub betweenWords : Line → Reading

@@ -1,10 +1,10 @@
--- `lines::end_word` meets its contract
+-- `numbers::end_word` meets its contract
 use mathlib.Core.Path.{refl}
 use borrow.Author.Tests.{not-true, not-false}
 use borrow.Author.Needs.{needs}
-use Rattle.lines.specs.Steps.{ended}
-use Rattle.lines.proofs.end_word.Statement.{statement}
-use Rattle.lines.proofs.end_word.Tie as tie
+use Rattle.numbers.specs.Steps.{ended}
+use Rattle.numbers.proofs.end_word.Statement.{statement}
+use Rattle.numbers.proofs.end_word.Tie as tie
 
 bad-reading-requires : tie.Need-bad-reading-requires
 bad-reading-requires c κs = search needs

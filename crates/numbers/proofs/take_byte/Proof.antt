@@ -1,12 +1,12 @@
--- `lines::take_byte` meets its contract: one law a way
+-- `numbers::take_byte` meets its contract: one law a way
 use Prim.Native.Nat.{ℕ, _-_}
 use mathlib.Core.Path.{_∙_, ap}
 use borrow.Author.Tests.{not-true, not-false}
 use borrow.Author.Needs.{needs}
-use Rattle.lines.specs.Steps.{continued}
-use Rattle.lines.proofs.Laws.{taken-bad, taken-space, taken-below, taken-above, taken-digit}
-use Rattle.lines.proofs.take_byte.Statement.{statement}
-use Rattle.lines.proofs.take_byte.Tie as tie
+use Rattle.numbers.specs.Steps.{continued}
+use Rattle.numbers.proofs.Laws.{taken-bad, taken-space, taken-below, taken-above, taken-digit}
+use Rattle.numbers.proofs.take_byte.Statement.{statement}
+use Rattle.numbers.proofs.take_byte.Tie as tie
 
 returns : tie.Need-returns
 returns c = taken-bad _ _ (not-true _ (c .if1 .taken))

@@ -1,4 +1,4 @@
--- `lines::parse` meets its contract. The loop's invariant: what is left goes on from what is read
+-- `numbers::parse` meets its contract. The loop's invariant: what is left goes on from what is read
 use Prim.Native.Nat.{_+_, _-_, _≤_}
 use mathlib.Core.Path.{_≡_, sym, ap, _∙_}
 use native.Mathlib.Omega.{arith}
@@ -6,11 +6,11 @@ use lib.ListN.{length, getD, drop}
 use borrow.Author.Needs.{needs}
 use Rattle.rules.specs.Words.{fold}
 use Rattle.rules.proofs.Loops.{fold-more, fold-end}
-use Rattle.lines.specs.declared.Reading.{Reading}
-use Rattle.lines.specs.Steps.{newReading, ended, taken}
-use Rattle.lines.proofs.Laws.{taken-count, line-read, line-long}
-use Rattle.lines.proofs.parse.Statement.{statement}
-use Rattle.lines.proofs.parse.Tie as tie
+use Rattle.numbers.specs.declared.Reading.{Reading}
+use Rattle.numbers.specs.Steps.{newReading, ended, taken}
+use Rattle.numbers.proofs.Laws.{taken-count, line-read, line-long}
+use Rattle.numbers.proofs.parse.Statement.{statement}
+use Rattle.numbers.proofs.parse.Tie as tie
 
 abbrev Inv-loop : tie.InvT-loop
 Inv-loop line r₀ i₀ r i = (i ≤ length line) × (r .line .count ≤ i) × (fold taken r (drop i line) ≡ fold taken newReading line)

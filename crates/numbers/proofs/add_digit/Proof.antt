@@ -1,10 +1,10 @@
--- `lines::add_digit` meets its contract
+-- `numbers::add_digit` meets its contract
 use mathlib.Core.Path.{_∙_}
 use native.Mathlib.Omega.{arith}
 use borrow.Author.Needs.{needs}
-use Rattle.lines.proofs.Laws.{continued-over, continued-fits}
-use Rattle.lines.proofs.add_digit.Statement.{statement}
-use Rattle.lines.proofs.add_digit.Tie as tie
+use Rattle.numbers.proofs.Laws.{continued-over, continued-fits}
+use Rattle.numbers.proofs.add_digit.Statement.{statement}
+use Rattle.numbers.proofs.add_digit.Tie as tie
 
 bad-reading-requires : tie.Need-bad-reading-requires
 bad-reading-requires c κs = search needs

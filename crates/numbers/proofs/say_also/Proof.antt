@@ -1,11 +1,11 @@
--- `lines::say_also` meets its contract: past the last place a store changes nothing
+-- `numbers::say_also` meets its contract: past the last place a store changes nothing
 use mathlib.Core.Path.{_≡_}
 use native.Mathlib.Omega.{arith}
 use lib.ListN.{length, length-map}
 use borrow.Author.Needs.{needs}
-use Rattle.lines.proofs.Laws.{said-past}
-use Rattle.lines.proofs.say_also.Statement.{statement}
-use Rattle.lines.proofs.say_also.Tie as tie
+use Rattle.numbers.proofs.Laws.{said-past}
+use Rattle.numbers.proofs.say_also.Statement.{statement}
+use Rattle.numbers.proofs.say_also.Tie as tie
 
 len : (c : tie.Start) → length (c .args .l .numbers) ≡ 16
 len c = simp length-map at (c .good .0 .1 .1 .1 .1 .0 .1 .0 .1)

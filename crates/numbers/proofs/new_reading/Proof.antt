@@ -1,8 +1,8 @@
--- `lines::new_reading` meets its contract
+-- `numbers::new_reading` meets its contract
 use borrow.Author.Needs.{needs}
 use Rattle.rules.specs.Words.{each}
-use Rattle.lines.proofs.new_reading.Statement.{statement}
-use Rattle.lines.proofs.new_reading.Tie as tie
+use Rattle.numbers.proofs.new_reading.Statement.{statement}
+use Rattle.numbers.proofs.new_reading.Tie as tie
 
 between-requires : tie.Need-between-requires
 between-requires c κs = search needs

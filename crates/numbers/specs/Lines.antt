@@ -6,7 +6,7 @@ use lib.ListN.{length, replicate}
 use lib.Dec.{eqb, leb, ltb}
 use Rattle.rules.specs.Limits.{blockLimit}
 use Rattle.rules.specs.Words.{if_then_else_, each, every, fold, filled}
-use Rattle.lines.specs.declared.Line.{Line}
+use Rattle.numbers.specs.declared.Line.{Line}
 
 -- ---- bytes
 

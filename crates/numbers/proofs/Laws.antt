@@ -12,10 +12,10 @@ use borrow.Author.Tests.{ltb-false, le-ltb, lt-ltb, le-leb, lt-leb, eq-eqb, ne-e
 use Rattle.rules.specs.Words.{each, every, fold}
 use Rattle.rules.proofs.Lists.{true-or-false, walk, each-length}
 use Rattle.rules.proofs.Loops.{fold-append, each-append, every-append, filled-more}
-use Rattle.lines.specs.declared.Line.{Line}
-use Rattle.lines.specs.declared.Reading.{Reading}
-use Rattle.lines.specs.Lines.{space, isDigit, wordsAfter, words, value, isNumber, numberLimit, lineLimit, isLine, badLine, saying, lineOf}
-use Rattle.lines.specs.Steps.{betweenWords, badReading, newReading, saidAlso, ended, continued, taken}
+use Rattle.numbers.specs.declared.Line.{Line}
+use Rattle.numbers.specs.declared.Reading.{Reading}
+use Rattle.numbers.specs.Lines.{space, isDigit, wordsAfter, words, value, isNumber, numberLimit, lineLimit, isLine, badLine, saying, lineOf}
+use Rattle.numbers.specs.Steps.{betweenWords, badReading, newReading, saidAlso, ended, continued, taken}
 
 -- ---- one byte
 
