@@ -161,7 +161,7 @@ pub fn start(
     let new = begin(number, clock, h, to);
     let now = new.attempt.timestamp;
     let epoch = h.epoch;
-    let after = network::open(places, to, number, o.block, now, epoch, action);
+    let after = requests::open(places, to, number, o.block, now, epoch, action);
     Sent {
         code: 0,
         host: new,
@@ -285,7 +285,7 @@ pub fn finish(number: u64, holders: Set, h: Host, places: [Place; rules::PLACES]
     let now = h.attempt.timestamp;
     let epoch = h.epoch;
     let new = end(h);
-    let after = network::close(places, to, number, o.block, now, epoch, h.attempt.okay);
+    let after = requests::close(places, to, number, o.block, now, epoch, h.attempt.okay);
     let outcome = finish_outcome(number, h);
     Sent {
         code: 0,

@@ -12,7 +12,7 @@ use Rattle.rules.specs.Kinds.{headed}
 use Rattle.rules.specs.Network.{sent}
 use Rattle.rules.specs.Words.{if_then_else_}
 use Rattle.rules.specs.Zero.{_among_}
-use Rattle.network.specs.declared.Request.{Request}
+use Rattle.requests.specs.declared.Request.{Request}
 
 -- the message of a start or a finish
 abbrev pub messageOf : Request → Header → Epoch → Message

@@ -1,4 +1,4 @@
--- `network::send_to_each` meets its contract: what is left to send leads from here to the same places
+-- `requests::send_to_each` meets its contract: what is left to send leads from here to the same places
 use Prim.Native.Nat.{_-_, _≤_}
 use mathlib.Core.Path.{_≡_, refl, sym, ap, _∙_}
 use mathlib.Core.Logic.{⊎-elim}
@@ -6,11 +6,11 @@ use native.Mathlib.Omega.{arith}
 use lib.ListN.{drop}
 use Rattle.rules.specs.Network.{sent}
 use Rattle.rules.specs.Words.{fold, numbers}
-use Rattle.network.specs.Steps.{requestTo, sentTo}
-use Rattle.network.proofs.Laws.{sent-all, sent-more, sent-end}
+use Rattle.requests.specs.Steps.{requestTo, sentTo}
+use Rattle.requests.proofs.Laws.{reply-sends, sent-all, sent-more, sent-end}
 use borrow.Author.Needs.{needs}
-use Rattle.network.proofs.send_to_each.Statement.{statement}
-use Rattle.network.proofs.send_to_each.Tie as tie
+use Rattle.requests.proofs.send_to_each.Statement.{statement}
+use Rattle.requests.proofs.send_to_each.Tie as tie
 
 abbrev Inv-loop : tie.InvT-loop
 Inv-loop r host block now epoch to out₀ c₀ out c =
@@ -29,8 +29,8 @@ element-copy-out-if1 c = search needs
 message-of-requires : tie.Need-message-of-requires Inv-loop μ-loop
 message-of-requires c κs = search needs
 
-send-requires : tie.Need-send-requires Inv-loop μ-loop
-send-requires c κs = search needs
+reply-requires : tie.Need-reply-requires Inv-loop μ-loop
+reply-requires c κs = search needs
 
 add-c : tie.Need-add-c Inv-loop μ-loop
 add-c c = search needs
@@ -45,7 +45,7 @@ loop-again c =
     let m = requestTo (a .r) (a .host) (a .block) (a .now) (a .epoch) in
     let turn : c .if1 .out ≡ sentTo (a .t2) m (l .loop .out) (l .loop .c) =
     ⊎-elim
-    (λ w. rw (w .0 .taken) (w .3 ∙ w .2 .ensures ∙ ap (sent (l .loop .out)) (w .1 .ensures)))
+    (λ w. rw (w .0 .taken) (w .3 ∙ w .2 .ensures ∙ reply-sends _ _ ∙ ap (sent (l .loop .out)) (w .1 .ensures)))
     (λ w. rw (w .0 .left) (w .1))
     (c .if1 .came) in
     (omega arith, rw turn (sym (sent-more (a .t2) m (l .loop .out) (l .loop .c) (omega arith)) ∙ l .loop .inv .1))
@@ -66,7 +66,7 @@ send-to-each-spec =
     loop-holds
     element-copy-out-if1
     message-of-requires
-    send-requires
+    reply-requires
     add-c
     loop-less
     loop-again

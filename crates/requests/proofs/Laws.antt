@@ -5,13 +5,18 @@ use mathlib.Core.List.{List}
 use lib.ListN.{drop}
 use Rattle.rules.specs.declared.Set.{Set}
 use Rattle.rules.specs.declared.Message.{Message}
+use Rattle.rules.specs.declared.Slot.{Slot}
 use Rattle.rules.specs.declared.Place.{Place}
 use Rattle.rules.specs.Limits.{chunkLimit}
-use Rattle.rules.specs.Network.{sent, chunksOf, sentToEach}
+use Rattle.rules.specs.Network.{sent, chunksOf, sentToEach, replied}
 use Rattle.rules.specs.Words.{fold, numbers}
 use Rattle.rules.specs.Zero.{_among_}
 use Rattle.rules.proofs.Loops.{fold-those, fold-each, numbers-more, numbers-end}
-use Rattle.network.specs.Steps.{sentTo}
+use Rattle.requests.specs.Steps.{sentTo}
+
+pub reply-sends : (places : List Place) (m : Message) → replied places (Slot.Full m) ≡ sent places m
+unfolding replied
+reply-sends places m = refl
 
 module _ (to : Set) (m : (chunk : ℕ) → Message) (places : List Place) where
   pub sent-all : fold (sentTo to m) places (numbers chunkLimit) ≡ sentToEach places to m

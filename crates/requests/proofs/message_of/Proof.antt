@@ -1,8 +1,8 @@
--- `network::message_of` meets its contract
+-- `requests::message_of` meets its contract
 use mathlib.Core.Path.{refl}
 use borrow.Author.Needs.{needs}
-use Rattle.network.proofs.message_of.Statement.{statement}
-use Rattle.network.proofs.message_of.Tie as tie
+use Rattle.requests.proofs.message_of.Statement.{statement}
+use Rattle.requests.proofs.message_of.Tie as tie
 
 enum-known-r : tie.Need-enum-known-r
 enum-known-r c = search needs
