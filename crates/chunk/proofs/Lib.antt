@@ -1,3 +1,2 @@
-pub mod Difference
 pub mod Laws
 pub mod Unique

@@ -2,13 +2,8 @@
 use Rattle.rules.proofs.Unique.{unique, Determined}
 use Rattle.chunk.proofs.fail.Reads as fail-contract
 use Rattle.chunk.proofs.give_lease.Reads as give-lease-contract
-use Rattle.chunk.proofs.overdue.Reads as overdue-contract
 use Rattle.chunk.proofs.recover.Reads as recover-contract
-use Rattle.chunk.proofs.run.Reads as run-contract
 use Rattle.chunk.proofs.take_lease.Reads as take-lease-contract
-
-run-unique : Determined run-contract.Learnt
-run-unique κs a x y s u = unique
 
 fail-unique : Determined fail-contract.Learnt
 fail-unique κs a x y s u = unique
@@ -21,6 +16,3 @@ take-lease-unique κs a x y s u = unique
 
 give-lease-unique : Determined give-lease-contract.Learnt
 give-lease-unique κs a x y s u = unique
-
-overdue-unique : Determined overdue-contract.Learnt
-overdue-unique κs a x y s u = unique

@@ -37,7 +37,7 @@ use Rattle.arrival.specs.Arrivals.{arrives}
 use Rattle.chunk.specs.declared.Changed.{Changed}
 use Rattle.keeper.specs.Keeper.{drawn}
 use Rattle.host.specs.declared.Moved.{Moved}
-use Rattle.host.specs.Moves.{starts, finishes}
+use Rattle.attempts.specs.Moves.{starts, finishes}
 use Rattle.replies.specs.Replies.{hears}
 use Rattle.parts.specs.declared.Parts.{Parts}
 use Rattle.parts.specs.declared.Acted.{Acted}

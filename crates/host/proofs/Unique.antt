@@ -1,24 +1,12 @@
 -- Each public function's promise determines its answer
 use Rattle.rules.proofs.Unique.{unique, Determined}
-use Rattle.host.proofs.finish.Reads as finish-contract
-use Rattle.host.proofs.front.Reads as front-contract
 use Rattle.host.proofs.intake.Reads as intake-contract
 use Rattle.host.proofs.refresh.Reads as refresh-contract
-use Rattle.host.proofs.start.Reads as start-contract
 use Rattle.host.proofs.stop.Reads as stop-contract
 use Rattle.host.proofs.time_out.Reads as time-out-contract
 
-front-unique : Determined front-contract.Learnt
-front-unique κs a x y s u = unique
-
 intake-unique : Determined intake-contract.Learnt
 intake-unique κs a x y s u = unique
-
-start-unique : Determined start-contract.Learnt
-start-unique κs a x y s u = unique
-
-finish-unique : Determined finish-contract.Learnt
-finish-unique κs a x y s u = unique
 
 time-out-unique : Determined time-out-contract.Learnt
 time-out-unique κs a x y s u = unique

@@ -1,4 +1,3 @@
-pub mod Laws
 pub mod Meanings
 pub mod Texts
 pub mod Whole

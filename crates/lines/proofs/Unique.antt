@@ -5,11 +5,7 @@ use Rattle.lines.proofs.creation_of.Reads as creation-of-contract
 use Rattle.lines.proofs.cut_line.Reads as cut-line-contract
 use Rattle.lines.proofs.event_of.Reads as event-of-contract
 use Rattle.lines.proofs.no_text.Reads as no-text-contract
-use Rattle.lines.proofs.parse.Reads as parse-contract
 use Rattle.lines.proofs.parse_text.Reads as parse-text-contract
-
-parse-unique : Determined parse-contract.Learnt
-parse-unique κs a x y s u = unique
 
 event-of-unique : Determined event-of-contract.Learnt
 event-of-unique κs a x y s u = unique

@@ -19,10 +19,10 @@ use Rattle.rules.specs.Zero.{_among_}
 use Rattle.rules.proofs.Lists.{both, every-number, every-append}
 use Rattle.rules.proofs.Loops.{fold-append}
 use Rattle.lines.specs.declared.Text.{Text}
-use Rattle.lines.specs.Lines.{space, isDigit, wordsAfter, words, value, lineOf}
+use Rattle.numbers.specs.Lines.{space, isDigit, wordsAfter, words, value, lineOf}
 use Rattle.lines.specs.Meanings.{setWith}
 use Rattle.lines.specs.Texts.{digitsIn, decimal, spaced, answerLine, textLimit, textOf, followed, bytesOf, isNewline, cutAt}
-use Rattle.lines.proofs.Laws.{value-more, line-long}
+use Rattle.numbers.proofs.Laws.{value-more, line-long}
 use Rattle.lines.proofs.Texts.{text-more}
 
 -- ---- "the sum of 2 to the power c over its chunks c"

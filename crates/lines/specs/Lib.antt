@@ -1,4 +1,2 @@
-pub mod Lines
 pub mod Meanings
 pub mod Texts
-pub mod Steps

@@ -9,7 +9,7 @@ use Rattle.rules.specs.declared.Event.{Event}
 use Rattle.rules.specs.Limits.{chunkLimit}
 use Rattle.rules.specs.Words.{if_then_else_, each, every, numbers}
 use Rattle.rules.specs.Zero.{zeroCreation}
-use Rattle.lines.specs.declared.Line.{Line}
+use Rattle.numbers.specs.declared.Line.{Line}
 use Rattle.lines.specs.declared.Asked.{Asked}
 use Rattle.lines.specs.declared.Named.{Named}
 

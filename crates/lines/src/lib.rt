@@ -1,27 +1,22 @@
-// A driver line to numbers, to an event or a creation, and an answer to a line. On bytes alone: nothing is read or written here.
+// A driver line, cut out of the input, to an event or a creation, and an answer to a line. On bytes alone: nothing is read or
+// written here.
 // Document 01, "One session, whole".
+use numbers::Line;
 use rules::Creation;
 use rules::Event;
 use rules::Outcome;
 use rules::Set;
-ghost use Prim.Native.Nat.{_+_, _<_, min};
+ghost use Prim.Native.Nat.{min};
 ghost use mathlib.Core.Path.{_≡_};
 ghost use mathlib.Core.List.{[], _∷_, _++_};
 ghost use Rattle.rules.specs.Words.{each, every, fold};
 ghost use Rattle.rules.specs.Zero.{zeroCreation};
-ghost use Rattle.lines.specs.Lines.{badLine, lineOf};
+ghost use Rattle.numbers.specs.Lines.{lineOf};
 ghost use Rattle.lines.specs.Meanings.{operandsOf, askedBy, isSum, setWith, namedBy};
 ghost use Rattle.lines.specs.Texts.{decimal, lineWith, answerLine, textOf, followed, bytesOf, cutAt};
-ghost use Rattle.lines.specs.Steps.{betweenWords, badReading, newReading, saidAlso, ended, continued, taken};
-
-// "longer than 120 bytes"
-const LIMIT: usize = 120;
 
 // One byte more than a line may have: a longer line is known by it.
-pub const ROOM: usize = LIMIT + 1;
-
-// The second line has the most numbers: one a block.
-pub const NUMBERS: usize = rules::BLOCKS;
+pub const ROOM: usize = numbers::LIMIT + 1;
 
 const SPACE: u8 = 32;
 
@@ -29,20 +24,6 @@ const NEWLINE: u8 = 10;
 
 // How many operands the events 0 to 16 have.
 const OPERANDS: [u64; 17] = [0, 2, 3, 3, 1, 1, 1, 1, 1, 2, 1, 1, 1, 1, 1, 0, 3];
-
-// What a line says: how many numbers, and the first 16 of them, the unused places 0. A bad line is all zero.
-pub struct Line {
-    pub good: bool,
-    pub count: u64,
-    pub numbers: [u64; NUMBERS],
-}
-
-// A line while it is read: the numbers so far, and the one that has begun, if one has.
-struct Reading {
-    line: Line,
-    begun: bool,
-    value: u64,
-}
 
 // The event of a line; a bad one has none, that is zeros.
 pub struct Asked {
@@ -67,139 +48,6 @@ pub struct Cut {
     pub text: Text,
     pub whole: bool,
     pub next: usize,
-}
-
-// ---- a line of input
-
-fn bad_line() -> Line
-    ensures { λ r. ⌜ r ≡ badLine ⌝ }
-{
-    Line {
-        good: false,
-        count: 0,
-        numbers: [0; NUMBERS],
-    }
-}
-
-// A line while it is read, with no word begun.
-fn between(l: Line) -> Reading
-    ensures { λ r. ⌜ r ≡ betweenWords l ⌝ }
-{
-    Reading {
-        line: l,
-        begun: false,
-        value: 0,
-    }
-}
-
-fn bad_reading() -> Reading
-    ensures { λ r. ⌜ r ≡ badReading ⌝ }
-{
-    between(bad_line())
-}
-
-// Before the first byte.
-fn new_reading() -> Reading
-    ensures { λ r. ⌜ r ≡ newReading ⌝ }
-{
-    let l = Line {
-        good: true,
-        count: 0,
-        numbers: [0; NUMBERS],
-    };
-    between(l)
-}
-
-// A line with one number more.
-fn say_also(l: Line, n: u64) -> Line
-    requires { ⌜ l .count < 1000 ⌝ }
-    ensures { λ r. ⌜ r ≡ saidAlso l n ⌝ }
-{
-    let i = l.count as usize;
-    let mut out = l;
-    out.good = true;
-    out.count = l.count + 1;
-    if i < NUMBERS {
-        out.numbers[i] = n;
-    }
-    out
-}
-
-// A space or the line's end: the word that has begun is a number more.
-fn end_word(r: Reading) -> Reading
-    requires { ⌜ r .line .count < 1000 ⌝ }
-    ensures { λ s. ⌜ s ≡ ended r ⌝ }
-{
-    if !r.begun {
-        return bad_reading();
-    }
-    let l = r.line;
-    between(say_also(l, r.value))
-}
-
-// A digit, as long as the number fits 64 bits.
-fn add_digit(r: Reading, d: u64) -> Reading
-    requires { ⌜ d < 10 ⌝ }
-    ensures { λ s. ⌜ s ≡ continued r d ⌝ }
-{
-    let v = r.value;
-    if u64::MAX / 10 < v {
-        return bad_reading();
-    }
-    if u64::MAX - v * 10 < d {
-        return bad_reading();
-    }
-    let l = r.line;
-    Reading {
-        line: l,
-        begun: true,
-        value: v * 10 + d,
-    }
-}
-
-fn wide(byte: u8) -> u64
-    ensures { λ r. ⌜ r ≡ byte ⌝ }
-{
-    byte as u64
-}
-
-// One byte of a line. A bad line stays bad.
-fn take_byte(r: Reading, byte: u8) -> Reading
-    requires { ⌜ r .line .count < 1000 ⌝ }
-    ensures { λ s. ⌜ s ≡ taken r byte ⌝ }
-{
-    let l = r.line;
-    if !l.good {
-        return r;
-    }
-    if byte == SPACE {
-        return end_word(r);
-    }
-    if byte < 48 {
-        return bad_reading();
-    }
-    if 57 < byte {
-        return bad_reading();
-    }
-    add_digit(r, wide(byte) - 48)
-}
-
-// What a line says; one that is longer than 120 bytes is not looked at.
-pub fn parse(line: &[u8]) -> Line
-    ensures { λ r. ⌜ r ≡ lineOf (now (line .entry)) ⌝ }
-{
-    if LIMIT < line.len() {
-        return bad_line();
-    }
-    let mut r = new_reading();
-    let mut i: usize = 0;
-    while i < line.len() {
-        let next = take_byte(r, line[i]);
-        r = next;
-        i = i + 1;
-    }
-    let last = end_word(r);
-    last.line
 }
 
 // ---- the event of a line, the creation of the first two
@@ -245,11 +93,11 @@ pub fn event_of(l: Line) -> Asked
 }
 
 // No number names a chunk above 7.
-fn all_sums(ns: [u64; NUMBERS]) -> bool
+fn all_sums(ns: [u64; numbers::NUMBERS]) -> bool
     ensures { λ r. ⌜ r ≡ every isSum ns ⌝ }
 {
     let mut i: usize = 0;
-    while i < NUMBERS {
+    while i < numbers::NUMBERS {
         if 256 <= ns[i] {
             return false;
         }
@@ -277,7 +125,7 @@ fn set_of(n: u64) -> Set
 }
 
 // "one number a block"
-fn sets_of(ns: [u64; NUMBERS]) -> [Set; rules::BLOCKS]
+fn sets_of(ns: [u64; numbers::NUMBERS]) -> [Set; rules::BLOCKS]
     ensures { λ r. ⌜ r ≡ each setWith ns ⌝ }
 {
     let none = set_of(0);
@@ -396,7 +244,7 @@ pub fn parse_text(t: Text) -> Line
 {
     let n = least(t.count, ROOM);
     let bytes = t.bytes;
-    parse(&bytes[..n])
+    numbers::parse(&bytes[..n])
 }
 
 // The digits of n, the last one by its remainder.

@@ -1,9 +1,6 @@
 -- Each public function's promise determines its answer
 use Rattle.rules.proofs.Unique.{unique, Determined}
-use Rattle.network.proofs.close.Reads as close-contract
 use Rattle.network.proofs.free_places.Reads as free-places-contract
-use Rattle.network.proofs.how_many.Reads as how-many-contract
-use Rattle.network.proofs.open.Reads as open-contract
 use Rattle.network.proofs.place_code.Reads as place-code-contract
 use Rattle.network.proofs.remove.Reads as remove-contract
 use Rattle.network.proofs.reply.Reads as reply-contract
@@ -19,12 +16,3 @@ remove-unique κs a x y s u = unique
 
 reply-unique : Determined reply-contract.Learnt
 reply-unique κs a x y s u = unique
-
-how-many-unique : Determined how-many-contract.Learnt
-how-many-unique κs a x y s u = unique
-
-open-unique : Determined open-contract.Learnt
-open-unique κs a x y s u = unique
-
-close-unique : Determined close-contract.Learnt
-close-unique κs a x y s u = unique

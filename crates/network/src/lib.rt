@@ -1,19 +1,12 @@
-// The network: "64 places .. New messages go to the lowest free places, by ascending chunk".
+// The network: "64 places .. New messages go to the lowest free places".
 ghost use mathlib.Core.Path.{_≡_};
 ghost use Rattle.rules.specs.Codes.{codeOf};
-ghost use Rattle.rules.specs.Hosts.{opening, closing};
-ghost use Rattle.rules.specs.Kinds.{headed, isEmptySlot};
-ghost use Rattle.rules.specs.Network.{isFree, freePlaces, removed, sent, howMany, sentToEach, replied, placeRefusals};
+ghost use Rattle.rules.specs.Kinds.{isEmptySlot};
+ghost use Rattle.rules.specs.Network.{isFree, freePlaces, removed, sent, replied, placeRefusals};
 ghost use Rattle.rules.specs.Words.{place};
-ghost use Rattle.network.specs.Steps.{messageOf, requestTo};
-use rules::Action;
-use rules::Epoch;
-use rules::Header;
 use rules::Message;
 use rules::Place;
-use rules::Set;
 use rules::Slot;
-use rules::Timestamp;
 
 // A slot holds a message or nothing.
 fn is_empty(s: Slot) -> bool
@@ -108,118 +101,4 @@ pub fn reply(places: [Place; rules::PLACES], s: Slot) -> [Place; rules::PLACES]
         Slot::Empty => places,
         Slot::Full(m) => send(places, m),
     }
-}
-
-// How many chunks a set has, and so how many messages go to it.
-pub fn how_many(to: Set) -> u64
-    ensures { λ r. ⌜ r ≡ howMany to ⌝ }
-{
-    let mut count: u64 = 0;
-    let mut i: usize = 0;
-    while i < rules::CHUNKS {
-        if to.chunks[i] {
-            count = count + 1;
-        }
-        i = i + 1;
-    }
-    count
-}
-
-// What a host asks of each chunk of a set: a start opens its operation there, a finish closes it.
-enum Request {
-    Open(Action),
-    Close(bool),
-}
-
-// The message that asks it.
-fn message_of(r: Request, header: Header, epoch: Epoch) -> Message
-    ensures { λ m. ⌜ m ≡ messageOf r header epoch ⌝ }
-{
-    match r {
-        Request::Open(action) => match action {
-            Action::Read => Message::Read {
-                header: header,
-                epoch: epoch,
-            },
-            Action::Write(v) => Message::Prewrite {
-                header: header,
-                epoch: epoch,
-                value: v,
-            },
-        },
-        Request::Close(okay) => {
-            if okay {
-                Message::Commit {
-                    header: header,
-                    epoch: epoch,
-                }
-            } else {
-                Message::Abort {
-                    header: header,
-                    epoch: epoch,
-                }
-            }
-        }
-    }
-}
-
-// ".. by ascending chunk".
-fn send_to_each(
-    places: [Place; rules::PLACES],
-    to: Set,
-    r: Request,
-    host: u64,
-    block: u64,
-    now: Timestamp,
-    epoch: Epoch,
-) -> [Place; rules::PLACES]
-    ensures { λ n. ⌜ n ≡ sentToEach places to (requestTo r host block now epoch) ⌝ }
-{
-    let mut out = places;
-    let mut c: usize = 0;
-    while c < rules::CHUNKS {
-        if to.chunks[c] {
-            let header = Header {
-                host: host,
-                chunk: c as u64,
-                block: block,
-                timestamp: now,
-            };
-            let m = message_of(r, header, epoch);
-            let next = send(out, m);
-            out = next;
-        }
-        c = c + 1;
-    }
-    out
-}
-
-// "A read sends one read to the copy; a write sends a prewrite to each chunk of the set".
-pub fn open(
-    places: [Place; rules::PLACES],
-    to: Set,
-    host: u64,
-    block: u64,
-    now: Timestamp,
-    epoch: Epoch,
-    action: Action,
-) -> [Place; rules::PLACES]
-    ensures { λ r. ⌜ r ≡ sentToEach places to (λ chunk. opening (headed host chunk block now) epoch action) ⌝ }
-{
-    send_to_each(places, to, Request::Open(action), host, block, now, epoch)
-}
-
-// "Okay write: commit to each chunk of the set .. Not okay: abort to each".
-pub fn close(
-    places: [Place; rules::PLACES],
-    to: Set,
-    host: u64,
-    block: u64,
-    now: Timestamp,
-    epoch: Epoch,
-    okay: bool,
-) -> [Place; rules::PLACES]
-    ensures { λ r. ⌜ r ≡ sentToEach places to (λ chunk. closing okay (headed host chunk block now) epoch) ⌝ }
-{
-    send_to_each(places, to, Request::Close(okay), host, block, now, epoch)
 }

@@ -116,7 +116,7 @@ pub fn block_at(e: Event, s: Slot, h: Host) -> u64
         return to.block;
     }
     if (e.kind == 3) | (e.kind == 6) {
-        let o = host::front(h);
+        let o = operations::front(h);
         return o.block;
     }
     if (e.kind == 9) | (e.kind == 16) {

@@ -20,11 +20,13 @@ use Rattle.rules.specs.Network.{freePlaces, removed, replied, placeRefusals}
 use Rattle.rules.specs.Words.{if_then_else_}
 use Rattle.arrival.specs.Arrivals.{arrives}
 use Rattle.chunk.specs.declared.Changed.{Changed}
-use Rattle.chunk.specs.declared.Ran.{Ran}
-use Rattle.chunk.specs.Changes.{changed, ranOr}
+use Rattle.chunk.specs.Changes.{changed}
+use Rattle.head.specs.declared.Ran.{Ran}
+use Rattle.head.specs.Runs.{ranOr}
 use Rattle.host.specs.declared.Moved.{Moved}
-use Rattle.host.specs.declared.Sent.{Sent}
-use Rattle.host.specs.Moves.{moved, starts, finishes}
+use Rattle.host.specs.Moves.{moved}
+use Rattle.attempts.specs.declared.Sent.{Sent}
+use Rattle.attempts.specs.Moves.{starts, finishes}
 use Rattle.replies.specs.Replies.{hears}
 use Rattle.parts.specs.declared.Parts.{Parts}
 use Rattle.parts.specs.declared.Acted.{Acted}

@@ -1,10 +1,10 @@
 // One event on the parts of the table that it touches: a host, a chunk, a record, the network. Failure and epoch change touch more.
 ghost use mathlib.Core.Path.{_≡_};
 ghost use Rattle.parts.specs.Acts.{byHost, byMessages, byChunk, byRun, byMail, unchanged, hostMoved, chunkChanged, delivered, taken, mailTaken, acted};
+use attempts::Sent;
 use chunk::Changed;
-use chunk::Ran;
+use head::Ran;
 use host::Moved;
-use host::Sent;
 use rules::Action;
 use rules::Chunk;
 use rules::Epoch;
@@ -175,7 +175,7 @@ fn chunk_event(e: Event, c: Chunk, w: Waiting, age: u64) -> Changed
         12 => chunk::recover(c),
         13 => chunk::take_lease(c),
         14 => chunk::give_lease(c),
-        _ => chunk::overdue(c, e.b, w, e.c, age),
+        _ => head::overdue(c, e.b, w, e.c, age),
     }
 }
 
@@ -253,11 +253,11 @@ pub fn act(e: Event, p: Parts) -> Acted
     let set = p.set;
     let places = p.places;
     if kind == 3 {
-        let s = host::start(e.a, e.b, e.c, set, h, places);
+        let s = attempts::start(e.a, e.b, e.c, set, h, places);
         return by_messages(p, s);
     }
     if kind == 6 {
-        let s = host::finish(e.a, set, h, places);
+        let s = attempts::finish(e.a, set, h, places);
         return by_messages(p, s);
     }
     if (kind == 1) | (kind == 2) | (kind == 7) | (kind == 8) | (kind == 10) {
@@ -270,7 +270,7 @@ pub fn act(e: Event, p: Parts) -> Acted
     if kind == 9 {
         let state = c.state;
         let free = network::free_places(places);
-        let a = chunk::run(e.a, e.b, state, r, free);
+        let a = head::run(e.a, e.b, state, r, free);
         return by_run(p, a);
     }
     let w = r.waiting;

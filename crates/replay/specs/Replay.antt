@@ -9,7 +9,7 @@ use Rattle.rules.specs.declared.Answer.{Answer}
 use Rattle.rules.specs.Codes.{numbersOf}
 use Rattle.rules.specs.Creation.{created}
 use Rattle.rules.specs.Events.{step}
-use Rattle.lines.specs.Lines.{lineOf}
+use Rattle.numbers.specs.Lines.{lineOf}
 use Rattle.lines.specs.Meanings.{namedBy}
 
 -- the event number i: four numbers each

@@ -57,7 +57,7 @@ fn counts(h: Host, m: Message) -> bool
 {
     let header = messages::header_of(m);
     let attempt = h.attempt;
-    let o = host::front(h);
+    let o = operations::front(h);
     let a = o.action;
     (header.timestamp.0 == attempt.timestamp.0)
         & sets::among(header.chunk, attempt.outstanding)

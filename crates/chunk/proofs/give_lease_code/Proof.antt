@@ -1,26 +1,35 @@
 -- `chunk::give_lease_code` meets its contract
-use mathlib.Core.Path.{_≡_, sym, ap, _∙_}
-use mathlib.Core.Bool.{not, false}
+use mathlib.Core.Path.{refl}
 use borrow.Author.Needs.{needs}
-use Rattle.rules.specs.Kinds.{isNolease}
-use Rattle.rules.proofs.Loops.{refused-here, refused-later, refused-nowhere}
+use Rattle.rules.specs.Codes.{codeOf}
 use Rattle.chunk.proofs.give_lease_code.Statement.{statement}
 use Rattle.chunk.proofs.give_lease_code.Tie as tie
 
-leased : (c : tie.Else1) → not (isNolease (c .before .before .args .state)) ≡ false
-leased c = ap not (sym (c .before .is-nolease .ensures)) ∙ c .if1 .left
+enum-told : tie.Need-enum-told
+enum-told c = search needs
 
-is-nolease-requires : tie.Need-is-nolease-requires
-is-nolease-requires c κs = search needs
+enum-told-2 : tie.Need-enum-told-2
+enum-told-2 c = search needs
+
+enum-told-3 : tie.Need-enum-told-3
+enum-told-3 c = search needs
 
 returns : tie.Need-returns
-returns c = refused-here _ _ _ (ap not (sym (c .before .is-nolease .ensures)) ∙ c .if1 .taken)
+unfolding codeOf
+returns c = rw (c .enum-told .given .1) refl
 
 returns-2 : tie.Need-returns-2
-returns-2 c = refused-later _ _ _ _ (leased (c .before)) (refused-here _ _ _ (c .if2 .taken))
+unfolding codeOf
+returns-2 c = rw (c .before .enum-told2 .given .1, c .if1 .taken) refl
 
 returns-3 : tie.Need-returns-3
-returns-3 c = refused-later _ _ _ _ (leased (c .before)) (refused-later _ _ _ _ (c .if2 .left) refused-nowhere)
+unfolding codeOf
+returns-3 c = rw (c .before .enum-told2 .given .1, c .if1 .left) refl
+
+returns-4 : tie.Need-returns-4
+unfolding codeOf
+returns-4 c = rw (c .enum-told3 .given .1) refl
 
 pub give-lease-code-spec : {M : Type 1} → statement M
-give-lease-code-spec = tie.close (tie.spec is-nolease-requires returns returns-2 returns-3)
+give-lease-code-spec =
+    tie.close (tie.spec enum-told enum-told-2 enum-told-3 returns returns-2 returns-3 returns-4)

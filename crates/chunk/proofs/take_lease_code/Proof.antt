@@ -1,19 +1,31 @@
 -- `chunk::take_lease_code` meets its contract
-use mathlib.Core.Path.{sym, ap, _∙_}
-use mathlib.Core.Bool.{not}
+use mathlib.Core.Path.{refl}
 use borrow.Author.Needs.{needs}
-use Rattle.rules.proofs.Loops.{refused-here, refused-later, refused-nowhere}
+use Rattle.rules.specs.Codes.{codeOf}
 use Rattle.chunk.proofs.take_lease_code.Statement.{statement}
 use Rattle.chunk.proofs.take_lease_code.Tie as tie
 
-is-normal-requires : tie.Need-is-normal-requires
-is-normal-requires c κs = search needs
+enum-told : tie.Need-enum-told
+enum-told c = search needs
+
+enum-told-2 : tie.Need-enum-told-2
+enum-told-2 c = search needs
+
+enum-told-3 : tie.Need-enum-told-3
+enum-told-3 c = search needs
 
 returns : tie.Need-returns
-returns c = refused-here _ _ _ (ap not (sym (c .before .is-normal .ensures)) ∙ c .if1 .taken)
+unfolding codeOf
+returns c = rw (c .enum-told .given .1) refl
 
 returns-2 : tie.Need-returns-2
-returns-2 c = refused-later _ _ _ _ (ap not (sym (c .before .is-normal .ensures)) ∙ c .if1 .left) refused-nowhere
+unfolding codeOf
+returns-2 c = rw (c .enum-told2 .given .1) refl
+
+returns-3 : tie.Need-returns-3
+unfolding codeOf
+returns-3 c = rw (c .enum-told3 .given .1) refl
 
 pub take-lease-code-spec : {M : Type 1} → statement M
-take-lease-code-spec = tie.close (tie.spec is-normal-requires returns returns-2)
+take-lease-code-spec =
+    tie.close (tie.spec enum-told enum-told-2 enum-told-3 returns returns-2 returns-3)

@@ -1,6 +1,8 @@
 -- `host::intake` meets its contract
+use mathlib.Core.Path.{ap, _∙_}
 use borrow.Author.Needs.{needs}
-use Rattle.rules.specs.Hosts.{appended}
+use Rattle.rules.specs.Hosts.{intakeRefusals, withQueue, appended}
+use Rattle.host.specs.Moves.{moved}
 use Rattle.host.proofs.Laws.{unmoved, moves}
 use Rattle.host.proofs.intake.Statement.{statement}
 use Rattle.host.proofs.intake.Tie as tie
@@ -18,7 +20,9 @@ returns-2 : tie.Need-returns-2
 unfolding appended
 returns-2 c =
     let e = c .before .before in
-    rw (c .with-last .ensures) (moves _ _ _ _ (e .before .intake-code .ensures) (e .if1 .left))
+    let h = e .before .before .args .h in
+    moves _ _ _ _ (e .before .intake-code .ensures) (e .if1 .left)
+    ∙ ap (λ q. moved (intakeRefusals h) h (withQueue h q)) (c .with-last .ensures)
 
 pub intake-spec : {M : Type 1} → statement M
 intake-spec = tie.close (tie.spec intake-code-requires returns with-last-requires returns-2)

@@ -9,16 +9,16 @@ returns : tie.Need-returns
 unfolding codeOf
 returns c = rw (c .if1 .taken) refl
 
-is-outstanding-requires : tie.Need-is-outstanding-requires
-is-outstanding-requires c κs = search needs
+is-empty-requires : tie.Need-is-empty-requires
+is-empty-requires c κs = search needs
 
 returns-2 : tie.Need-returns-2
 unfolding codeOf
-returns-2 c = rw (c .before .before .if1 .left, ← c .before .is-outstanding .ensures, c .if2 .taken) refl
+returns-2 c = rw (c .before .before .if1 .left, ← c .before .is-empty .ensures, c .if2 .taken) refl
 
 returns-3 : tie.Need-returns-3
 unfolding codeOf
-returns-3 c = rw (c .before .before .if1 .left, ← c .before .is-outstanding .ensures, c .if2 .left) refl
+returns-3 c = rw (c .before .before .if1 .left, ← c .before .is-empty .ensures, c .if2 .left) refl
 
 pub timeout-code-spec : {M : Type 1} → statement M
-timeout-code-spec = tie.close (tie.spec returns is-outstanding-requires returns-2 returns-3)
+timeout-code-spec = tie.close (tie.spec returns is-empty-requires returns-2 returns-3)

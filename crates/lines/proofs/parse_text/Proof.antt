@@ -6,7 +6,7 @@ use lib.ListN.{length, take, length-map}
 use lib.Seq.{length-take-le}
 use borrow.Author.Needs.{needs}
 use Rattle.rules.proofs.Loops.{take-min}
-use Rattle.lines.specs.Lines.{lineOf}
+use Rattle.numbers.specs.Lines.{lineOf}
 use Rattle.lines.proofs.parse_text.Statement.{statement}
 use Rattle.lines.proofs.parse_text.Tie as tie
 
