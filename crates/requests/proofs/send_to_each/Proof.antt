@@ -8,7 +8,7 @@ use borrow.Author.Needs.{needs}
 use Rattle.rules.specs.Network.{sent}
 use Rattle.rules.specs.Words.{fold, numbers}
 use Rattle.requests.specs.Steps.{requestTo, sentTo}
-use Rattle.requests.proofs.Laws.{sent-all, sent-more, sent-end}
+use Rattle.requests.proofs.Laws.{reply-sends, sent-all, sent-more, sent-end}
 use Rattle.requests.proofs.send_to_each.Statement.{statement}
 use Rattle.requests.proofs.send_to_each.Tie as tie
 
