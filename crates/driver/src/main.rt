@@ -6,8 +6,8 @@ ghost use mathlib.Core.Path.{_≡_};
 ghost use lib.ListN.{length};
 ghost use lib.Seq.{paste};
 ghost use Rattle.driver.specs.Answers.{answerTo};
-use lines::Asked;
 use lines::Text;
+use meanings::Asked;
 use rules::Answer;
 use rules::Outcome;
 use rules::Table;
@@ -148,7 +148,7 @@ fn run(table: Table, unread: Unread, block: &mut [u8], out: &mut [u8])
             break;
         }
         let text = line.text;
-        let a = answer_to(t, lines::event_of(lines::parse_text(text)));
+        let a = answer_to(t, meanings::event_of(lines::parse_text(text)));
         let o = a.outcome;
         used = answer(out, used, a.code, o);
         let next = a.table;
@@ -175,7 +175,7 @@ fn main() {
     let second = next_line(&mut block, behind);
     let l1 = first.text;
     let l2 = second.text;
-    let named = lines::creation_of(lines::parse_text(l1), lines::parse_text(l2));
+    let named = meanings::creation_of(lines::parse_text(l1), lines::parse_text(l2));
     if !named.good {
         refuse();
         return;

@@ -4,9 +4,9 @@ use mathlib.Core.Path.{_≡_, refl, sym, ap, _∙_, subst}
 use mathlib.Core.Bool.{Bool, true, false, cond, false≢true}
 use mathlib.Core.List.{List}
 use native.Mathlib.Omega.{arith}
-use borrow.Author.Tests.{ltb-true, lt-leb, le-ltb, eqb-true}
 use lib.Dec.{eqb}
 use lib.Seq.{set-getD}
+use borrow.Author.Tests.{ltb-true, lt-leb, le-ltb, eqb-true}
 use Rattle.rules.specs.declared.Creation.{Creation}
 use Rattle.rules.specs.declared.Record.{Record}
 use Rattle.rules.specs.declared.Chunk.{Chunk}

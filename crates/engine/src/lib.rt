@@ -1,4 +1,12 @@
 // The access engine: creation and the single-event step. Only this crate holds the table; what it calls is handed parts.
+ghost use Prim.Native.Nat.{_<_};
+ghost use mathlib.Core.Path.{_≡_};
+ghost use mathlib.Core.Bool.{true};
+ghost use Rattle.rules.specs.Creation.{created};
+ghost use Rattle.rules.specs.Events.{done, refused, ruleOf, step};
+ghost use Rattle.rules.specs.Formed.{wellFormed};
+ghost use Rattle.rules.specs.Limits.{chunkLimit};
+ghost use Rattle.engine.specs.Records.{withoutWaiting};
 use parts::Parts;
 use rules::Answer;
 use rules::Created;
@@ -8,14 +16,6 @@ use rules::Event;
 use rules::Outcome;
 use rules::Record;
 use rules::Table;
-ghost use mathlib.Core.Path.{_≡_};
-ghost use mathlib.Core.Bool.{true};
-ghost use Prim.Native.Nat.{_<_};
-ghost use Rattle.rules.specs.Creation.{created};
-ghost use Rattle.rules.specs.Events.{done, refused, ruleOf, step};
-ghost use Rattle.rules.specs.Formed.{wellFormed};
-ghost use Rattle.rules.specs.Limits.{chunkLimit};
-ghost use Rattle.engine.specs.Records.{withoutWaiting};
 
 // "Any other creation is refused with code 1 and gives no store".
 pub fn create(k: Creation) -> Created

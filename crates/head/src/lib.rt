@@ -1,6 +1,6 @@
 // The head of a waiting list at a chunk: it runs, or its block is overdue.
-ghost use mathlib.Core.Path.{_≡_};
 ghost use Prim.Native.Nat.{_<_, _^_};
+ghost use mathlib.Core.Path.{_≡_};
 ghost use lib.IntN.{pos, _-ℤ_};
 ghost use lib.Signed.{ltZ};
 ghost use Rattle.rules.specs.declared.Kind.{Kind};

@@ -1,4 +1,3 @@
-pub mod Meanings
 pub mod Texts
 pub mod Whole
 pub mod Unique

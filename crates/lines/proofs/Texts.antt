@@ -12,8 +12,8 @@ use lib.Seq.{length-take-le, take-all, set-out}
 use borrow.Author.Tests.{lt-ltb, le-ltb}
 use Rattle.rules.specs.Words.{each, place, fold, filled}
 use Rattle.rules.proofs.Loops.{drop-more, fold-append, filled-more}
-use Rattle.lines.specs.declared.Text.{Text}
 use Rattle.numbers.specs.Lines.{space, newline}
+use Rattle.lines.specs.declared.Text.{Text}
 use Rattle.lines.specs.Texts.{digitsIn, decimal, spaced, lineWith, textLimit, textOf, followed, isNewline, cutAt}
 
 -- ---- one byte more

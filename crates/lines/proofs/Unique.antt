@@ -1,17 +1,9 @@
 -- Each public function's promise determines its answer
 use Rattle.rules.proofs.Unique.{unique, Determined}
 use Rattle.lines.proofs.answer_text.Reads as answer-text-contract
-use Rattle.lines.proofs.creation_of.Reads as creation-of-contract
 use Rattle.lines.proofs.cut_line.Reads as cut-line-contract
-use Rattle.lines.proofs.event_of.Reads as event-of-contract
 use Rattle.lines.proofs.no_text.Reads as no-text-contract
 use Rattle.lines.proofs.parse_text.Reads as parse-text-contract
-
-event-of-unique : Determined event-of-contract.Learnt
-event-of-unique κs a x y s u = unique
-
-creation-of-unique : Determined creation-of-contract.Learnt
-creation-of-unique κs a x y s u = unique
 
 no-text-unique : Determined no-text-contract.Learnt
 no-text-unique κs a x y s u = unique

@@ -9,30 +9,17 @@ use native.Mathlib.Omega.{arith}
 use lib.ListN.{length, take, drop, replicate, length-append, length-take, take-append-drop}
 use lib.Dec.{eqb, leb, ltb}
 use lib.Seq.{take-all, take-take, length-take-le, take-append-le, take-append-add, take-append-seam, drop-append-le}
-use borrow.Author.Tests.{eqb-true, ltb-true, ltb-false, leb-true, lt-ltb, le-ltb, le-leb, ne-eqb}
-use Rattle.rules.specs.declared.Set.{Set}
+use borrow.Author.Tests.{ltb-true, ltb-false, leb-true, lt-ltb, le-ltb, le-leb, ne-eqb}
 use Rattle.rules.specs.declared.Outcome.{Outcome}
 use Rattle.rules.specs.Codes.{numbersOf}
-use Rattle.rules.specs.Limits.{chunkLimit}
-use Rattle.rules.specs.Words.{each, those, every, place, fold, from, numbers}
-use Rattle.rules.specs.Zero.{_among_}
-use Rattle.rules.proofs.Lists.{both, every-number, every-append}
+use Rattle.rules.specs.Words.{each, every, place, fold, numbers}
+use Rattle.rules.proofs.Lists.{both, every-append}
 use Rattle.rules.proofs.Loops.{fold-append}
-use Rattle.lines.specs.declared.Text.{Text}
 use Rattle.numbers.specs.Lines.{space, isDigit, wordsAfter, words, value, lineOf}
-use Rattle.lines.specs.Meanings.{setWith}
-use Rattle.lines.specs.Texts.{digitsIn, decimal, spaced, answerLine, textLimit, textOf, followed, bytesOf, isNewline, cutAt}
 use Rattle.numbers.proofs.Laws.{value-more, line-long}
+use Rattle.lines.specs.declared.Text.{Text}
+use Rattle.lines.specs.Texts.{digitsIn, decimal, spaced, answerLine, textLimit, textOf, followed, bytesOf, isNewline, cutAt}
 use Rattle.lines.proofs.Texts.{text-more}
-
--- ---- "the sum of 2 to the power c over its chunks c"
-
-abbrev sumOver : Set → ℕ
-sumOver s = fold (λ n c. n + 2 ^ c) 0 (those (λ c. c among s) (numbers chunkLimit))
-
-pub set-sum : (n : ℕ) → n < 256 → sumOver (setWith n) ≡ n
-unfolding every each those fold from
-set-sum n h = eqb-true (sumOver (setWith n)) n (every-number (λ n. eqb (sumOver (setWith n)) n) 256 refl n h)
 
 -- ---- a line that is too long is known by its first 121 bytes
 

@@ -7,9 +7,9 @@ use lib.Dec.{eqb, ltb}
 use Rattle.rules.specs.declared.Outcome.{Outcome}
 use Rattle.rules.specs.Codes.{numbersOf}
 use Rattle.rules.specs.Words.{if_then_else_, each, place, fold, filled}
+use Rattle.numbers.specs.Lines.{space, newline, lineLimit}
 use Rattle.lines.specs.declared.Text.{Text}
 use Rattle.lines.specs.declared.Cut.{Cut}
-use Rattle.numbers.specs.Lines.{space, newline, lineLimit}
 
 -- ---- "It writes a line an event: code, outcome, host, block, value. Numbers are decimal, one space apart"
 

@@ -1,7 +1,7 @@
 // A host's operations: up to 8 in a row, the current one at the front.
+ghost use Prim.Native.Nat.{_≤_};
 ghost use mathlib.Core.Path.{_≡_};
 ghost use mathlib.Core.List.{[], _∷_, _++_};
-ghost use Prim.Native.Nat.{_≤_};
 ghost use lib.ListN.{length, getD, take, drop};
 ghost use Rattle.rules.specs.Hosts.{queueOf, front};
 ghost use Rattle.rules.specs.Limits.{operationLimit};

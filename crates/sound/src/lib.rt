@@ -1,7 +1,7 @@
 // Code 8: the whole table is looked at. A part of the store's must be formed, an unused one zero.
+ghost use Prim.Native.Nat.{_-_};
 ghost use mathlib.Core.Path.{_≡_};
 ghost use mathlib.Core.Bool.{_&&_, not};
-ghost use Prim.Native.Nat.{_-_};
 ghost use Rattle.rules.specs.Creation.{isCreation, ofStore, isSetOf};
 ghost use Rattle.rules.specs.Formed.{operationFormed, operationAt, queueFormed, attemptFormed, hostFormed, chunkFormed, entryFormed, entryAt, waitingFormed, recordFormed, messageFormed, slotFormed, hostAt, chunkAt, recordsAt, placeAt, wellFormed};
 ghost use Rattle.rules.specs.Kinds.{isRead, isNormal, isReading};

@@ -2,10 +2,10 @@
 use mathlib.Core.Path.{_∙_}
 use native.Mathlib.Omega.{arith}
 use borrow.Author.Tests.{leb-true}
+use borrow.Author.Needs.{needs}
 use Rattle.rules.specs.Limits.{greatestClock}
 use Rattle.rules.proofs.Formed.{formed}
 use Rattle.engine.proofs.WholeLaws.{change-refused, change-granted}
-use borrow.Author.Needs.{needs}
 use Rattle.engine.proofs.change_epoch.Statement.{statement}
 use Rattle.engine.proofs.change_epoch.Tie as tie
 

@@ -1,9 +1,9 @@
 -- `engine::fail` meets its contract
 use Prim.Native.Nat.{_<_}
 use mathlib.Core.Path.{_∙_}
+use borrow.Author.Needs.{needs}
 use Rattle.rules.specs.Limits.{chunkLimit}
 use Rattle.engine.proofs.WholeLaws.{fail-below, fail-refused, fail-granted}
-use borrow.Author.Needs.{needs}
 use Rattle.engine.proofs.fail.Statement.{statement}
 use Rattle.engine.proofs.fail.Tie as tie
 

@@ -2,9 +2,9 @@
 use Prim.Native.Nat.{_<_}
 use mathlib.Core.Path.{_∙_}
 use native.Mathlib.Omega.{arith}
+use borrow.Author.Needs.{needs}
 use Rattle.rules.specs.Limits.{hostLimit, chunkLimit, blockLimit, placeLimit}
 use Rattle.engine.proofs.PartLaws.{Acts, acts, place-inside, host-inside, chunk-inside, block-inside, touch-refused, touch-granted}
-use borrow.Author.Needs.{needs}
 use Rattle.engine.proofs.touch.Statement.{statement}
 use Rattle.engine.proofs.touch.Tie as tie
 

@@ -2,8 +2,8 @@
 use Prim.Native.Nat.{_-_, _*_, _≤_}
 use mathlib.Core.Path.{_≡_, refl, ap, _∙_}
 use native.Mathlib.Omega.{arith}
-use borrow.Author.Needs.{needs}
 use lib.ListN.{length}
+use borrow.Author.Needs.{needs}
 use Rattle.rules.specs.Limits.{chunkLimit, blockLimit}
 use Rattle.engine.proofs.WholeLaws.{emptiedTo, emptied-next, emptied-all}
 use Rattle.engine.proofs.without_waiting.Statement.{statement}

@@ -1,6 +1,6 @@
 -- `head::overdue` meets its contract
-use Rattle.head.proofs.Laws.{change-refused, change-granted}
 use borrow.Author.Needs.{needs}
+use Rattle.head.proofs.Laws.{change-refused, change-granted}
 use Rattle.head.proofs.overdue.Statement.{statement}
 use Rattle.head.proofs.overdue.Tie as tie
 

@@ -1,11 +1,11 @@
--- `lines::creation_of` meets its contract
+-- `meanings::creation_of` meets its contract
 use mathlib.Core.Path.{_∙_, ap}
 use mathlib.Core.Bool.{false}
 use borrow.Author.Needs.{needs}
 use Rattle.rules.specs.declared.Creation.{Creation}
-use Rattle.lines.proofs.Meanings.{named-good, named-bad}
-use Rattle.lines.proofs.creation_of.Statement.{statement}
-use Rattle.lines.proofs.creation_of.Tie as tie
+use Rattle.meanings.proofs.Laws.{named-good, named-bad}
+use Rattle.meanings.proofs.creation_of.Statement.{statement}
+use Rattle.meanings.proofs.creation_of.Tie as tie
 
 element-copy-out-blocks : tie.Need-element-copy-out-blocks
 element-copy-out-blocks c = search needs

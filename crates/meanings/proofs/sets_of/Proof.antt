@@ -1,4 +1,4 @@
--- `lines::sets_of` meets its contract. The loop's invariant: the first sets are those of the first numbers
+-- `meanings::sets_of` meets its contract. The loop's invariant: the first sets are those of the first numbers
 use Prim.Native.Nat.{_-_, _≤_}
 use mathlib.Core.Path.{_≡_, ap, _∙_}
 use mathlib.Core.List.{List}
@@ -10,9 +10,9 @@ use Rattle.rules.specs.declared.Set.{Set}
 use Rattle.rules.specs.Words.{each, filled}
 use Rattle.rules.proofs.Lists.{each-length}
 use Rattle.rules.proofs.Loops.{each-more, filled-whole}
-use Rattle.lines.specs.Meanings.{setWith}
-use Rattle.lines.proofs.sets_of.Statement.{statement}
-use Rattle.lines.proofs.sets_of.Tie as tie
+use Rattle.meanings.specs.Meanings.{setWith}
+use Rattle.meanings.proofs.sets_of.Statement.{statement}
+use Rattle.meanings.proofs.sets_of.Tie as tie
 
 abbrev Inv-loop : tie.InvT-loop
 Inv-loop ns sets₀ i₀ sets i = (i ≤ 16) × (sets ≡ filled 16 (setWith 0) (each setWith (take i ns)))

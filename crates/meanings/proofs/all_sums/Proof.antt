@@ -1,4 +1,4 @@
--- `lines::all_sums` meets its contract. The loop's invariant: what is left decides
+-- `meanings::all_sums` meets its contract. The loop's invariant: what is left decides
 use Prim.Native.Nat.{_-_, _≤_}
 use mathlib.Core.Path.{_≡_, refl, sym, _∙_}
 use native.Mathlib.Omega.{arith}
@@ -7,9 +7,9 @@ use borrow.Author.Needs.{needs}
 use borrow.Author.Tests.{lt-ltb, le-ltb}
 use Rattle.rules.specs.Words.{every}
 use Rattle.rules.proofs.Loops.{every-other, every-here, every-end}
-use Rattle.lines.specs.Meanings.{isSum}
-use Rattle.lines.proofs.all_sums.Statement.{statement}
-use Rattle.lines.proofs.all_sums.Tie as tie
+use Rattle.meanings.specs.Meanings.{isSum}
+use Rattle.meanings.proofs.all_sums.Statement.{statement}
+use Rattle.meanings.proofs.all_sums.Tie as tie
 
 abbrev Inv-loop : tie.InvT-loop
 Inv-loop ns i₀ i = (i ≤ 16) × (every isSum ns ≡ every isSum (drop i ns))

@@ -13,7 +13,7 @@ use Rattle.rules.specs.Words.{each, every}
 use Rattle.rules.specs.Zero.{zeroCreation}
 use Rattle.rules.proofs.Lists.{every-at}
 use Rattle.numbers.specs.declared.Line.{Line}
-use Rattle.lines.specs.Meanings.{numberAt, operandTable, operandsOf, noEvent, askedBy, isSum, setWith, namedBy}
+use Rattle.meanings.specs.Meanings.{numberAt, operandTable, operandsOf, noEvent, askedBy, isSum, setWith, namedBy}
 
 -- ---- operands
 

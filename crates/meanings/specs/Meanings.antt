@@ -10,8 +10,8 @@ use Rattle.rules.specs.Limits.{chunkLimit}
 use Rattle.rules.specs.Words.{if_then_else_, each, every, numbers}
 use Rattle.rules.specs.Zero.{zeroCreation}
 use Rattle.numbers.specs.declared.Line.{Line}
-use Rattle.lines.specs.declared.Asked.{Asked}
-use Rattle.lines.specs.declared.Named.{Named}
+use Rattle.meanings.specs.declared.Asked.{Asked}
+use Rattle.meanings.specs.declared.Named.{Named}
 
 -- the number at a place of the line, from 0 on; 0 where the line has none there
 abbrev pub numberAt : Line → (place : ℕ) → ℕ

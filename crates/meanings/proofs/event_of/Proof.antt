@@ -1,10 +1,10 @@
--- `lines::event_of` meets its contract
+-- `meanings::event_of` meets its contract
 use native.Mathlib.Omega.{arith}
 use borrow.Author.Needs.{needs}
-use Rattle.lines.specs.Meanings.{numberAt}
-use Rattle.lines.proofs.Meanings.{operands-few, asked-good, asked-bad}
-use Rattle.lines.proofs.event_of.Statement.{statement}
-use Rattle.lines.proofs.event_of.Tie as tie
+use Rattle.meanings.specs.Meanings.{numberAt}
+use Rattle.meanings.proofs.Laws.{operands-few, asked-good, asked-bad}
+use Rattle.meanings.proofs.event_of.Statement.{statement}
+use Rattle.meanings.proofs.event_of.Tie as tie
 
 element-copy-out-kind : tie.Need-element-copy-out-kind
 element-copy-out-kind c = search needs

@@ -1,8 +1,8 @@
--- `lines::operands` meets its contract
+-- `meanings::operands` meets its contract
 use borrow.Author.Needs.{needs}
-use Rattle.lines.proofs.Meanings.{operands-none}
-use Rattle.lines.proofs.operands.Statement.{statement}
-use Rattle.lines.proofs.operands.Tie as tie
+use Rattle.meanings.proofs.Laws.{operands-none}
+use Rattle.meanings.proofs.operands.Statement.{statement}
+use Rattle.meanings.proofs.operands.Tie as tie
 
 mul-result : tie.Need-mul-result
 mul-result c = search needs

@@ -1,8 +1,8 @@
--- `lines::set_of` meets its contract
+-- `meanings::set_of` meets its contract
 use mathlib.Core.Path.{refl}
 use Rattle.rules.specs.Words.{each, from}
-use Rattle.lines.proofs.set_of.Statement.{statement}
-use Rattle.lines.proofs.set_of.Tie as tie
+use Rattle.meanings.proofs.set_of.Statement.{statement}
+use Rattle.meanings.proofs.set_of.Tie as tie
 
 returns : tie.Need-returns
 unfolding each from
