@@ -43,6 +43,8 @@ use Rattle.parts.specs.declared.Parts.{Parts}
 use Rattle.parts.specs.declared.Acted.{Acted}
 use Rattle.operands.specs.Address.{rangesOf, addressOf, placeAt, hostAt, chunkAt, blockAt}
 use Rattle.parts.specs.Acts.{byHost, byChunk, byMail, unchanged, toChunk, toHost, delivered, taken, hostMoved, chunkChanged, mailTaken, acted}
+use Rattle.engine.specs.declared.Touched.{Touched}
+use Rattle.engine.specs.Touches.{hostHere, chunkHere, blockHere, partsOf, touched}
 
 -- ---- the ranges look at the creation numbers alone
 
@@ -69,36 +71,15 @@ pub outside : (t : Table) (e : Event) → wellFormed t ≡ true → ruleOf t e .
 unfolding step
 outside t e ok h = out-of-range t (ruleOf t e) ok h
 
--- ---- the parts that an event touches, and the table with what it leaves
+-- ---- the table with what an event leaves of the parts that it touches
 
-module _ (t : Table) (e : Event) where
-  abbrev pub slotHere : Slot
-  slotHere = slotOf (t .places) (placeAt e)
+abbrev stored : Table → Touched → Table
+stored t d =
+    withPlaces (withRecord (withChunk (withHost t (d .host) (d .left .host)) (d .chunk) (d .left .chunk)) (d .chunk) (d .block) (d .left .block)) (d .left .places)
 
-  abbrev pub hostHere : ℕ
-  hostHere = hostAt e slotHere
-
-  abbrev pub chunkHere : ℕ
-  chunkHere = chunkAt e slotHere
-
-  abbrev pub blockHere : ℕ
-  blockHere = blockAt e slotHere (hostOf t hostHere)
-
-  abbrev pub partsOf : Parts
-  partsOf = record {
-    blocks = t .creation .blocks;
-    age = t .creation .age;
-    epoch = t .epoch;
-    slot = slotHere;
-    host = hostOf t hostHere;
-    chunk = chunkOf t chunkHere;
-    «set» = setOf (t .creation) blockHere;
-    block = recordOf t chunkHere blockHere;
-    places = t .places;
-  }
-
-  abbrev pub stored : Acted → Table
-  stored d = withPlaces (withRecord (withChunk (withHost t hostHere (d .host)) chunkHere (d .chunk)) chunkHere blockHere (d .block)) (d .places)
+-- .. where it leaves a of them
+abbrev leaving : Table → Event → Acted → Touched
+leaving t e a = record { host = hostHere t e; chunk = chunkHere t e; block = blockHere t e; left = a }
 
 -- what is to be shown of an event: its parts are places of the arrays, and what it leaves of them is the rule's
 pub record Acts (t : Table) (e : Event) : Type 0 where
@@ -108,7 +89,7 @@ pub record Acts (t : Table) (e : Event) : Type 0 where
   pub block : blockHere t e < blockLimit
   pub code : acted e (partsOf t e) .code ≡ codeOf (ruleOf t e .refusals)
   pub effect : acted e (partsOf t e) .code ≡ 0
-      → record { table = stored t e (acted e (partsOf t e)); outcome = acted e (partsOf t e) .outcome } ≡ ruleOf t e .effect
+      → record { table = stored t (touched t e); outcome = touched t e .left .outcome } ≡ ruleOf t e .effect
 
 abbrev event : (n a b c : ℕ) → Event
 event n a b c = record { kind = n; a = a; b = b; c = c }
@@ -165,7 +146,7 @@ module _ (t : Table) (ok : wellFormed t ≡ true) where
     block = stands .3;
     code = ap (λ (a : Acted). a .code) acted-is ∙ code-is;
     effect = λ z.
-        ap (λ (a : Acted). record { table = stored t e a; outcome = a .outcome }) acted-is
+        ap (λ (a : Acted). record { table = stored t (leaving t e a); outcome = a .outcome }) acted-is
         ∙ ap quietly (host-alone t (hostHere t e) (chunkHere t e) (blockHere t e) (m .host) (t .places))
         ∙ ap (λ (i : ℕ). quietly (withHost t i (m .host))) (stands .1)
         ∙ effect (ap (λ (a : Acted). a .code) (sym acted-is) ∙ z);
@@ -242,7 +223,7 @@ module _ (t : Table) (ok : wellFormed t ≡ true) where
     block = stands .3;
     code = ap (λ (a : Acted). a .code) acted-is ∙ code-is;
     effect = λ z.
-        ap (λ (a : Acted). record { table = stored t e a; outcome = a .outcome }) acted-is
+        ap (λ (a : Acted). record { table = stored t (leaving t e a); outcome = a .outcome }) acted-is
         ∙ ap quietly (chunk-alone t (hostHere t e) (chunkHere t e) (blockHere t e) (m .chunk))
         ∙ ap (λ (i : ℕ). quietly (withChunk t i (m .chunk))) (stands .2)
         ∙ effect (ap (λ (a : Acted). a .code) (sym acted-is) ∙ z);
@@ -438,30 +419,24 @@ module _ (t : Table) (e : Event) (ok : wellFormed t ≡ true) (inside : ruleOf t
           places = t .places;
         }
 
-        abbrev storedBack : Acted → Table
-        storedBack d = withPlaces (withRecord (withChunk (withHost t i (d .host)) c (d .chunk)) c b (d .block)) (d .places)
+        pub touched-is : (d : Acted) → d ≡ acted e gathered → record { host = i; chunk = c; block = b; left = d } ≡ touched t e
+        touched-is d d-is = rw (d-is, b-is, c-is, i-is, p-is) refl
 
-        gathered-is : gathered ≡ partsOf t e
-        gathered-is = rw (b-is, c-is, i-is, p-is) refl
+  -- what is stored back
+  module _ (x : Acts t e) (d : Touched) (d-is : d ≡ touched t e) where
+    pub parts-inside : (d .host < hostLimit) × (d .chunk < chunkLimit) × (d .block < blockLimit)
+    parts-inside = rw d-is (x .host, x .chunk, x .block)
 
-        stored-is : (d : Acted) → storedBack d ≡ stored t e d
-        stored-is d = rw (b-is, c-is, i-is, p-is) refl
+    code-is : d .left .code ≡ codeOf (ruleOf t e .refusals)
+    code-is = rw d-is (x .code)
 
-        module _ (d : Acted) (d-is : d ≡ acted e gathered) where
-          acted-is : d ≡ acted e (partsOf t e)
-          acted-is = d-is ∙ ap (acted e) gathered-is
+    pub touch-refused : (d .left .code ≡ 0 → ⊥) → refused t (d .left .code) ≡ step t e
+    unfolding step
+    touch-refused = refused-own t (ruleOf t e) ok inside (d .left .code) code-is
 
-          code-is : d .code ≡ codeOf (ruleOf t e .refusals)
-          code-is = ap (λ (a : Acted). a .code) acted-is ∙ x .code
-
-          pub touch-refused : (d .code ≡ 0 → ⊥) → refused t (d .code) ≡ step t e
-          unfolding step
-          touch-refused = refused-own t (ruleOf t e) ok inside (d .code) code-is
-
-          pub touch-granted : d .code ≡ 0 → done (record { table = storedBack d; outcome = d .outcome }) ≡ step t e
-          unfolding step
-          touch-granted z =
-              ap (λ (u : Table). done (record { table = u; outcome = d .outcome })) (stored-is d)
-              ∙ ap (λ (a : Acted). done (record { table = stored t e a; outcome = a .outcome })) acted-is
-              ∙ ap done (x .effect (ap (λ (a : Acted). a .code) (sym acted-is) ∙ z))
-              ∙ granted-own t (ruleOf t e) ok inside (sym code-is ∙ z)
+    pub touch-granted : d .left .code ≡ 0 → done (record { table = stored t d; outcome = d .left .outcome }) ≡ step t e
+    unfolding step
+    touch-granted z =
+        ap (λ (u : Touched). done (record { table = stored t u; outcome = u .left .outcome })) d-is
+        ∙ ap done (x .effect (ap (λ (u : Touched). u .left .code) (sym d-is) ∙ z))
+        ∙ granted-own t (ruleOf t e) ok inside (sym code-is ∙ z)

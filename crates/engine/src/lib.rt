@@ -7,6 +7,8 @@ ghost use Rattle.rules.specs.Events.{done, refused, ruleOf, step};
 ghost use Rattle.rules.specs.Formed.{wellFormed};
 ghost use Rattle.rules.specs.Limits.{chunkLimit};
 ghost use Rattle.engine.specs.Records.{withoutWaiting};
+ghost use Rattle.engine.specs.Touches.{touched};
+use parts::Acted;
 use parts::Parts;
 use rules::Answer;
 use rules::Created;
@@ -46,10 +48,18 @@ fn grant(t: Table, outcome: Outcome) -> Answer
     }
 }
 
-// An event that touches one host, one chunk, one record and the network: they are gathered, it acts on them, they are stored back.
-fn touch(mut t: Table, e: Event) -> Answer
+// What an event leaves of the parts that it touches, and where in the table they stand.
+struct Touched {
+    host: u64,
+    chunk: u64,
+    block: u64,
+    left: Acted,
+}
+
+// An event that touches one host, one chunk, one record and the network: they are gathered, and it acts on them.
+fn touch(t: Table, e: Event) -> Touched
     requires { ⌜ (wellFormed t ≡ true) × (ruleOf t e .ranges ≡ true) × (e .kind ≡ 11 → ⊥) × (e .kind ≡ 15 → ⊥) ⌝ }
-    ensures { λ r. ⌜ r ≡ step t e ⌝ }
+    ensures { λ r. ⌜ r ≡ touched t e ⌝ }
 {
     let k = t.creation;
     let epoch = t.epoch;
@@ -57,41 +67,33 @@ fn touch(mut t: Table, e: Event) -> Answer
     let p = operands::place_at(e) as usize;
     let place = places[p];
     let slot = place.slot;
-    let i = operands::host_at(e, slot) as usize;
-    let c = operands::chunk_at(e, slot) as usize;
-    let h = t.hosts[i];
-    let b = operands::block_at(e, slot, h) as usize;
-    let j = c * rules::BLOCKS + b;
-    let set = k.sets[b];
-    let chunk = t.chunks[c];
-    let block = t.records[j];
-    let d = parts::act(
+    let i = operands::host_at(e, slot);
+    let c = operands::chunk_at(e, slot);
+    let host = t.hosts[i as usize];
+    let b = operands::block_at(e, slot, host);
+    let set = k.sets[b as usize];
+    let chunk = t.chunks[c as usize];
+    let block = t.records[c as usize * rules::BLOCKS + b as usize];
+    let left = parts::act(
         e,
         Parts {
             blocks: k.blocks,
             age: k.age,
             epoch: epoch,
             slot: slot,
-            host: h,
+            host: host,
             chunk: chunk,
             set: set,
             block: block,
             places: places,
         },
     );
-    if d.code != 0 {
-        return refuse(t, d.code);
+    Touched {
+        host: i,
+        chunk: c,
+        block: b,
+        left: left,
     }
-    let new_host = d.host;
-    let new_chunk = d.chunk;
-    let new_block = d.block;
-    let new_places = d.places;
-    let outcome = d.outcome;
-    t.hosts[i] = new_host;
-    t.chunks[c] = new_chunk;
-    t.records[j] = new_block;
-    t.places = new_places;
-    grant(t, outcome)
 }
 
 // "all its waiting entries .. go": those of the chunk's blocks.
@@ -153,8 +155,9 @@ fn change_epoch(mut t: Table, e: Event) -> Answer
     grant(t, Outcome::None)
 }
 
-// One event, with any numbers, on any table. "Code 8 is looked for first, then ranges (1), then the order in each event".
-pub fn step(t: Table, e: Event) -> Answer
+// One event, with any numbers, on any table. "Code 8 is looked for first, then ranges (1), then the order in each event". What an
+// event leaves of the parts that it touches is stored back.
+pub fn step(mut t: Table, e: Event) -> Answer
     ensures { λ r. ⌜ r ≡ step t e ⌝ }
 {
     if !sound::well_formed(t) {
@@ -171,5 +174,19 @@ pub fn step(t: Table, e: Event) -> Answer
     if kind == 15 {
         return change_epoch(t, e);
     }
-    touch(t, e)
+    let d = touch(t, e);
+    let left = d.left;
+    if left.code != 0 {
+        return refuse(t, left.code);
+    }
+    let host = left.host;
+    let chunk = left.chunk;
+    let block = left.block;
+    let places = left.places;
+    let outcome = left.outcome;
+    t.hosts[d.host as usize] = host;
+    t.chunks[d.chunk as usize] = chunk;
+    t.records[d.chunk as usize * rules::BLOCKS + d.block as usize] = block;
+    t.places = places;
+    grant(t, outcome)
 }

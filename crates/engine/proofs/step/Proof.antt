@@ -1,23 +1,26 @@
 -- `engine::step` meets its contract: code 8 first, then the ranges, then the event
+use Prim.Native.Nat.{_<_}
 use mathlib.Core.Path.{_≡_, sym, _∙_}
 use mathlib.Core.Bool.{true}
+use native.Mathlib.Omega.{arith}
 use borrow.Author.Tests.{not-true, not-false}
 use borrow.Author.Needs.{needs}
 use Rattle.rules.specs.Events.{ruleOf}
 use Rattle.rules.specs.Formed.{wellFormed}
-use Rattle.engine.proofs.PartLaws.{ranges-are, not-formed, outside}
+use Rattle.rules.specs.Limits.{hostLimit, chunkLimit, blockLimit}
+use Rattle.engine.proofs.PartLaws.{ranges-are, not-formed, outside, Acts, acts, parts-inside, touch-refused, touch-granted}
 use Rattle.engine.proofs.step.Statement.{statement}
 use Rattle.engine.proofs.step.Tie as tie
 
 -- past the first test the table is well formed ..
-formed : (c : tie.Else1) → wellFormed (c .before .before .args .t) ≡ true
+formed : (c : tie.Else1) → wellFormed (c .before .before .args .t1) ≡ true
 formed c = sym (c .before .well-formed .ensures) ∙ not-false _ (c .if1 .left)
 
 -- .. and past the second the operands are in range
-inside : (c : tie.Else2) → let s = c .before .before .before .before .before in ruleOf (s .args .t) (s .args .e) .ranges ≡ true
+inside : (c : tie.Else2) → let s = c .before .before .before .before .before in ruleOf (s .args .t1) (s .args .e) .ranges ≡ true
 inside c =
     let s = c .before .before .before .before .before in
-    sym (c .before .in-range .ensures ∙ ranges-are (s .args .t) (s .args .e)) ∙ not-false _ (c .if2 .left)
+    sym (c .before .in-range .ensures ∙ ranges-are (s .args .t1) (s .args .e)) ∙ not-false _ (c .if2 .left)
 
 well-formed-requires : tie.Need-well-formed-requires
 well-formed-requires c κs = search needs
@@ -28,7 +31,7 @@ refuse-requires c κs = search needs
 returns : tie.Need-returns
 returns c =
     let s = c .before .before .before in
-    c .refuse .ensures ∙ not-formed (s .args .t) (s .args .e) (sym (c .before .before .well-formed .ensures) ∙ not-true _ (c .before .if1 .taken))
+    c .refuse .ensures ∙ not-formed (s .args .t1) (s .args .e) (sym (c .before .before .well-formed .ensures) ∙ not-true _ (c .before .if1 .taken))
 
 in-range-requires : tie.Need-in-range-requires
 in-range-requires c κs = search needs
@@ -41,7 +44,7 @@ returns-2 c =
     let r = c .before .before in
     let s = r .before .before .before .before in
     c .refuse2 .ensures
-    ∙ outside (s .args .t) (s .args .e) (formed (r .before .before)) (sym (r .in-range .ensures ∙ ranges-are (s .args .t) (s .args .e)) ∙ not-true _ (c .before .if2 .taken))
+    ∙ outside (s .args .t1) (s .args .e) (formed (r .before .before)) (sym (r .in-range .ensures ∙ ranges-are (s .args .t1) (s .args .e)) ∙ not-true _ (c .before .if2 .taken))
 
 fail-requires : tie.Need-fail-requires
 fail-requires c κs = (formed (c .before .before .before .before), inside (c .before), c .if3 .taken)
@@ -58,8 +61,64 @@ returns-4 c = c .change-epoch .ensures
 touch-requires : tie.Need-touch-requires
 touch-requires c κs = (formed (c .before .before .before .before .before), inside (c .before .before), c .before .if3 .left, c .if4 .left)
 
+-- the parts that the event touches are places of the arrays
+facts : (c : tie.Else4) → let s = c .before .before .before .before .before .before .before in Acts (s .args .t1) (s .args .e)
+facts c =
+    let s = c .before .before .before .before .before .before .before in
+    acts (s .args .t1) (s .args .e) (formed (c .before .before .before .before .before)) (inside (c .before .before)) (c .before .if3 .left) (c .if4 .left)
+
+below : (c : tie.After-touch) → (c .touch .result .host < hostLimit) × (c .touch .result .chunk < chunkLimit) × (c .touch .result .block < blockLimit)
+below c =
+    let k = c .before in
+    let s = k .before .before .before .before .before .before .before in
+    parts-inside (s .args .t1) (s .args .e) (formed (k .before .before .before .before .before)) (inside (k .before .before)) (facts k) _ (c .touch .ensures)
+
+refuse-requires-3 : tie.Need-refuse-requires-3
+refuse-requires-3 c κs = search needs
+
 returns-5 : tie.Need-returns-5
-returns-5 c = c .touch .ensures
+returns-5 c =
+    let d = c .before .before .before .before in
+    let k = d .before in
+    let s = k .before .before .before .before .before .before .before in
+    c .refuse3 .ensures
+    ∙ touch-refused (s .args .t1) (s .args .e) (formed (k .before .before .before .before .before)) (inside (k .before .before)) (facts k) _ (d .touch .ensures) (c .before .if5 .taken)
+
+mul-host : tie.Need-mul-host
+mul-host c = let k = below (c .before .before .before .before .before .before .before) in search needs
+
+element-set-from-host : tie.Need-element-set-from-host
+element-set-from-host c = below (c .before .before .before .before .before .before .before) .0
+
+mul-chunk : tie.Need-mul-chunk
+mul-chunk c = let k = below (c .before .before .before .before .before .before .before) .1 in search needs
+
+element-set-from-chunk : tie.Need-element-set-from-chunk
+element-set-from-chunk c = below (c .before .before .before .before .before .before .before) .1
+
+mul-block : tie.Need-mul-block
+mul-block c = let k = below (c .before .before .before .before .before .before .before) .1 in search needs
+
+add-block : tie.Need-add-block
+add-block c = let k = below (c .before .before .before .before .before .before .before) in let m = k .1 in let n = k .2 in search needs
+
+mul-block-2 : tie.Need-mul-block-2
+mul-block-2 c = let k = below (c .before .before .before .before .before .before .before) in let m = k .1 in let n = k .2 in search needs
+
+element-set-from-block : tie.Need-element-set-from-block
+element-set-from-block c = let k = below (c .before .before .before .before .before .before .before) in let m = k .1 in let n = k .2 in omega arith
+
+grant-requires : tie.Need-grant-requires
+grant-requires c κs = search needs
+
+returns-6 : tie.Need-returns-6
+returns-6 c =
+    let d = c .before .before .before .before .before .before .before .before in
+    let k = d .before in
+    let s = k .before .before .before .before .before .before .before in
+    c .grant .ensures
+    ∙ touch-granted (s .args .t1) (s .args .e) (formed (k .before .before .before .before .before)) (inside (k .before .before)) (facts k) _ (d .touch .ensures)
+    (c .before .before .before .before .before .if5 .left)
 
 pub step-spec : {M : Type 1} → statement M
 step-spec =
@@ -76,4 +135,15 @@ step-spec =
     change-epoch-requires
     returns-4
     touch-requires
-    returns-5)
+    refuse-requires-3
+    returns-5
+    mul-host
+    element-set-from-host
+    mul-chunk
+    element-set-from-chunk
+    mul-block
+    add-block
+    mul-block-2
+    element-set-from-block
+    grant-requires
+    returns-6)
