@@ -12,7 +12,7 @@ use lib.Seq.{take-all, take-take, length-take-le, take-append-le, take-append-ad
 use borrow.Author.Tests.{ltb-true, ltb-false, leb-true, lt-ltb, le-ltb, le-leb, ne-eqb}
 use Rattle.rules.specs.declared.Outcome.{Outcome}
 use Rattle.rules.specs.Codes.{numbersOf}
-use Rattle.rules.specs.Words.{each, every, place, fold, numbers}
+use Rattle.rules.specs.Words.{each, every, place, fold}
 use Rattle.rules.proofs.Lists.{both, every-append}
 use Rattle.rules.proofs.Loops.{fold-append}
 use Rattle.numbers.specs.Lines.{space, isDigit, wordsAfter, words, value, lineOf}

@@ -191,6 +191,19 @@ net-foreign b n′ n D f adds none = record {
   value = λ t x h. elim (adds (ofValue b t x) h) [ inl q ↦ q | inr q ↦ absurd ((none (q .0)) .value t x (q .1)) ];
 }
 
+-- a reply that is neither a value nor a prewrite reply says nothing of any block
+pub plain-mismatch : (b : ℕ) (hd : Header) → Foreign b (Message.Mismatch hd)
+plain-mismatch b hd = record { ack = λ t c z. z; pre = λ c t e v z. z; rdm = λ c t z. z; comm = λ t z. z; abtm = λ t z. z; value = λ t x z. z }
+
+pub plain-error : (b : ℕ) (hd : Header) → Foreign b (Message.Error hd)
+plain-error b hd = record { ack = λ t c z. z; pre = λ c t e v z. z; rdm = λ c t z. z; comm = λ t z. z; abtm = λ t z. z; value = λ t x z. z }
+
+pub plain-order : (b : ℕ) (hd : Header) → Foreign b (Message.OutOfOrder hd)
+plain-order b hd = record { ack = λ t c z. z; pre = λ c t e v z. z; rdm = λ c t z. z; comm = λ t z. z; abtm = λ t z. z; value = λ t x z. z }
+
+pub plain-busy : (b : ℕ) (hd : Header) → Foreign b (Message.Busy hd)
+plain-busy b hd = record { ack = λ t c z. z; pre = λ c t e v z. z; rdm = λ c t z. z; comm = λ t z. z; abtm = λ t z. z; value = λ t x z. z }
+
 -- a message of another block says nothing of block b
 pub far-message : (b : ℕ) (m : Message) → (headerOf m .block ≡ b → ⊥) → Foreign b m
 far-message b (Message.Read hd e) far = record {
@@ -227,42 +240,10 @@ far-message b (Message.Abort hd e) far = record {
       λ t z. far (z .0);
   value = λ t x z. z;
 }
-far-message b (Message.Mismatch hd) far = record {
-  ack = λ t c z. z;
-  pre = λ c t e v z. z;
-  rdm = λ c t z. z;
-  comm = λ t z. z;
-  abtm =
-      λ t z. z;
-  value = λ t x z. z;
-}
-far-message b (Message.Error hd) far = record {
-  ack = λ t c z. z;
-  pre = λ c t e v z. z;
-  rdm = λ c t z. z;
-  comm = λ t z. z;
-  abtm =
-      λ t z. z;
-  value = λ t x z. z;
-}
-far-message b (Message.OutOfOrder hd) far = record {
-  ack = λ t c z. z;
-  pre = λ c t e v z. z;
-  rdm = λ c t z. z;
-  comm = λ t z. z;
-  abtm =
-      λ t z. z;
-  value = λ t x z. z;
-}
-far-message b (Message.Busy hd) far = record {
-  ack = λ t c z. z;
-  pre = λ c t e v z. z;
-  rdm = λ c t z. z;
-  comm = λ t z. z;
-  abtm =
-      λ t z. z;
-  value = λ t x z. z;
-}
+far-message b (Message.Mismatch hd) far = plain-mismatch b hd
+far-message b (Message.Error hd) far = plain-error b hd
+far-message b (Message.OutOfOrder hd) far = plain-order b hd
+far-message b (Message.Busy hd) far = plain-busy b hd
 far-message b (Message.ReadReply hd v) far = record {
   ack = λ t c z. z;
   pre = λ c t e v z. z;
@@ -281,30 +262,6 @@ far-message b (Message.PrewriteReply hd) far = record {
   abtm = λ t z. z;
   value = λ t x z. z;
 }
-
--- a reply that is neither a value nor a prewrite reply says nothing of any block
-pub plain-mismatch : (b : ℕ) (hd : Header) → Foreign b (Message.Mismatch hd)
-plain-mismatch b hd = record {
-  ack = λ t c z. z;
-  pre = λ c t e v z. z;
-  rdm = λ c t z. z;
-  comm = λ t z. z;
-  abtm = λ t z. z;
-  value =
-      λ t x z. z;
-}
-
--- an error
-pub plain-error : (b : ℕ) (hd : Header) → Foreign b (Message.Error hd)
-plain-error b hd = record { ack = λ t c z. z; pre = λ c t e v z. z; rdm = λ c t z. z; comm = λ t z. z; abtm = λ t z. z; value = λ t x z. z }
-
--- an out of order
-pub plain-order : (b : ℕ) (hd : Header) → Foreign b (Message.OutOfOrder hd)
-plain-order b hd = record { ack = λ t c z. z; pre = λ c t e v z. z; rdm = λ c t z. z; comm = λ t z. z; abtm = λ t z. z; value = λ t x z. z }
-
--- a busy
-pub plain-busy : (b : ℕ) (hd : Header) → Foreign b (Message.Busy hd)
-plain-busy b hd = record { ack = λ t c z. z; pre = λ c t e v z. z; rdm = λ c t z. z; comm = λ t z. z; abtm = λ t z. z; value = λ t x z. z }
 
 pub record Drawn (hs : ℕ → Seat) (t : ℕ) : Type 0 where
   pub by : ℕ
