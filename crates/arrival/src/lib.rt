@@ -1,6 +1,5 @@
 // A message arrives at a chunk: what it makes of the chunk's record of its block, and the reply.
 ghost use mathlib.Core.Path.{_≡_};
-ghost use Rattle.rules.specs.Kinds.{isRead, isNormal};
 ghost use Rattle.rules.specs.Chunks.{answering, silent, isOutOfOrder, waits, arrived, decides, atChunk};
 ghost use Rattle.arrival.specs.Arrivals.{arrives};
 use rules::Arrived;
@@ -12,30 +11,7 @@ use rules::Kind;
 use rules::Message;
 use rules::Record;
 use rules::Slot;
-use rules::State;
 use rules::Timestamp;
-
-// The enums, case by case.
-fn is_read(k: Kind) -> bool
-    ensures { λ r. ⌜ r ≡ isRead k ⌝ }
-{
-    match k {
-        Kind::Read => true,
-        Kind::Undecided(_) => false,
-        Kind::Committed(_) => false,
-        Kind::Aborted(_) => false,
-    }
-}
-
-fn is_normal(state: State) -> bool
-    ensures { λ r. ⌜ r ≡ isNormal state ⌝ }
-{
-    match state {
-        State::Normal => true,
-        State::Nolease => false,
-        State::Failed => false,
-    }
-}
 
 // The record, with a reply.
 fn answering(r: Record, m: Message) -> Arrived
@@ -61,7 +37,7 @@ fn silent(r: Record) -> Arrived
 fn is_out_of_order(k: Kind, t: Timestamp, r: Record) -> bool
     ensures { λ b. ⌜ b ≡ isOutOfOrder k t r ⌝ }
 {
-    (t.0 < r.write.0) | (!is_read(k) & (t.0 < r.read.0))
+    (t.0 < r.write.0) | (!kinds::is_read(k) & (t.0 < r.read.0))
 }
 
 // "else it waits, after its equals, and a prewrite is answered with a prewrite reply".
@@ -79,7 +55,7 @@ fn waits(r: Record, header: Header, epoch: Epoch, kind: Kind) -> Arrived
     let now = waiting::insert(w, e);
     let mut out = r;
     out.waiting = now;
-    if is_read(kind) {
+    if kinds::is_read(kind) {
         return silent(out);
     }
     answering(out, Message::PrewriteReply { header: header })
@@ -162,7 +138,7 @@ pub fn arrive(blocks: u64, c: Chunk, r: Record, m: Message) -> Arrived
     ensures { λ a. ⌜ a ≡ arrives blocks c r m ⌝ }
 {
     let state = c.state;
-    if is_normal(state) {
+    if kinds::is_normal(state) {
         return at_chunk(blocks, c.epoch, r, m);
     }
     silent(r)

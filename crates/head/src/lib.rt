@@ -5,7 +5,7 @@ ghost use lib.IntN.{pos, _-ℤ_};
 ghost use lib.Signed.{ltZ};
 ghost use Rattle.rules.specs.declared.Kind.{Kind};
 ghost use Rattle.rules.specs.Codes.{codeOf};
-ghost use Rattle.rules.specs.Kinds.{isRead, isUndecided, isNormal};
+ghost use Rattle.rules.specs.Kinds.{isUndecided};
 ghost use Rattle.rules.specs.Timestamps.{later};
 ghost use Rattle.rules.specs.Chunks.{withValue, withWrite, silent, runRefusals, runs, ran, isOverdue, overdueRefusals, overdue};
 ghost use Rattle.chunk.specs.Changes.{changed};
@@ -33,18 +33,7 @@ pub struct Ran {
 // The greatest number that an i64 holds.
 const GREATEST_SIGNED: u64 = 9223372036854775807;
 
-// The enums, case by case.
-fn is_read(k: Kind) -> bool
-    ensures { λ r. ⌜ r ≡ isRead k ⌝ }
-{
-    match k {
-        Kind::Read => true,
-        Kind::Undecided(_) => false,
-        Kind::Committed(_) => false,
-        Kind::Aborted(_) => false,
-    }
-}
-
+// A write that nobody has decided yet.
 fn is_undecided(k: Kind) -> bool
     ensures { λ r. ⌜ r ≡ isUndecided k ⌝ }
 {
@@ -56,23 +45,13 @@ fn is_undecided(k: Kind) -> bool
     }
 }
 
-fn is_normal(state: State) -> bool
-    ensures { λ r. ⌜ r ≡ isNormal state ⌝ }
-{
-    match state {
-        State::Normal => true,
-        State::Nolease => false,
-        State::Failed => false,
-    }
-}
-
 // ---- run
 
 // "normal, head exists and isn't undecided (2); room if the head is a read (5)".
 fn run_code(state: State, w: Waiting, free: u64) -> u64
     ensures { λ r. ⌜ r ≡ codeOf (runRefusals state w free) ⌝ }
 {
-    if !is_normal(state) {
+    if !kinds::is_normal(state) {
         return 2;
     }
     if w.count == 0 {
@@ -83,7 +62,7 @@ fn run_code(state: State, w: Waiting, free: u64) -> u64
     if is_undecided(k) {
         return 2;
     }
-    if is_read(k) & (free == 0) {
+    if kinds::is_read(k) & (free == 0) {
         return 5;
     }
     0
@@ -222,7 +201,7 @@ fn is_overdue(now: u64, t: Timestamp, age: u64) -> bool
 fn overdue_code(state: State, w: Waiting, now: u64, age: u64) -> u64
     ensures { λ r. ⌜ r ≡ codeOf (overdueRefusals state w now age) ⌝ }
 {
-    if !is_normal(state) {
+    if !kinds::is_normal(state) {
         return 2;
     }
     let e = waiting::head(w);

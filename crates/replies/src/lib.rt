@@ -3,23 +3,11 @@ ghost use mathlib.Core.Path.{_≡_};
 ghost use mathlib.Core.Bool.{false};
 ghost use lib.ListN.{set};
 ghost use Rattle.rules.specs.Hosts.{suits, counts, answeredBy, heard};
-ghost use Rattle.rules.specs.Kinds.{isReading};
 ghost use Rattle.replies.specs.Replies.{hears};
-use rules::Action;
 use rules::Attempt;
 use rules::Host;
 use rules::Message;
 use rules::Set;
-
-// An operation is a read or a write.
-fn is_reading(a: Action) -> bool
-    ensures { λ r. ⌜ r ≡ isReading a ⌝ }
-{
-    match a {
-        Action::Read => true,
-        Action::Write(_) => false,
-    }
-}
 
 // The set with one chunk taken out.
 fn without(s: Set, chunk: u64) -> Set
@@ -61,7 +49,7 @@ fn counts(h: Host, m: Message) -> bool
     let a = o.action;
     (header.timestamp.0 == attempt.timestamp.0)
         & sets::among(header.chunk, attempt.outstanding)
-        & suits(is_reading(a), m)
+        & suits(kinds::is_reading(a), m)
 }
 
 // "The chunk is then no longer outstanding".

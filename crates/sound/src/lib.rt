@@ -4,14 +4,12 @@ ghost use mathlib.Core.Path.{_≡_};
 ghost use mathlib.Core.Bool.{_&&_, not};
 ghost use Rattle.rules.specs.Creation.{isCreation, ofStore, isSetOf};
 ghost use Rattle.rules.specs.Formed.{operationFormed, operationAt, queueFormed, attemptFormed, hostFormed, chunkFormed, entryFormed, entryAt, waitingFormed, recordFormed, messageFormed, slotFormed, hostAt, chunkAt, recordsAt, placeAt, wellFormed};
-ghost use Rattle.rules.specs.Kinds.{isRead, isNormal, isReading};
 ghost use Rattle.rules.specs.Limits.{hostLimit, chunkLimit, blockLimit, operationLimit, waitingLimit, placeLimit};
 ghost use Rattle.rules.specs.Tables.{withEpoch, withHosts, withChunks, withRecords, withPlaces};
 ghost use Rattle.rules.specs.Timestamps.{_above_};
 ghost use Rattle.rules.specs.Words.{if_then_else_, every, numbers};
 ghost use Rattle.rules.specs.Zero.{isEmpty, isZeroEntry, isZeroRecord, isZeroChunk, isZeroOperation, isZeroAttempt, isZeroHost};
 ghost use Rattle.sound.specs.Parts.{counted, bare, headerFormed, ofBlocks};
-use rules::Action;
 use rules::Attempt;
 use rules::Chunk;
 use rules::Creation;
@@ -19,7 +17,6 @@ use rules::Entry;
 use rules::Epoch;
 use rules::Header;
 use rules::Host;
-use rules::Kind;
 use rules::Message;
 use rules::Operation;
 use rules::Place;
@@ -27,7 +24,6 @@ use rules::Queue;
 use rules::Record;
 use rules::Set;
 use rules::Slot;
-use rules::State;
 use rules::Table;
 use rules::Timestamp;
 use rules::Waiting;
@@ -37,38 +33,6 @@ struct Counts {
     hosts: u64,
     chunks: u64,
     blocks: u64,
-}
-
-// ---- an enum's first case, which an unused place holds
-
-fn is_read(k: Kind) -> bool
-    ensures { λ r. ⌜ r ≡ isRead k ⌝ }
-{
-    match k {
-        Kind::Read => true,
-        Kind::Undecided(_) => false,
-        Kind::Committed(_) => false,
-        Kind::Aborted(_) => false,
-    }
-}
-
-fn is_normal(s: State) -> bool
-    ensures { λ r. ⌜ r ≡ isNormal s ⌝ }
-{
-    match s {
-        State::Normal => true,
-        State::Nolease => false,
-        State::Failed => false,
-    }
-}
-
-fn is_reading(a: Action) -> bool
-    ensures { λ r. ⌜ r ≡ isReading a ⌝ }
-{
-    match a {
-        Action::Read => true,
-        Action::Write(_) => false,
-    }
 }
 
 // ---- a set of chunks, and the creation
@@ -87,23 +51,11 @@ fn of_store(n: Counts, s: Set) -> bool
     true
 }
 
-// Every chunk in it is one of a store that has none: there is none in it.
-fn is_empty(s: Set) -> bool
-    ensures { λ r. ⌜ r ≡ isEmpty s ⌝ }
-{
-    let none = Counts {
-        hosts: 0,
-        chunks: 0,
-        blocks: 0,
-    };
-    of_store(none, s)
-}
-
 // "Each block has a non-empty set of chunks that hold its copies"; a block that the store lacks has none.
 fn is_set_of(n: Counts, used: bool, s: Set) -> bool
     ensures { λ r. ⌜ r ≡ if used then not (isEmpty s) && ofStore (counted n) s else isEmpty s ⌝ }
 {
-    let empty = is_empty(s);
+    let empty = sets::is_empty(s);
     if used {
         return !empty & of_store(n, s);
     }
@@ -147,7 +99,7 @@ fn is_zero_operation(o: Operation) -> bool
     ensures { λ r. ⌜ r ≡ isZeroOperation o ⌝ }
 {
     let a = o.action;
-    (o.block == 0) & is_reading(a)
+    (o.block == 0) & kinds::is_reading(a)
 }
 
 // One of the count, or an unused place.
@@ -186,7 +138,7 @@ fn is_zero_attempt(a: Attempt) -> bool
     ensures { λ r. ⌜ r ≡ isZeroAttempt a ⌝ }
 {
     let s = a.outstanding;
-    (a.timestamp.0 == 0) & is_empty(s) & !a.okay & !a.restart & (a.result == 0)
+    (a.timestamp.0 == 0) & sets::is_empty(s) & !a.okay & !a.restart & (a.result == 0)
 }
 
 // "A host without a current operation has [its attempt] zero .. With one, the current timestamp is above 0"
@@ -279,7 +231,7 @@ fn is_zero_chunk(c: Chunk) -> bool
     ensures { λ r. ⌜ r ≡ isZeroChunk c ⌝ }
 {
     let s = c.state;
-    is_normal(s) & !c.lost & (c.epoch.0 == 0) & blocks_of_store(0, c)
+    kinds::is_normal(s) & !c.lost & (c.epoch.0 == 0) & blocks_of_store(0, c)
 }
 
 // One of the store's, or an unused place.
@@ -312,7 +264,7 @@ fn is_zero_entry(e: Entry) -> bool
     ensures { λ r. ⌜ r ≡ isZeroEntry e ⌝ }
 {
     let k = e.kind;
-    (e.timestamp.0 == 0) & (e.sender == 0) & (e.epoch.0 == 0) & is_read(k)
+    (e.timestamp.0 == 0) & (e.sender == 0) & (e.epoch.0 == 0) & kinds::is_read(k)
 }
 
 // "Beside its timestamp, sender and epoch": a kind, of which any is right.
