@@ -211,12 +211,12 @@ module _ (t : Table) where
   -- 1 read
   pub read-kept : (host block c : ℕ) → Keeps t (readRule t host block c)
   unfolding readRule
-  read-kept host block c = intake-kept host block (unused c) (record { block = block; action = Action.Read }) refl
+  read-kept host block c = intake-kept host block (unused c) _ refl
 
   -- 2 write
   pub write-kept : (host block value : ℕ) → Keeps t (writeRule t host block value)
   unfolding writeRule
-  write-kept host block value = intake-kept host block true (record { block = block; action = Action.Write value }) refl
+  write-kept host block value = intake-kept host block true _ refl
 
   -- the front operation of a host of the store's: its block's set, and the headers of its messages
   module _ (f : Formed t) (host : ℕ) (e : isHost creation host ≡ true) (one : 1 ≤ hostOf t host .queue .count) where

@@ -14,3 +14,4 @@ pub mod Chunks
 pub mod Hosts
 pub mod Settlement
 pub mod Events
+pub mod Runs
