@@ -7,7 +7,7 @@ use mathlib.Core.List.{List, [], _++_}
 use native.Mathlib.Omega.{arith}
 use lib.ListN.{length, getD, List·getD-eq-default}
 use Rattle.one_copy.specs.Types.{Timestamp, Record, State, Chunk, Table, Outcome}
-use Rattle.one_copy.specs.Runs.{Write}
+use Rattle.one_copy.specs.Listed.{Write, byChange}
 use Rattle.rules.specs.Chunks.{emptied}
 use Rattle.rules.specs.Codes.{codeOf}
 use Rattle.rules.specs.Events.{copiesOf, renewed, epochChanged, epochRefusals}
@@ -177,6 +177,7 @@ module _ (b : ℕ) (h : Hist) (t : Table) (f : Formed t) (lb : isBlock (t .creat
     kept = λ u v z. z;
     done =
         λ j v q. absurd (none-done j b v q);
+    began = λ u q. inl (q, refl);
   }
 
 -- nothing waits, so nothing new is mentioned
