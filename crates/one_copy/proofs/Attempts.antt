@@ -141,7 +141,7 @@ module _ (k : Creation) (es : List Event) where
     by-host : (x : Answer) (b v : ℕ) → e .kind ≡ 6 → x .code ≡ 0 → hostOf t (e .a) .attempt .okay ≡ true
         → front (hostOf t (e .a)) .block ≡ b → front (hostOf t (e .a)) .action ≡ Action.Write v
         → Any (isIt (hostOf t (e .a) .attempt .timestamp .0) v) (committedAt b t e x)
-    by-host x b v k c o d a = rw (k, c, o, eq-eqb (front (hostOf t (e .a)) .block) b d, a) (inl (refl, refl))
+    by-host x b v k c o d a = rw (c, k, o, eq-eqb (front (hostOf t (e .a)) .block) b d, a) (inl (refl, refl))
 
     pub done-write : (h b : ℕ) → step t e .outcome ≡ Outcome.WriteDone h b → Done b h
     done-write h b q = elim (none-or-finish t e) [

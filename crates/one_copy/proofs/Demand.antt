@@ -8,7 +8,7 @@ use native.Mathlib.Omega.{arith}
 use lib.ListN.{getD}
 use borrow.Author.Tests.{ltb-true, lt-ltb}
 use Rattle.one_copy.specs.Types.{Timestamp, Creation, Table, Event, Outcome}
-use Rattle.one_copy.specs.Listed.{Write, write, heldBy, isGranted, committedAt, committed, listed, rising, last, lastBefore, isAttempt}
+use Rattle.one_copy.specs.Listed.{Write, write, heldBy, committedAt, committed, listed, rising, last, lastBefore, isAttempt}
 use Rattle.one_copy.specs.OneCopy.{OneCopy}
 use Rattle.rules.specs.Creation.{isCreation, fresh}
 use Rattle.rules.specs.Events.{step}
@@ -186,7 +186,7 @@ module _ (k : Creation) (b : ℕ) (lb : isBlock k b ≡ true) where
           (any-left (isIt u v) (committedAt b t e (step t e)) (committed b (step t e .table) later) z)))))
 
     -- right after e, a granted epoch change
-    module _ (g : isGranted 15 e (step t e) ≡ true) where
+    module _ (kind : e .kind ≡ 15) (granted : step t e .code ≡ 0) where
       -- the run up to e
       so-far : Run b noHist (fresh k) (es ++ e ∷ []) (stepped .next .hist)
       so-far = appended b noHist (fresh k) es (e ∷ []) (before .0) (stepped .next .hist) (before .1)
@@ -202,7 +202,7 @@ module _ (k : Creation) (b : ℕ) (lb : isBlock k b ≡ true) where
       copy-last : (c : ℕ) → isChunk k c ≡ true → c among setOf k b ≡ true
           → heldBy (recordOf (step t e .table) c b) ≡ last (listed b (fresh k) (es ++ e ∷ []))
       copy-last c lc m =
-          let x = changed t e g in
+          let x = changed t e kind granted in
           let held : In (t .creation) b c = subst⁻¹ (λ (k : Creation). In k b c) same-creation (lc, m) in
           let now : In (step t e .table .creation) b c = subst⁻¹ (λ (k : Creation). In k b c) (stepped .creation) held in
           let o = stepped .next .good .inv .cells c now in

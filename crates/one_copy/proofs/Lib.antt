@@ -28,4 +28,4 @@ pub mod History
 pub mod Listing
 pub mod Attempts
 pub mod Demand
-pub mod Sessions
+pub mod Computed

@@ -1,6 +1,6 @@
 -- A block's list: the writes that were committed, by timestamp
 use Prim.Native.Nat.{ℕ}
-use mathlib.Core.Bool.{Bool, true, false, _&&_}
+use mathlib.Core.Bool.{Bool, true, false, not, _&&_}
 use mathlib.Core.List.{List, [], _∷_, _++_}
 use lib.Dec.{eqb}
 use Rattle.one_copy.specs.Types.{Timestamp, Record, Action, Host, Table, Event, Answer}
@@ -33,9 +33,6 @@ heldBy r = write (r .write) (r .value)
 
 -- ---- what one event commits: it finds table t and is answered with a
 
-abbrev pub isGranted : (kind : ℕ) → Event → Answer → Bool
-isGranted kind e a = eqb (e .kind) kind && eqb (a .code) 0
-
 -- "its host .. committed": a granted finish of a write of the block that finds it okay, and so sends commits
 abbrev pub byHost : (block : ℕ) → Host → List Write
 byHost b h = if h .attempt .okay && eqb (front h .block) b then writeOf (h .attempt .timestamp) (front h .action) else []
@@ -44,10 +41,12 @@ byHost b h = if h .attempt .okay && eqb (front h .block) b then writeOf (h .atte
 abbrev pub byChange : (block : ℕ) → Table → List Write
 byChange b t = let copies = copiesOf t b in each (λ u. write u (writtenWith copies u)) (commits copies)
 
+-- "6 finish (host)", "15 epoch change"; any other event, and a refused one, commits nothing
 abbrev pub committedAt : (block : ℕ) → Table → Event → Answer → List Write
 committedAt b t e a =
-    if isGranted 6 e a then byHost b (hostOf t (e .a)) else
-    if isGranted 15 e a then byChange b t else
+    if not (eqb (a .code) 0) then [] else
+    if eqb (e .kind) 6 then byHost b (hostOf t (e .a)) else
+    if eqb (e .kind) 15 then byChange b t else
     []
 
 -- ---- "list by timestamp every write attempt that its host or an epoch change committed anywhere in the sequence"

@@ -10,7 +10,7 @@ use Rattle.rules.specs.Runs.{after, told, Begun, begun, lastOf, distinct, tells
 use Rattle.rules.specs.Tables.{isChunk, setOf, recordOf}
 use Rattle.rules.specs.Words.{each, every, some}
 use Rattle.rules.specs.Zero.{_among_}
-use Rattle.one_copy.specs.Listed.{Write, heldBy, isGranted, listed, rising, last, lastBefore, isAttempt}
+use Rattle.one_copy.specs.Listed.{Write, heldBy, listed, rising, last, lastBefore, isAttempt}
 
 -- For block b of a fresh store with creation k, whatever the sequence of events: es come first, then e, then those that are later
 module _ (k : Creation) (b : ℕ) where
@@ -48,5 +48,5 @@ module _ (k : Creation) (b : ℕ) where
     pub writes : (es : List Event) (e : Event) (later : List Event) (h : ℕ) → answer es e .outcome ≡ Outcome.WriteDone h b
         → some (λ w. isAttempt b w (lastAttempt es h)) (list (es ++ e ∷ later)) ≡ true
     -- "Right after a granted epoch change, every copy of a block holds the last write listed so far, or zero"
-    pub copies : (es : List Event) (e : Event) → isGranted 15 e (answer es e) ≡ true → (c : ℕ) → isChunk k c ≡ true
+    pub copies : (es : List Event) (e : Event) → e .kind ≡ 15 → answer es e .code ≡ 0 → (c : ℕ) → isChunk k c ≡ true
         → c among setOf k b ≡ true → heldBy (recordOf (answer es e .table) c b) ≡ last (list (es ++ e ∷ []))

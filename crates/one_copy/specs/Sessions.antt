@@ -160,6 +160,12 @@ twice =
     leased 0 ∷ leased 1 ∷ refreshes 0 ∷ writes 0 0 77 ∷ starts 0 5 0 ∷ deliver 0 ∷ deliver 1 ∷ timesOut 0 ∷ finishes 0 ∷ change
     ∷ starts 0 5 0 ∷ refreshes 0 ∷ starts 0 6 0 ∷ deliver 4 ∷ deliver 5 ∷ deliver 4 ∷ deliver 5 ∷ finishes 0 ∷ []
 
+-- a write that timed out before anybody saw it is not listed under that attempt, only under the later one
+abbrev pub retried : List Event
+retried =
+    leased 0 ∷ leased 1 ∷ refreshes 0 ∷ writes 0 0 77 ∷ starts 0 5 0 ∷ timesOut 0 ∷ finishes 0 ∷ starts 0 6 0 ∷ deliver 4 ∷ deliver 5
+    ∷ deliver 4 ∷ deliver 5 ∷ finishes 0 ∷ []
+
 -- two hosts write to two blocks at one clock, and each reads what the other wrote
 abbrev pub blocks : List Event
 blocks =
@@ -191,6 +197,7 @@ sessions =
     unfinished on oneBlock at 0 refuses [] answers Outcome.ReadDone 1 0 77 ∷ [] lists entry 5 0 77 ∷ [] plainly 77 ∷ [] ⨾
     twice on oneBlock at 0 refuses 3 ∷ [] answers Outcome.WriteDone 0 0 ∷ []
     lists entry 5 0 77 ∷ entry 6 0 77 ∷ [] plainly [] ⨾
+    retried on oneBlock at 0 refuses [] answers Outcome.WriteDone 0 0 ∷ [] lists entry 6 0 77 ∷ [] plainly [] ⨾
     blocks on twoBlocks at 0 refuses [] answers crossed lists entry 5 0 5 ∷ [] plainly 5 ∷ [] ⨾
     blocks on twoBlocks at 1 refuses [] answers crossed lists entry 5 1 9 ∷ [] plainly 9 ∷ [] ⨾
     []
