@@ -1,7 +1,8 @@
 //! The two sides: the proved engine behind its C function, the second program by its own.
 
 use crate::cases::{Case, Session, NUMBERS};
-use second::event::{step, Answer};
+use second::answer::Answer;
+use second::event::step;
 use std::time::{Duration, Instant};
 
 extern "C" {

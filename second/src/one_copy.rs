@@ -2,9 +2,9 @@
 //!
 //! A history is kept beside the run, from the events, their answers and the tables before them.
 
-use crate::event::{step, Answer, OPERANDS};
+use crate::answer::Answer;
+use crate::event::{step, Numbers, OPERANDS};
 use crate::generate::{generate, Sequence};
-use crate::guide::Numbers;
 use crate::settle::{copies, settle};
 use crate::table::*;
 use std::collections::BTreeMap;

@@ -3,7 +3,8 @@
 //! An error changes what the step sees or leaves; the store's own code has no hook for it.
 
 use crate::{entry, ready_store};
-use second::event::{step, Answer};
+use second::answer::Answer;
+use second::event::step;
 use second::generate::{generate, generate_with, EVENTS};
 use second::one_copy::{run, Plain, Stepper};
 use second::queue::Queue;

@@ -10,7 +10,8 @@ mod sequences;
 mod session;
 mod well_formed;
 
-use second::event::{step, Answer};
+use second::answer::Answer;
+use second::event::step;
 use second::table::*;
 
 /// The answer of a refusal, or of a granted event without outcome.
