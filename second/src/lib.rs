@@ -4,10 +4,11 @@
 //! The store itself: [`table`], [`answer`], [`well_formed`], [`host`], [`chunk`], [`settle`],
 //! [`event`].
 //! Around it: [`driver`] (one session), [`guide`] and [`generate`] (seeded sequences), [`scatter`]
-//! (tables handed in), [`count`] (what came up), [`compare`] (another driver against this one) and
-//! [`one_copy`] (demand 3 checked over a run).
+//! (tables handed in), [`count`] (what came up), [`compare`] (another driver against this one),
+//! [`begun`] and [`one_copy`] (demand 3 checked over a run).
 
 pub mod answer;
+pub mod begun;
 pub mod chunk;
 pub mod compare;
 pub mod count;
