@@ -200,3 +200,25 @@ fn two_reads_do_not_share_a_timestamp() {
     let clauses: Vec<Clause> = wrong.iter().map(|wrong| wrong.clause).collect();
     assert_eq!(clauses, [Clause::Timestamps]);
 }
+
+/// A store that grants everything grants what can't be.
+#[test]
+fn granted_and_not_there() {
+    let is_found = |events: &[Numbers]| {
+        let mut broken = Broken::new(Fault::GrantsEverything);
+        let wrong = history_with(&[events], &mut broken).verdict();
+        wrong.iter().any(|wrong| wrong.clause == Clause::Granted)
+    };
+    let asked = ask_write(0, 0, 10);
+    let started = [asked, start(0, LARGEST)].concat();
+    assert!(!is_found(&[&started[..], &finish(0)].concat()));
+    // Nothing to start, nothing to finish, a second start.
+    assert!(is_found(&start(0, 5)));
+    assert!(is_found(&finish(0)));
+    assert!(is_found(&[&asked[..], &finish(0)].concat()));
+    assert!(is_found(&[&started[..], &start(0, 6)].concat()));
+    // No such host, block or clock.
+    assert!(is_found(&ask_write(HOSTS as u64, 0, 10)));
+    assert!(is_found(&ask_write(0, BLOCKS as u64, 10)));
+    assert!(is_found(&[asked, start(0, LARGEST + 1)].concat()));
+}
