@@ -3,7 +3,7 @@ use Prim.Native.Nat.{ℕ, _+_, _*_, _≤_, _<_}
 use mathlib.Core.Path.{_≡_, refl, sym, subst, subst⁻¹, ap, _∙_}
 use mathlib.Core.Logic.{_⊎_, inl, inr}
 use mathlib.Core.Bool.{Bool, true, false, cond, not, _&&_, _||_, false≢true}
-use mathlib.Core.List.{List, [], _∷_, _++_}
+use mathlib.Core.List.{List, [], _∷_, _++_, append-nil, append-assoc}
 use native.Mathlib.Omega.{arith}
 use lib.ListN.{length, getD, set, take, drop, length-append, length-drop, length-set}
 use lib.Dec.{eqb}
@@ -17,7 +17,7 @@ use Rattle.rules.specs.Hosts.{operationsOf, queueOf, front, hasCurrent, 
 use Rattle.rules.specs.Kinds.{isNormal, isReading, headerOf, isForChunk}
 use Rattle.rules.specs.Limits.{hostLimit, operationLimit, greatestClock}
 use Rattle.rules.specs.Network.{freePlaces, removed}
-use Rattle.rules.specs.Runs.{after, tell, told, Taken, Begun, Account, Ledger, noTaken, nothing, withAccount, takenIn, tried, attempt, isNone, endedWith, noted, ledger, begun, noAttempt, lastOf, Agrees, distinct, tellsOf}
+use Rattle.rules.specs.Runs.{after, Told, tell, told, Taken, Begun, Account, Ledger, noTaken, nothing, withAccount, takenIn, tried, attempt, isNone, endedWith, noted, ledger, begun, noAttempt, lastOf, Agrees, distinct, tellsOf}
 use Rattle.rules.specs.Tables.{isHost, hostOf, chunkOf, slotOf, withPlaces, withHost}
 use Rattle.rules.specs.Timestamps.{stamp, never, _is_, _above_}
 use Rattle.rules.specs.Words.{each, none, some, fold, numbers, filled}
@@ -489,6 +489,48 @@ finish-tells host last h c = go (h .attempt .okay) (h .attempt .restart) (front 
     go false true a e = refl
     go false false Action.Read e = rw (own, there, e) refl
     go false false (Action.Write v) e = rw (own, there, e) refl
+
+-- ---- one list of events after another
+
+pub after-append : (t : Table) (es fs : List Event) → after t (es ++ fs) ≡ after (after t es) fs
+unfolding after
+after-append t [] fs = refl
+after-append t (e ∷ es) fs = after-append (step t e .table) es fs
+
+told-append : (t : Table) (es fs : List Event) → told t (es ++ fs) ≡ told t es ++ told (after t es) fs
+unfolding after told
+told-append t [] fs = refl
+told-append t (e ∷ es) fs = ap (λ (m : List Told). tell e (step t e) ∷ m) (told-append (step t e .table) es fs)
+
+-- what was begun stays so
+abbrev More : List Begun → Ledger → Type 0
+More b l = (more : List Begun) × (l .begun ≡ b ++ more)
+
+noted-more : (l : Ledger) (m : Told) → More (l .begun) (noted l m)
+noted-more l m =
+    let same : (more : List Begun) × (l .begun ≡ l .begun ++ more) = ([], sym (append-nil (l .begun))) in
+    walk (More (l .begun)) (not (eqb (m .code) 0)) _ _ (λ _. same)
+    (λ _. walk (More (l .begun)) (eqb (m .event .kind) 1) _ _ (λ _. same)
+    (λ _. walk (More (l .begun)) (eqb (m .event .kind) 2) _ _ (λ _. same)
+    (λ _. walk (More (l .begun)) (eqb (m .event .kind) 3) _ _ (λ _. (_ ∷ [], refl))
+    (λ _. walk (More (l .begun)) (eqb (m .event .kind) 6) _ _ (λ _. same) (λ _. same)))))
+
+fold-more : (l : Ledger) (ms : List Told) → More (l .begun) (fold noted l ms)
+unfolding fold
+fold-more l [] = ([], sym (append-nil (l .begun)))
+fold-more l (m ∷ ms) =
+    let now = noted-more l m in
+    let rest = fold-more (noted l m) ms in
+    (now .0 ++ rest .0, rest .1 ∙ ap (λ (b : List Begun). b ++ rest .0) (now .1) ∙ append-assoc (l .begun) (now .0) (rest .0))
+
+pub begun-more : (t : Table) (es fs : List Event) → (more : List Begun) × (begun (told t (es ++ fs)) ≡ begun (told t es) ++ more)
+unfolding ledger
+begun-more t es fs =
+    let rest = fold-more (fold noted nothing (told t es)) (told (after t es) fs) in (
+      rest .0,
+      ap (λ (m : List Told). fold noted nothing m .begun) (told-append t es fs)
+          ∙ ap (λ (l : Ledger). l .begun) (fold-append noted nothing (told t es) (told (after t es) fs)) ∙ rest .1,
+    )
 
 -- ---- every run from a fresh store
 
