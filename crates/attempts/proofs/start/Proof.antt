@@ -5,6 +5,18 @@ use Rattle.attempts.proofs.Laws.{start-unready, start-elsewhere, start-
 use Rattle.attempts.proofs.start.Statement.{statement}
 use Rattle.attempts.proofs.start.Tie as tie
 
+-- granted: nothing is lacking, and the keeper handed out the clock
+returns-5 : tie.Need-returns-5
+returns-5 c =
+    let f = c .before .before .before .before .before in
+    let g = f .before .before in
+    let d = g .before .before in
+    let l = d .before .before in
+    let r = l .before .before in
+    start-granted _ _ _ _ _ _ _ (r .before .unready .ensures) (r .if1 .left) _ (l .before .front .ensures) _ (l .lacks-copy .ensures)
+    (d .before .if2 .left) _ (d .draw-from .ensures) (g .if3 .left) _ (f .before .opening-to .ensures) _ (f .lacks-room .ensures)
+    (c .before .before .before .before .if4 .left) _ _ (c .begin .ensures) (c .before .«open» .ensures)
+
 unready-requires : tie.Need-unready-requires
 unready-requires c κs = search needs
 
@@ -68,17 +80,6 @@ open-requires c κs = search needs
 
 begin-requires : tie.Need-begin-requires
 begin-requires c κs = search needs
-
-returns-5 : tie.Need-returns-5
-returns-5 c =
-    let f = c .before .before .before .before .before in
-    let g = f .before .before in
-    let d = g .before .before in
-    let l = d .before .before in
-    let r = l .before .before in
-    start-granted _ _ _ _ _ _ _ (r .before .unready .ensures) (r .if1 .left) _ (l .before .front .ensures) _ (l .lacks-copy .ensures)
-    (d .before .if2 .left) _ (d .draw-from .ensures) (g .if3 .left) _ (f .before .opening-to .ensures) _ (f .lacks-room .ensures)
-    (c .before .before .before .before .if4 .left) _ _ (c .begin .ensures) (c .before .«open» .ensures)
 
 pub start-spec : {M : Type 1} → statement M
 start-spec =
