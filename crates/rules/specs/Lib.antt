@@ -13,4 +13,5 @@ pub mod Formed
 pub mod Chunks
 pub mod Hosts
 pub mod Settlement
+pub mod Operands
 pub mod Events
