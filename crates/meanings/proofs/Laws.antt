@@ -17,20 +17,12 @@ use Rattle.meanings.specs.Meanings.{numberAt, operandTable, operandsOf, 
 
 -- ---- operands
 
-pub operands-none : (kind : ℕ) → 17 ≤ kind → 0 ≡ operandsOf kind
-operands-none kind h = sym (List·getD-eq-default operandTable 0 h)
-
-pub operands-few : (kind : ℕ) → operandsOf kind ≤ 3
-unfolding every
-operands-few kind = go (decLe 17 kind)
-  where
-    go : Dec (17 ≤ kind) → operandsOf kind ≤ 3
-    go (yes h) = rw (← operands-none kind h) (omega arith)
-    go (no h) = leb-true (operandsOf kind) 3 (every-at (λ n. leb n 3) operandTable kind 0 refl (omega arith))
+pub own-few : (kind : ℕ) → ownCount kind ≤ 3
+own-few kind = omega (arith, those-length isOwn (o .0 ∷ o .1 ∷ o .2 ∷ []))
 
 -- ---- an event's line
 
-module _ (l : Line) (n : ℕ) (are : n ≡ operandsOf (numberAt l 0)) where
+module _ (l : Line) (n : ℕ) (are : n ≡ ownCount (numberAt l 0)) where
   pub asked-good : l .good && eqb (l .count) (1 + n) ≡ true
       → record { good = true; event = record { kind = numberAt l 0; a = numberAt l 1; b = numberAt l 2; c = numberAt l 3 } } ≡ askedBy l
   unfolding askedBy
