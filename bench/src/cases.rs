@@ -1,8 +1,8 @@
 //! The events that are timed: on the least and on the greatest store, idle and full, and random.
 
-use second::event::{operand_count, step, Answer, OPERANDS};
+use second::answer::Answer;
+use second::event::{operand_count, step, Numbers, OPERANDS};
 use second::generate::{generate, generate_with, Sequence, EVENTS};
-use second::guide::Numbers;
 use second::random::Random;
 use second::table::{Message, Table, LARGEST, OPERATIONS, PLACES, WAITING};
 

@@ -2,13 +2,14 @@
 //! and the ratio. Ends with an error where their answers differ.
 
 mod cases;
+mod copying;
 mod drivers;
-mod layout;
 mod sides;
 mod stack;
 
 use cases::{Case, Session};
-use sides::{checked, proved, second_program, Times};
+use copying::copy_time;
+use sides::{checked, proved, second_program, table_bytes, Times};
 use std::process::ExitCode;
 
 /// Each side is timed so often, in turn; the least time counts, which others disturbed the least.
@@ -59,8 +60,8 @@ fn load() -> String {
 fn sizes(cases: &[Case]) -> Result<(), String> {
     println!(
         "table: {} bytes, a copy of it takes {:.0} ns (second: {} bytes)",
-        layout::TABLE,
-        layout::copy_time(),
+        table_bytes(),
+        copy_time(table_bytes()),
         std::mem::size_of::<second::table::Table>()
     );
     let mut deepest = stack::Depth::default();

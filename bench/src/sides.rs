@@ -1,7 +1,8 @@
 //! The two sides: the proved engine behind its C function, the second program by its own.
 
 use crate::cases::{Case, Session, NUMBERS};
-use second::event::{step, Answer};
+use second::answer::Answer;
+use second::event::step;
 use std::time::{Duration, Instant};
 
 extern "C" {
@@ -14,6 +15,14 @@ extern "C" {
         events: *const u64,
         events_length: usize,
     ) -> u64;
+
+    fn kerzubian_table_bytes() -> u64;
+}
+
+/// The size of the proved engine's table, which crates/replay proves to be that of its layout.
+pub fn table_bytes() -> usize {
+    // It asks nothing of its caller.
+    unsafe { kerzubian_table_bytes() as usize }
 }
 
 /// The checksum of the answers of the proved engine.

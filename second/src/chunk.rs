@@ -1,6 +1,6 @@
 //! What a chunk does: messages that arrive, events 9, 11 to 14 and 16.
 
-use crate::event::Refusal;
+use crate::answer::Refusal;
 use crate::queue::Queue;
 use crate::table::*;
 

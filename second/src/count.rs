@@ -1,9 +1,10 @@
 //! How often each situation came up, over seeded sequences from fresh stores and on tables handed
 //! in. A situation that should have come up and did not is named.
 
-use crate::event::{step, Answer, KINDS, OPERANDS};
+use crate::answer::Answer;
+use crate::event::{step, Numbers, KINDS, OPERANDS};
 use crate::generate::{generate, LineSort, Opening};
-use crate::guide::{Guide, Numbers, Profile};
+use crate::guide::{Guide, Profile};
 use crate::host::counts;
 use crate::random::Random;
 use crate::scatter::{scatter, spoil};

@@ -1,6 +1,7 @@
 //! The store driver: standard input to standard output, "One session, whole".
 
-use crate::event::{operand_count, step, Answer, Refusal, OPERANDS};
+use crate::answer::{Answer, Refusal};
+use crate::event::{operand_count, step, OPERANDS};
 use crate::table::Table;
 use std::io::{self, BufRead, ErrorKind, Write};
 

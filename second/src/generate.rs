@@ -1,8 +1,9 @@
 //! Seeded sequences as a driver's input text: the same seed gives the same text.
 
+use crate::answer::Answer;
 use crate::driver::LINE_BYTES;
-use crate::event::{operand_count, step, Answer, OPERANDS};
-use crate::guide::{Guide, Numbers, Profile};
+use crate::event::{operand_count, step, Numbers, OPERANDS};
+use crate::guide::{Guide, Profile};
 use crate::random::Random;
 use crate::table::{Table, BLOCKS, CHUNKS, HOSTS, LARGEST};
 

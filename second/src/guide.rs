@@ -1,12 +1,9 @@
 //! The guide looks at a table and picks an event that makes sense there, mostly.
 
-use crate::event::{operand_count, KINDS, OPERANDS};
+use crate::event::{operand_count, Numbers, KINDS, OPERANDS};
 use crate::random::Random;
 use crate::settle::{all_lost, copies};
 use crate::table::*;
-
-/// An event's kind and operands.
-pub type Numbers = (u64, [u64; OPERANDS]);
 
 /// The sort of a whole sequence: which moods follow one another in it.
 #[derive(Clone, Copy, Debug, PartialEq, Eq)]

@@ -1,6 +1,6 @@
 //! What a host does: events 1 to 3, 6 to 8 and 10, and replies that arrive.
 
-use crate::event::{Outcome, Refusal};
+use crate::answer::{Outcome, Refusal};
 use crate::table::*;
 
 /// Events 1 and 2: "Stopped: 2. Full: 4. Else appended."

@@ -1,11 +1,14 @@
 //! The independent second program: the access engine of the mirrored block store, written
 //! from document 01 (the exact rules) and document 000 (the Palladio access protocol).
 //!
-//! The store itself: [`table`], [`well_formed`], [`host`], [`chunk`], [`settle`], [`event`].
+//! The store itself: [`table`], [`answer`], [`well_formed`], [`host`], [`chunk`], [`settle`],
+//! [`event`].
 //! Around it: [`driver`] (one session), [`guide`] and [`generate`] (seeded sequences), [`scatter`]
-//! (tables handed in), [`count`] (what came up), [`compare`] (another driver against this one) and
-//! [`one_copy`] (demand 3 checked over a run).
+//! (tables handed in), [`count`] (what came up), [`compare`] (another driver against this one),
+//! [`begun`] and [`one_copy`] (demand 3 checked over a run).
 
+pub mod answer;
+pub mod begun;
 pub mod chunk;
 pub mod compare;
 pub mod count;

@@ -70,9 +70,17 @@ fn run_count(words: &[&str]) -> Result<(), String> {
 
 fn run_one_copy(words: &[&str]) -> Result<(), String> {
     let (first_seed, sequences, events) = range(words)?;
-    let [reads, writes, listed] = one_copy::check(first_seed, sequences, events)?;
-    println!("{sequences} sequences as one copy: {listed} writes listed, {writes} of them done;");
-    println!("{reads} done reads gave a written value");
+    let sizes = one_copy::check(first_seed, sequences, events)?;
+    println!("{sequences} sequences as one copy");
+    println!("{:8} attempts begun", sizes.attempts);
+    println!("{:8} writes listed", sizes.listed);
+    println!("{:8} writes done", sizes.writes);
+    println!(
+        "{:8} of them listed under an earlier attempt too",
+        sizes.writes_listed_earlier
+    );
+    println!("{:8} reads done with a value other than 0", sizes.reads);
+    println!("{:8} of them below a listed write", sizes.reads_overtaken);
     Ok(())
 }
 

@@ -1,6 +1,6 @@
 //! Event 15, the epoch change: "Settling takes all copies of one block together".
 
-use crate::event::Refusal;
+use crate::answer::Refusal;
 use crate::queue::Queue;
 use crate::table::*;
 

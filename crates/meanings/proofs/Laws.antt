@@ -1,24 +1,22 @@
 -- The tests of an event's line and of the first two lines
 use Prim.Native.Nat.{ℕ, _+_, _≤_}
-use mathlib.Core.Path.{_≡_, refl, sym}
+use mathlib.Core.Path.{_≡_, refl}
 use mathlib.Core.Bool.{Bool, true, false, _&&_}
-use mathlib.Core.List.{List}
-use native.Mathlib.Decide.{decLe}
-use native.Mathlib.Omega.{arith}
-use lib.ListN.{List·getD-eq-default}
-use lib.Dec.{eqb, leb}
-use borrow.Author.Tests.{leb-true}
+use mathlib.Core.List.{List, [], _∷_}
+use lib.Dec.{eqb}
 use Rattle.rules.specs.declared.Set.{Set}
+use Rattle.rules.specs.Events.{kindOf}
+use Rattle.rules.specs.Operands.{isOwn}
 use Rattle.rules.specs.Words.{each, every}
 use Rattle.rules.specs.Zero.{zeroCreation}
-use Rattle.rules.proofs.Lists.{every-at}
+use Rattle.rules.proofs.Lists.{those-short}
 use Rattle.numbers.specs.declared.Line.{Line}
-use Rattle.meanings.specs.Meanings.{numberAt, operandTable, operandsOf, noEvent, askedBy, isSum, setWith, namedBy}
+use Rattle.meanings.specs.Meanings.{numberAt, ownCount, noEvent, askedBy, isSum, setWith, namedBy}
 
 -- ---- operands
 
 pub own-few : (kind : ℕ) → ownCount kind ≤ 3
-own-few kind = omega (arith, those-length isOwn (o .0 ∷ o .1 ∷ o .2 ∷ []))
+own-few kind = let o = kindOf kind .operands in those-short isOwn (o .0 ∷ o .1 ∷ o .2 ∷ [])
 
 -- ---- an event's line
 

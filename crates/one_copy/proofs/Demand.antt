@@ -2,24 +2,25 @@
 use Prim.Native.Nat.{ℕ, _≤_}
 use mathlib.Core.Path.{_≡_, refl, sym, subst, subst⁻¹, _∙_, ap}
 use mathlib.Core.Logic.{_⊎_, inl, inr}
-use mathlib.Core.Bool.{Bool, true, false, _&&_}
+use mathlib.Core.Bool.{Bool, true}
 use mathlib.Core.List.{List, [], _∷_, _++_}
 use native.Mathlib.Omega.{arith}
 use lib.ListN.{getD}
-use lib.Dec.{eqb}
-use borrow.Author.Tests.{ltb-true, lt-ltb, eqb-true, eq-eqb}
+use borrow.Author.Tests.{ltb-true, lt-ltb}
 use Rattle.one_copy.specs.Types.{Timestamp, Creation, Table, Event, Outcome}
-use Rattle.one_copy.specs.Runs.{Write, write, after, byHost, byChange, isChange, listedAt, listed, mentions, lists, last, lastBefore, timestampAt, attemptAt, heldBy}
+use Rattle.one_copy.specs.Listed.{Write, write, heldBy, committedAt, committed, listed, rising, last, lastBefore, isAttempt}
 use Rattle.one_copy.specs.OneCopy.{OneCopy}
 use Rattle.rules.specs.Creation.{isCreation, fresh}
 use Rattle.rules.specs.Events.{step}
-use Rattle.rules.specs.Tables.{isChunk, isBlock, setOf, recordOf}
-use Rattle.rules.specs.Timestamps.{never, _is_, _below_}
-use Rattle.rules.specs.Words.{those}
+use Rattle.rules.specs.Runs.{after, told, Begun, begun, lastOf}
+use Rattle.rules.specs.Tables.{isChunk, isBlock, setOf, hostOf, recordOf}
+use Rattle.rules.specs.Timestamps.{never, _below_}
+use Rattle.rules.specs.Words.{those, every}
 use Rattle.rules.specs.Zero.{_among_}
-use Rattle.rules.proofs.Lists.{both, and-true}
-use Rattle.one_copy.proofs.Abs.{idle≢writeK, readK≢writeK}
-use Rattle.one_copy.proofs.Lists.{Any, any-map, any-at, any-left, any-right, any-out, any-those, those-any, some-any, any-some}
+use Rattle.rules.proofs.Begun.{all-distinct, tells-of-last}
+use Rattle.rules.proofs.Lists.{and-true}
+use Rattle.one_copy.proofs.Abs.{idle≢writeK}
+use Rattle.one_copy.proofs.Lists.{Any, any-map, any-at, any-left, any-right, any-out, any-those, those-any, any-some}
 use Rattle.one_copy.proofs.Folds.{top-all, top-is}
 use Rattle.one_copy.proofs.View.{Hist, Part, partOf, isW, isIt, isTs}
 use Rattle.one_copy.proofs.Hosts.{ofIt}
@@ -28,7 +29,9 @@ use Rattle.one_copy.proofs.Fresh.{noHist, fresh-good, fresh-homes}
 use Rattle.one_copy.proofs.Good.{In}
 use Rattle.one_copy.proofs.EvEpoch.{changed-part}
 use Rattle.one_copy.proofs.Steps.{Whole, Stepped, step-kept, changed}
-use Rattle.one_copy.proofs.History.{Run, listed-append, goes-on, ends, whole-after, block-after, run, appended}
+use Rattle.one_copy.proofs.History.{Run, committed-append, goes-on, ends, whole-after, block-after, run, appended}
+use Rattle.one_copy.proofs.Listing.{all-in, all-there, all-rises}
+use Rattle.one_copy.proofs.Attempts.{done-read, done-write, tried-begun}
 
 -- ---- lists
 
@@ -36,26 +39,12 @@ use Rattle.one_copy.proofs.History.{Run, listed-append, goes-on, ends, 
 with-value : (u : ℕ) (l : List Write) → Any (isTs u) l → (v : ℕ) × Any (isIt u v) l
 with-value u l h = any-out (λ v w. isIt u v w) l (any-map (isTs u) (λ w. (v : ℕ) × isIt u v w) (λ w z. (w .value, (z, refl))) l h)
 
--- as a test and as a fact
-lists-any : (l : List Write) (u : Timestamp) (v : ℕ) → lists l (write u v) ≡ true → Any (isIt (u .0) v) l
-lists-any l u v h = any-map (λ w. w .timestamp is u && eqb (w .value) v ≡ true) (isIt (u .0) v)
-    (λ w z. let r = both (w .timestamp is u) (eqb (w .value) v) z in
-    (eqb-true (w .timestamp .0) (u .0) (r .0), eqb-true (w .value) v (r .1))) l
-    (some-any (λ w. w .timestamp is u && eqb (w .value) v) l h)
-
-any-lists : (l : List Write) (u : Timestamp) (v : ℕ) → Any (isIt (u .0) v) l → lists l (write u v) ≡ true
-any-lists l u v h = any-some (λ w. w .timestamp is u && eqb (w .value) v) l
-    (any-map (isIt (u .0) v) (λ w. w .timestamp is u && eqb (w .value) v ≡ true)
-    (λ w z. and-true (w .timestamp is u) (eqb (w .value) v) (eq-eqb (w .timestamp .0) (u .0) (z .0)) (eq-eqb (w .value) v (z .1))) l h)
-
--- a timestamp that no write has
-not-mentioned : (l : List Write) (u : Timestamp) → (Any (isTs (u .0)) l → ⊥) → mentions l u ≡ false
-not-mentioned l u n = go (mentions l u) refl
-  where
-    go : (x : Bool) → mentions l u ≡ x → x ≡ false
-    go false e = refl
-    go true e = absurd (n (any-map (λ w. w .timestamp is u ≡ true) (isTs (u .0)) (λ w z. eqb-true (w .timestamp .0) (u .0) z) l
-        (some-any (λ w. w .timestamp is u) l e)))
+-- what is so of each write of a list is so of all
+every-any : (p : Write → Bool) (l : List Write) → ((u v : ℕ) → Any (isIt u v) l → p (write (record { 0 = u }) v) ≡ true) → every p l ≡ true
+unfolding every
+every-any p [] f = refl
+every-any p (w ∷ l) f = and-true (p w) (every p l) (f (w .timestamp .0) (w .value) (inl (refl, refl)))
+    (every-any p l (λ u v z. f u v (inr z)))
 
 -- the last of a list is told by what bounds it: x under top
 is-last : (value : ℕ → ℕ) (L : ℕ → Type 0) (l : List Write) (top x : ℕ) → ((top ≡ 0) × (x ≡ 0)) ⊎ (L top × (value top ≡ x))
@@ -98,26 +87,42 @@ module _ (k : Creation) (b : ℕ) (lb : isBlock k b ≡ true) where
   -- ---- a run from the fresh store, and the list of it
 
   module _ (fs : List Event) (H : Hist) (r : Run b noHist (fresh k) fs H) where
+    -- what was committed, in the order of the events, and the list
+    abbrev raw : List Write
+    raw = committed b (fresh k) fs
+
     abbrev all : List Write
     all = listed b (fresh k) fs
 
-    -- the computed list and the history have the same writes
+    -- the list and the history have the same writes
     from : (u v : ℕ) → Any (isIt u v) all → Any (isIt u v) (H .listed)
-    from u v z = r .from u v (inr z)
-
-    to : (u v : ℕ) → Any (isIt u v) (H .listed) → Any (isIt u v) all
-    to u v z = elim (r .to u v z) [ inl y ↦ absurd y | inr y ↦ y ]
+    from u v z = elim (all-in (isIt u v) [] raw z) [ inl y ↦ absurd y | inr y ↦ r .from u v (inr y) ]
 
     -- and the same timestamps
     from-ts : (u : ℕ) → Any (isTs u) all → Any (isTs u) (H .listed)
     from-ts u z = let w = with-value u all z in ofIt u (w .0) (H .listed) (from u (w .0) (w .1))
 
     to-ts : (u : ℕ) → Any (isTs u) (H .listed) → Any (isTs u) all
-    to-ts u z = let w = with-value u (H .listed) z in ofIt u (w .0) all (to u (w .0) (w .1))
+    to-ts u z =
+        let w = with-value u (H .listed) z in
+        all-there u [] raw (elim (r .to u (w .0) (w .1)) [ inl y ↦ absurd y | inr y ↦ ofIt u (w .0) raw y ])
 
-    -- one value a timestamp, and none at 0
+    -- one value a timestamp
     valued : (u v : ℕ) → Any (isIt u v) all → H .value u ≡ v
     valued u v z = r .whole .good .vals u v (from u v z)
+
+    to : (u v : ℕ) → Any (isIt u v) (H .listed) → Any (isIt u v) all
+    to u v z =
+        let w = with-value u all (to-ts u (ofIt u v (H .listed) z)) in
+        subst (λ (x : ℕ). Any (isIt u x) all) (sym (valued u (w .0) (w .1)) ∙ r .whole .good .vals u v z) (w .1)
+
+    -- a listed write was begun, for this block and with this value
+    from-begun : (u v : ℕ) → Any (isIt u v) all → Any (λ x. isAttempt b (write (record { 0 = u }) v) x ≡ true) (begun (told (fresh k) fs))
+    from-begun u v z =
+        let P : ℕ → Begun → Type 0 = λ v x. isAttempt b (write (record { 0 = u }) v) x ≡ true in
+        let isW = r .whole .good .inv .glob .listK u (ofIt u v (H .listed) (from u v z)) in
+        subst (λ (v : ℕ). Any (P v) (begun (told (fresh k) fs))) (valued u v z)
+        (tried-begun k fs b u (H .value u) (elim (r .began u isW) [ inl y ↦ absurd (idle≢writeK (y .0)) | inr y ↦ y ]))
 
     -- none is listed under 0
     no-zero : Any (isTs 0) all → ⊥
@@ -138,12 +143,6 @@ module _ (k : Creation) (b : ℕ) (lb : isBlock k b ≡ true) where
           (any-map (isTs (p .top)) _ (λ x c. (lt-ltb (x .timestamp .0) (u .0) (omega (arith, p .below)), c)) all (to-ts (p .top) q)))
           (λ w x q. valued w x (any-map _ (isIt w x) (λ y c. c .1) all (any-those (λ w. w .timestamp below u) (isIt w x) all q)))
           (λ q. no-zero (any-map _ (isTs 0) (λ y c. c .1) all (any-those (λ w. w .timestamp below u) (isTs 0) all q))) .1
-
-      -- its timestamp is no write's
-      read-apart : mentions all u ≡ false
-      read-apart = not-mentioned all u
-          (λ q. readK≢writeK (sym (r .whole .good .inv .seen (u .0) v (inr (inr z)) .isR)
-          ∙ r .whole .good .inv .glob .listK (u .0) (from-ts (u .0) q)))
 
   -- ---- events es, then e, then those later
 
@@ -176,22 +175,18 @@ module _ (k : Creation) (b : ℕ) (lb : isBlock k b ≡ true) where
           (goes-on b (before .0) t e later stepped (rest .0) (rest .1))
 
       -- a read done at e is among the answers to the end
-      answered : (h v : ℕ) → step t e .outcome ≡ Outcome.ReadDone h b v → Any (isIt (timestampAt t h .0) v) (rest .0 .reads)
-      answered h v q = rest .1 .kept (timestampAt t h .0) v (stepped .next .done h v q)
+      answered : (h v : ℕ) → step t e .outcome ≡ Outcome.ReadDone h b v → Any (isIt (hostOf t h .attempt .timestamp .0) v) (rest .0 .reads)
+      answered h v q = rest .1 .kept (hostOf t h .attempt .timestamp .0) v (stepped .next .done h v q)
 
-      -- a write done at e is listed
-      written : (h : ℕ) → step t e .outcome ≡ Outcome.WriteDone h b → Any (isIt (timestampAt t h .0) (attemptAt t h .value))
-          (listed b (fresh k) (es ++ e ∷ later))
-      unfolding listed
-      written h q =
-          let P = isIt (timestampAt t h .0) (attemptAt t h .value) in
-          let w : Any P (byHost b t (step t e .outcome)) = rw (q, eq-eqb b b refl) (inl (refl, refl)) in
-          subst⁻¹ (Any P) (listed-append b (fresh k) es (e ∷ later)) (any-right P (listed b (fresh k) es) (listed b t (e ∷ later))
-          (any-left P (listedAt b t e (step t e)) (listed b (step t e .table) later)
-          (any-left P (byHost b t (step t e .outcome)) (byChange b t e (step t e)) w)))
+      -- what e commits is listed
+      commits : (u v : ℕ) → Any (isIt u v) (committedAt b t e (step t e)) → Any (isIt u v) (listed b (fresh k) (es ++ e ∷ later))
+      unfolding committed
+      commits u v z = to (es ++ e ∷ later) (rest .0) sequence u v (sequence .from u v (inr (subst⁻¹ (Any (isIt u v))
+          (committed-append b (fresh k) es (e ∷ later)) (any-right (isIt u v) (committed b (fresh k) es) (committed b t (e ∷ later))
+          (any-left (isIt u v) (committedAt b t e (step t e)) (committed b (step t e .table) later) z)))))
 
     -- right after e, a granted epoch change
-    module _ (g : isChange e (step t e) ≡ true) where
+    module _ (kind : e .kind ≡ 15) (granted : step t e .code ≡ 0) where
       -- the run up to e
       so-far : Run b noHist (fresh k) (es ++ e ∷ []) (stepped .next .hist)
       so-far = appended b noHist (fresh k) es (e ∷ []) (before .0) (stepped .next .hist) (before .1)
@@ -207,7 +202,7 @@ module _ (k : Creation) (b : ℕ) (lb : isBlock k b ≡ true) where
       copy-last : (c : ℕ) → isChunk k c ≡ true → c among setOf k b ≡ true
           → heldBy (recordOf (step t e .table) c b) ≡ last (listed b (fresh k) (es ++ e ∷ []))
       copy-last c lc m =
-          let x = changed t e g in
+          let x = changed t e kind granted in
           let held : In (t .creation) b c = subst⁻¹ (λ (k : Creation). In k b c) same-creation (lc, m) in
           let now : In (step t e .table .creation) b c = subst⁻¹ (λ (k : Creation). In k b c) (stepped .creation) held in
           let o = stepped .next .good .inv .cells c now in
@@ -226,21 +221,30 @@ module _ (k : Creation) (b : ℕ) (lb : isBlock k b ≡ true) where
           ap {B = Write} (λ (u : ℕ). record { timestamp = record { 0 = u }; value = recordOf (step t e .table) c b .value }) (q .0)
           ∙ ap {B = Write} (λ (v : ℕ). record { timestamp = l .timestamp; value = v }) (q .1)
 
-  -- ---- the five clauses
+  -- ---- the clauses
+
+  -- the run of es
+  whole : (es : List Event) → (hist : Hist) × Run b noHist (fresh k) es hist
+  whole es = run b es noHist (λ _. 0) (fresh k) base-block base
 
   -- for a fresh store of any creation
   mirrors : OneCopy k b
+  unfolding rising
   mirrors = record {
-    reads = λ es e later h v q. read-value (es ++ e ∷ later) (rest es e later .0) (sequence es e later)
-        (timestampAt (after (fresh k) es) h) v (answered es e later h v q);
-    apart = λ es e later h v q. read-apart (es ++ e ∷ later) (rest es e later .0) (sequence es e later)
-        (timestampAt (after (fresh k) es) h) v (answered es e later h v q);
-    writes = λ es e later h q. any-lists (listed b (fresh k) (es ++ e ∷ later)) (timestampAt (after (fresh k) es) h)
-        (attemptAt (after (fresh k) es) h .value) (written es e later h q);
+    byTimestamp = λ es. all-rises [] (committed b (fresh k) es) refl;
+    fromEvents = λ es. let r = whole es in
+        every-any _ (listed b (fresh k) es) (λ u v z. any-some _ (begun (told (fresh k) es)) (from-begun es (r .0) (r .1) u v z));
+    apart = all-distinct k;
+    about = tells-of-last k;
+    reads = λ es e later h v q.
+        subst (λ (u : Timestamp). v ≡ lastBefore u (listed b (fresh k) (es ++ e ∷ later)) .value) (done-read k es e h b v q)
+        (read-value (es ++ e ∷ later) (rest es e later .0) (sequence es e later) (hostOf (after (fresh k) es) h .attempt .timestamp) v
+        (answered es e later h v q));
+    writes = λ es e later h q. let d = done-write k es e h b q in
+        any-some _ (listed b (fresh k) (es ++ e ∷ later)) (any-map (isIt (d .timestamp) (d .value))
+        (λ w. isAttempt b w (lastOf h (begun (told (fresh k) es))) ≡ true) (λ w z. rw (z .0, z .1) (d .isLast))
+        (listed b (fresh k) (es ++ e ∷ later)) (commits es e later (d .timestamp) (d .value) (d .commits)));
     copies = copy-last;
-    once = λ es u v w p q. let r = run b es noHist (λ _. 0) (fresh k) base-block base in
-        sym (valued es (r .0) (r .1) (u .0) v (lists-any (listed b (fresh k) es) u v p))
-        ∙ valued es (r .0) (r .1) (u .0) w (lists-any (listed b (fresh k) es) u w q);
   }
 
 -- Demand 3: for every granted creation, every block and every sequence of events. (The proof does not look at the first hypothesis: where

@@ -30,7 +30,7 @@ use Rattle.one_copy.proofs.Queue.{removed-order, least}
 use Rattle.one_copy.proofs.View.{Hist, Part, partWith, partOf, seatsOf, NetLe, Foreign, net-less, net-foreign, far-message, plain-order, CInv}
 use Rattle.one_copy.proofs.Chunks.{withQueue, wrote, wasRead, net-only, mode-only, falls, runs-cmt, runs-off, runs-read}
 use Rattle.one_copy.proofs.Shapes.{Shape, shape-chunk}
-use Rattle.one_copy.proofs.Good.{In, Good, good-chunk, good-record, good-records, good-far, emptied-at, Next, quietly}
+use Rattle.one_copy.proofs.Good.{In, Good, good-chunk, good-record, good-records, good-far, emptied-at, Next, unnoted}
 use Rattle.one_copy.proofs.EvHost.{net-same}
 
 -- ---- the later of two timestamps
@@ -193,7 +193,7 @@ module _ (b : ℕ) (h : Hist) (t : Table) (f : Formed t) (s : Shape t) (lb : isB
       → Next b h t [] Outcome.None (withPlaces (withRecord t c d (ran c d (recordOf t c d) .block))
       (replied (t .places) (ran c d (recordOf t c d) .reply)))
   unfolding ran
-  ev-run d ld free e = quietly b h t _ (elim (eq-or-ne d b) [
+  ev-run d ld free e = unnoted b h t _ (elim (eq-or-ne d b) [
     | inl q ↦ subst⁻¹ (λ d. codeOf (runRefusals (chunkOf t c .state) (recordOf t c d .waiting) free) ≡ 0
         → Good b h (withPlaces (withRecord t c d (runs c d (withWaiting (recordOf t c d) (headRemoved (recordOf t c d .waiting)))
         (head (recordOf t c d .waiting)) (head (recordOf t c d .waiting) .kind) .block))
@@ -208,7 +208,7 @@ module _ (b : ℕ) (h : Hist) (t : Table) (f : Formed t) (s : Shape t) (lb : isB
   -- another state
   mode : (x : Chunk) → x .lost ≡ chunkOf t c .lost → (isNormal (x .state) ≡ true → chunkOf t c .lost ≡ false)
       → Next b h t [] Outcome.None (withChunk t c x)
-  mode x e ok = quietly b h t _ (good-chunk b h t s c x (t .places) place-c
+  mode x e ok = unnoted b h t _ (good-chunk b h t s c x (t .places) place-c
       (subst⁻¹ (λ (l : Bool). CInv S b h (t .epoch .0) (seatsOf t) (at c
       (partWith (record { state = x .state; lost = l; epoch = x .epoch; reconcile = x .reconcile }) (recordOf t c b)) (partOf t b))
       (t .places)) e
@@ -236,7 +236,7 @@ module _ (b : ℕ) (h : Hist) (t : Table) (f : Formed t) (s : Shape t) (lb : isB
   -- fail
   pub ev-fail : Next b h t [] Outcome.None (withRecords (withChunk t c (failed (chunkOf t c)))
       (recordsBy (λ d b. cond (eqb d c) (emptied (recordOf t d b)) (recordOf t d b))))
-  ev-fail = quietly b h t _ (good-records b h (withChunk t c x) (shape-chunk t s c x)
+  ev-fail = unnoted b h t _ (good-records b h (withChunk t c x) (shape-chunk t s c x)
       (recordsBy (λ d b. cond (eqb d c) (emptied (recordOf t d b)) (recordOf t d b)))
       (at c (emptied (recordOf t c b)) (λ a. recordOf t a b))
       (emptied-at b h t s c place-c place-b) (t .places)

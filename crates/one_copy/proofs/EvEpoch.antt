@@ -7,7 +7,7 @@ use mathlib.Core.List.{List, [], _++_}
 use native.Mathlib.Omega.{arith}
 use lib.ListN.{length, getD, List·getD-eq-default}
 use Rattle.one_copy.specs.Types.{Timestamp, Record, State, Chunk, Table, Outcome}
-use Rattle.one_copy.specs.Runs.{Write}
+use Rattle.one_copy.specs.Listed.{Write, byChange}
 use Rattle.rules.specs.Chunks.{emptied}
 use Rattle.rules.specs.Codes.{codeOf}
 use Rattle.rules.specs.Events.{copiesOf, renewed, epochChanged, epochRefusals}
@@ -101,10 +101,6 @@ module _ (b : ℕ) (h : Hist) (t : Table) (f : Formed t) (lb : isBlock (t .creat
       c b noRecord l (small t f b lb) ∙ settled-at t b c l ∙ rw (m .1) refl in
       rw (ec, er) refl
 
-  -- the writes that it commits
-  abbrev pub committedBy : List Write
-  committedBy = each (λ u. record { timestamp = u; value = writtenWith (copiesOf t b) u }) (commits (copiesOf t b))
-
   -- the cells before
   abbrev cells : ℕ → Cell
   cells c = cellOf (partOf t b c)
@@ -118,25 +114,24 @@ module _ (b : ℕ) (h : Hist) (t : Table) (f : Formed t) (lb : isBlock (t .creat
   st = settling t f b lb (epoch-holder t e b (small t f b lb) lb)
 
   -- what is listed after was listed or is committed
-  to : (u : ℕ) → Any (isTs u) (committedBy ++ h .listed) → Any (isTs u) (h .listed) ⊎ isChosen u
-  to u z = elim (any-append (isTs u) committedBy (h .listed) z) [
-    | inl y ↦ inr (commits-in t f b lb u (any-each (λ u. record { timestamp = u; value = writtenWith (copiesOf t b) u }) (isTs u)
+  to : (u : ℕ) → Any (isTs u) (byChange b t ++ h .listed) → Any (isTs u) (h .listed) ⊎ isChosen u
+  to u z = elim (any-append (isTs u) (byChange b t) (h .listed) z) [
+    | inl y ↦ inr (commits-in t f b lb u (any-each _ (isTs u)
         (commits (copiesOf t b)) y))
     | inr y ↦ inl y
   ]
 
   -- and the way back
-  from : (u : ℕ) → Any (isTs u) (h .listed) ⊎ isChosen u → Any (isTs u) (committedBy ++ h .listed)
+  from : (u : ℕ) → Any (isTs u) (h .listed) ⊎ isChosen u → Any (isTs u) (byChange b t ++ h .listed)
   from u = elim [
-    | inl y ↦ any-right (isTs u) committedBy (h .listed) y
-    | inr y ↦ any-left (isTs u) committedBy (h .listed) (each-any (λ u. record { timestamp = u; value = writtenWith (copiesOf t b) u })
-        (isTs u) (commits (copiesOf t b)) (commits-has t f b lb (epoch-holder t e b (small t f b lb) lb) u y))
+    | inl y ↦ any-right (isTs u) (byChange b t) (h .listed) y
+    | inr y ↦ any-left (isTs u) (byChange b t) (h .listed) (each-any _ (isTs u) (commits (copiesOf t b)) (commits-has t f b lb (epoch-holder t e b (small t f b lb) lb) u y))
   ]
 
   -- a committed write has its attempt's value
-  value : (u v : ℕ) → Any (isIt u v) committedBy → h .value u ≡ v
+  value : (u v : ℕ) → Any (isIt u v) (byChange b t) → h .value u ≡ v
   value u v z =
-      let y = any-each (λ u. record { timestamp = u; value = writtenWith (copiesOf t b) u }) (isIt u v) (commits (copiesOf t b)) z in
+      let y = any-each _ (isIt u v) (commits (copiesOf t b)) z in
       let q = any-at (λ (x : Timestamp). (x .0 ≡ u) × (writtenWith (copiesOf t b) x ≡ v)) (commits (copiesOf t b)) (record { 0 = 0 }) y in
       let x = getD (commits (copiesOf t b)) (q .0) (record { 0 = 0 }) in
       let k = commits-in t f b lb (x .0) (any-map _ (λ (z : Timestamp). z .0 ≡ x .0) (λ z p. p .0 ∙ sym (q .2 .0))
@@ -145,19 +140,19 @@ module _ (b : ℕ) (h : Hist) (t : Table) (f : Formed t) (lb : isBlock (t .creat
       ap (h .value) (sym (q .2 .0)) ∙ (i .inv .cells (w .0) (w .2)) .waits (x .0) _ (w .1) (w .3) .vals ∙ q .2 .1
 
   -- the changed table is good
-  epoch-good : Good b (lists h committedBy) (epochChanged t)
-  epoch-good = subst⁻¹ (λ (ep : ℕ). CInv S b (lists h committedBy) ep (seatsOf t) (partOf (epochChanged t) b) (t .places)) grown (record {
-    inv = recell S (book (lists h committedBy) (suc (t .epoch .0))) (flow S b h (seatsOf t) (t .places))
+  epoch-good : Good b (lists h (byChange b t)) (epochChanged t)
+  epoch-good = subst⁻¹ (λ (ep : ℕ). CInv S b (lists h (byChange b t)) ep (seatsOf t) (partOf (epochChanged t) b) (t .places)) grown (record {
+    inv = recell S (book (lists h (byChange b t)) (suc (t .epoch .0))) (flow S b h (seatsOf t) (t .places))
         (settledCell (r .write .0) (r .value) (r .read .0)) (λ c. cellOf (partOf (epochChanged t) b c))
         (relist S (settledBook (book h (t .epoch .0)) isChosen) (flow S b h (seatsOf t) (t .places))
-        (settledCell (r .write .0) (r .value) (r .read .0)) ((book (lists h committedBy) (t .epoch .0)) .L)
+        (settledCell (r .write .0) (r .value) (r .read .0)) ((book (lists h (byChange b t)) (t .epoch .0)) .L)
         (settle S (book h (t .epoch .0)) (flow S b h (seatsOf t) (t .places)) cells (i .inv) (W (copiesOf t b) .0)
         (besideW (copiesOf t b)) (r .write .0) (r .value) (r .read .0) st)
         to from)
         (λ c m. subst⁻¹ (λ (p : Part). Same (cellOf p) (settledCell (r .write .0) (r .value) (r .read .0) c)) (changed-part c m)
         (record { wr = refl; rd = refl; val = refl; lost = refl; to = λ u x a z. z; from = λ u x a z. z; r = λ u z. z }))
         (λ c u z. absurd (subst (Any (isR u)) (none-wait t c b (small t f b lb)) z));
-    vals = λ u v z. elim (any-append (isIt u v) committedBy (h .listed) z) [ inl y ↦ value u v y | inr y ↦ i .vals u v y ];
+    vals = λ u v z. elim (any-append (isIt u v) (byChange b t) (h .listed) z) [ inl y ↦ value u v y | inr y ↦ i .vals u v y ];
     drawn = i .drawn;
     stamps = i .stamps;
     mine = i .mine;
@@ -169,14 +164,15 @@ module _ (b : ℕ) (h : Hist) (t : Table) (f : Formed t) (lb : isBlock (t .creat
       grown = omega arith
 
   -- the epoch change
-  pub ev-epoch : Next b h t committedBy Outcome.None (epochChanged t)
+  pub ev-epoch : Next b h t (byChange b t) Outcome.None (epochChanged t)
   ev-epoch = record {
-    hist = lists h committedBy;
+    hist = lists h (byChange b t);
     good = epoch-good;
     listed = refl;
     kept = λ u v z. z;
     done =
         λ j v q. absurd (none-done j b v q);
+    began = λ u q. inl (q, refl);
   }
 
 -- nothing waits, so nothing new is mentioned

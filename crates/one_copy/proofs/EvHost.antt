@@ -6,10 +6,11 @@ use mathlib.Core.Bool.{Bool, true, false, cond, not, _&&_}
 use mathlib.Core.List.{List, [], _∷_}
 use native.Mathlib.Omega.{arith}
 use lib.ListN.{drop}
+use lib.Seq.{getD-set-same}
 use lib.Dec.{eqb}
 use borrow.Author.Tests.{ltb-true, leb-false, eqb-true, eq-eqb, ne-eqb, not-false}
 use Rattle.one_copy.specs.Types.{Set, Action, Operation, Host, Message, Place, Table, Outcome}
-use Rattle.one_copy.specs.Runs.{written, timestampAt, attemptAt, byHost}
+use Rattle.one_copy.specs.Listed.{Write, writeOf, byHost}
 use Rattle.rules.specs.Codes.{codeOf}
 use Rattle.rules.specs.Events.{holdersOf}
 use Rattle.rules.specs.Hosts.{operationsOf, queueOf, front, appended, startRefusals, only, openingTo, opening, started, finishRefusals, closingTo, closing, doneAs, failedAs, goesBack, finishOutcome, ended, finished, timedOut, refreshed, stopped, withQueue}
@@ -19,18 +20,18 @@ use Rattle.rules.specs.Network.{sentToEach}
 use Rattle.rules.specs.Tables.{isHost, isChunk, isBlock, setOf, hostOf, withHost, withPlaces}
 use Rattle.rules.specs.Timestamps.{stamp}
 use Rattle.rules.specs.Words.{those, each, every, fold, from}
-use Rattle.rules.specs.Zero.{_among_, isEmpty, zeroSet}
+use Rattle.rules.specs.Zero.{_among_, isEmpty, zeroSet, noHost}
 use Rattle.rules.proofs.Formed.{Formed, host-place}
-use Rattle.rules.proofs.Lists.{each-number}
+use Rattle.rules.proofs.Lists.{walk, each-number}
 use Rattle.rules.proofs.Refusals.{granted-exactly}
 use Rattle.rules.proofs.Relies.{finish-current}
 use Rattle.one_copy.proofs.Tests.{at, eq-or-ne, not-both}
-use Rattle.one_copy.proofs.Abs.{readK, writeK}
+use Rattle.one_copy.proofs.Abs.{readK, writeK, readK≢writeK}
 use Rattle.one_copy.proofs.Net.{sent-each}
-use Rattle.one_copy.proofs.View.{Hist, partOf, Seat, seatOf, seatsOf, HasW, NetLe, net-less, net-foreign, far-message, CInv, Quiet, quiet}
+use Rattle.one_copy.proofs.View.{Hist, partOf, Seat, seatOf, seatsOf, written, HasW, NetLe, net-less, net-foreign, far-message, CInv, Quiet, quiet}
 use Rattle.one_copy.proofs.Hosts.{begins, lists, answers, start-other, begin-write, begin-read, end-commit, end-abort, end-other, end-read}
 use Rattle.one_copy.proofs.Shapes.{Shape, front-kept, at-front}
-use Rattle.one_copy.proofs.Good.{In, Good, inside, holder, good-host, Next, none-done, quietly}
+use Rattle.one_copy.proofs.Good.{In, Good, inside, holder, good-host, Trying, Next, none-done, unnoted}
 
 -- the operation is as it was, where there is an attempt
 pub record SameOp (x y : Seat) : Type 0 where
@@ -142,7 +143,7 @@ module _ (b : ℕ) (h : Hist) (t : Table) (f : Formed t) (s : Shape t) (lb : isB
 
   -- a quiet change of the host
   pub host-quiet : (y : Host) → Quiet S b (t .places) (t .epoch .0) (seatsOf t j) (seatOf y) → Next b h t [] Outcome.None (withHost t j y)
-  host-quiet y q = quietly b h t (withHost t j y) (good-host b h t s j y (t .places) small
+  host-quiet y q = unnoted b h t (withHost t j y) (good-host b h t s j y (t .places) small
       (quiet S b h (t .epoch .0) (seatsOf t) (partOf t b) (t .places) i j (seatOf y) (t .places) (net-same b (t .places)) q))
 
   -- intake
@@ -204,10 +205,28 @@ module _ (b : ℕ) (h : Hist) (t : Table) (f : Formed t) (s : Shape t) (lb : isB
       listed = refl;
       kept = λ u w z. z;
       done = λ k w q. absurd (none-done k b w q);
+      began = λ u. new u (eqb u (stamp clock j .0)) refl;
     }
       where
         y : Seat
         y = seatOf (started x (stamp clock j) clock (holdersOf t x))
+
+        now : Host
+        now = started x (stamp clock j) clock (holdersOf t x)
+
+        here : hostOf (withHost t j now) j ≡ now
+        here = getD-set-same (t .hosts) j now noHost (omega (arith, small, s .hosts))
+
+        new : (u : ℕ) (z : Bool) → eqb u (stamp clock j .0) ≡ z → cond z writeK (h .kind u) ≡ writeK
+            → ((h .kind u ≡ writeK) × (cond z (y .value) (h .value u) ≡ h .value u)) ⊎ Trying b (after (Action.Write v)) u (cond z (y .value) (h .value u))
+        new u true e q = inr (record {
+          host = j;
+          place = small;
+          at = subst⁻¹ (λ (k : Host). HasW b (seatOf k) u) here
+              (record { stamp = sym (eqb-true u (stamp clock j .0) e); pos = omega (arith, eqb-true u (stamp clock j .0) e, lt); write = rw ea refl; block = eb });
+          value = ap (λ (k : Host). seatOf k .value) here;
+        })
+        new u false e q = inl (q, refl)
 
         m : ℕ → Message
         m c = Message.Prewrite (headed j c (front x .block) (stamp clock j)) (x .epoch) v
@@ -229,8 +248,14 @@ module _ (b : ℕ) (h : Hist) (t : Table) (f : Formed t) (s : Shape t) (lb : isB
       listed = refl;
       kept = λ u w z. z;
       done = λ k w q. absurd (none-done k b w q);
+      began = λ u. old u (eqb u (stamp clock j .0));
     }
       where
+        old : (u : ℕ) (z : Bool) → cond z readK (h .kind u) ≡ writeK
+            → ((h .kind u ≡ writeK) × (cond z 0 (h .value u) ≡ h .value u)) ⊎ Trying b (after Action.Read) u (cond z 0 (h .value u))
+        old u true q = absurd (readK≢writeK q)
+        old u false q = inl (q, refl)
+
         y : Seat
         y = seatOf (started x (stamp clock j) clock (only copy))
 
@@ -242,7 +267,7 @@ module _ (b : ℕ) (h : Hist) (t : Table) (f : Formed t) (s : Shape t) (lb : isB
 
         held : In (t .creation) b copy
         held = (lc, subst (λ d. copy among setOf (t .creation) d ≡ true) eb (not-false (copy among holdersOf t x) ok))
-    start-as lt a ea ok (inr far) = quietly b h t (after a) (good-host b h t s j (started x (stamp clock j) clock (to a)) n small
+    start-as lt a ea ok (inr far) = unnoted b h t (after a) (good-host b h t s j (started x (stamp clock j) clock (to a)) n small
         (start-other S (inside t f b lb) b h (t .epoch .0) (seatsOf t) (partOf t b) (t .places) i j clock small lt
         (seatOf (started x (stamp clock j) clock (to a))) refl refl (i .known j) n
         (net-foreign b n (t .places) ℕ m (λ P z. elim (sent-each P m (to a) (t .places) z) [ inl q ↦ inl q | inr q ↦ inr (q .0, q .3) ])
@@ -279,29 +304,44 @@ module _ (b : ℕ) (h : Hist) (t : Table) (f : Formed t) (s : Shape t) (lb : isB
       (sentToEach (t .places) (closingTo a (holdersOf t x)) (λ c. closing o (headed j c (front x .block) (x .attempt .timestamp))
       (x .epoch)))
 
-  -- an outcome that lists nothing and reads nothing
-  pub record Idle (o : Outcome) : Type 0 where
-    pub lists : byHost b t o ≡ []
-    pub reads : (k v : ℕ) → o ≡ Outcome.ReadDone k b v → ⊥
+  -- what it commits
+  abbrev commits : Action → Bool → List Write
+  commits a o = cond (o && eqb (front x .block) b) (writeOf (x .attempt .timestamp) a) []
+
+  -- an outcome that reads nothing
+  abbrev Idle : Outcome → Type 0
+  Idle o = (k v : ℕ) → o ≡ Outcome.ReadDone k b v → ⊥
 
   -- a restart and a failure
   failing : (r : Bool) (a : Action) → Idle (cond r Outcome.None (failedAs j (front x) a))
-  failing true a = record { lists = refl; reads = λ k v q. none-done k b v q }
-  failing false Action.Read = record { lists = refl; reads = λ k v q. let z : _≡_ {A = ℕ} 0 1 = cc in omega arith }
-  failing false (Action.Write w) = record { lists = refl; reads = λ k v q. let z : _≡_ {A = ℕ} 0 1 = cc in omega arith }
+  failing true a k v q = none-done k b v q
+  failing false Action.Read k v q = let z : _≡_ {A = ℕ} 0 1 = cc in omega arith
+  failing false (Action.Write w) k v q = let z : _≡_ {A = ℕ} 0 1 = cc in omega arith
 
   -- done, at another block
   far-done : (a : Action) → (front x .block ≡ b → ⊥) → Idle (doneAs j (front x) a (x .attempt .result))
-  far-done Action.Read far = record { lists = refl; reads = λ k v q. far cc }
-  far-done (Action.Write w) far = record {
-    lists = rw (ne-eqb (front x .block) b far) refl;
-    reads =
-        λ k v q. let z : _≡_ {A = ℕ} 0 1 = cc in omega arith;
+  far-done Action.Read far k v q = far cc
+  far-done (Action.Write w) far k v q = let z : _≡_ {A = ℕ} 0 1 = cc in omega arith
+
+  -- such an outcome with a good table, where nothing is committed
+  idly : (o : Outcome) (ws : List Write) (t′ : Table) → ws ≡ [] → Idle o → Good b h t′ → Next b h t ws o t′
+  idly o ws t′ e r g = record {
+    hist = h;
+    good = g;
+    listed = rw e refl;
+    kept = λ u v z. z;
+    done = λ k v q. absurd (r k v q);
+    began = λ u q. inl (q, refl);
   }
 
-  -- such an outcome with a good table
-  idly : (o : Outcome) (t′ : Table) → Idle o → Good b h t′ → Next b h t (byHost b t o) o t′
-  idly o t′ e g = record { hist = h; good = g; listed = rw (e .lists) refl; kept = λ u v z. z; done = λ k v q. absurd (e .reads k v q) }
+  -- another block's write is not this one's
+  far-commits : (a : Action) (o : Bool) → (front x .block ≡ b → ⊥) → commits a o ≡ []
+  far-commits a true far = rw (ne-eqb (front x .block) b far) refl
+  far-commits a false far = refl
+
+  -- a read writes nothing
+  read-commits : (o : Bool) → commits Action.Read o ≡ []
+  read-commits o = walk (λ (l : List Write). l ≡ []) (o && eqb (front x .block) b) [] [] (λ _. refl) (λ _. refl)
 
   module _ (pos : 0 < x .attempt .timestamp .0) (out : isEmpty (x .attempt .outstanding) ≡ true) where
     -- where the host is left
@@ -348,10 +388,10 @@ module _ (b : ℕ) (h : Hist) (t : Table) (f : Formed t) (s : Shape t) (lb : isB
 
     -- by the operation, whether it is okay, and its block
     finish-as : (a : Action) → front x .action ≡ a → (o : Bool) → x .attempt .okay ≡ o → (front x .block ≡ b) ⊎ (front x .block ≡ b → ⊥)
-        → Next b h t (byHost b t (outcomeOf a o)) (outcomeOf a o) (closed a o)
+        → Next b h t (commits a o) (outcomeOf a o) (closed a o)
     finish-as (Action.Write v) ea true eo (inl eb) = record {
-      hist = lists h (attemptAt t j ∷ []);
-      good = good-host b (lists h (attemptAt t j ∷ [])) t s j (finished x) _ small
+      hist = lists h (mine ∷ []);
+      good = good-host b (lists h (mine ∷ [])) t s j (finished x) _ small
           (end-commit S (inside t f b lb) b h (t .epoch .0) (seatsOf t) (partOf t b) (t .places) i j (seatOf (finished x)) (left .0)
           (left .1) knows _ (x .attempt .timestamp) (x .epoch) (hasW v ea eb) eo out
           (λ P z. elim (sent-each P (λ c. Message.Commit (headed j c (front x .block) (x .attempt .timestamp)) (x .epoch))
@@ -359,11 +399,15 @@ module _ (b : ℕ) (h : Hist) (t : Table) (f : Formed t) (s : Shape t) (lb : isB
             | inl q ↦ inl q
             | inr q ↦ inr (q .0, subst (λ d. P (Message.Commit (headed j (q .0) d (x .attempt .timestamp)) (x .epoch))) eb (q .3))
           ]));
-      listed = rw (eq-eqb (front x .block) b eb) refl;
+      listed = rw (eq-eqb (front x .block) b eb, ea) refl;
       kept = λ u w z. z;
       done = λ k w q. absurd (let z : _≡_ {A = ℕ} 0 1 = cc in omega arith);
+      began = λ u q. inl (q, refl);
     }
-    finish-as (Action.Write v) ea false eo (inl eb) = idly (outcomeOf (Action.Write v) false) _
+      where
+        mine : Write
+        mine = record { timestamp = x .attempt .timestamp; value = written (front x .action) }
+    finish-as (Action.Write v) ea false eo (inl eb) = idly (outcomeOf (Action.Write v) false) [] _ refl
         (failing (x .attempt .restart) (Action.Write v)) (good-host b h t s j (finished x) _ small
         (end-abort S (inside t f b lb) b h (t .epoch .0) (seatsOf t) (partOf t b) (t .places) i j (seatOf (finished x)) (left .0)
         (left .1) knows _ (x .attempt .timestamp) (x .epoch) (hasW v ea eb) eo
@@ -372,9 +416,9 @@ module _ (b : ℕ) (h : Hist) (t : Table) (f : Formed t) (s : Shape t) (lb : isB
           | inl q ↦ inl q
           | inr q ↦ inr (q .0, subst (λ d. P (Message.Abort (headed j (q .0) d (x .attempt .timestamp)) (x .epoch))) eb (q .3))
         ])))
-    finish-as (Action.Write v) ea true eo (inr far) = idly (outcomeOf (Action.Write v) true) _ (far-done (Action.Write v) far)
+    finish-as (Action.Write v) ea true eo (inr far) = idly (outcomeOf (Action.Write v) true) _ _ (far-commits (Action.Write v) true far) (far-done (Action.Write v) far)
         (finish-other (Action.Write v) true (far-net (holdersOf t x) true far))
-    finish-as (Action.Write v) ea false eo (inr far) = idly (outcomeOf (Action.Write v) false) _
+    finish-as (Action.Write v) ea false eo (inr far) = idly (outcomeOf (Action.Write v) false) [] _ refl
         (failing (x .attempt .restart) (Action.Write v)) (finish-other (Action.Write v) false (far-net (holdersOf t x) false far))
     finish-as Action.Read ea true eo (inl eb) = record {
       hist = answers h (record { timestamp = x .attempt .timestamp; value = x .attempt .result });
@@ -384,18 +428,19 @@ module _ (b : ℕ) (h : Hist) (t : Table) (f : Formed t) (s : Shape t) (lb : isB
           (end-read S (inside t f b lb) b h (t .epoch .0) (seatsOf t) (partOf t b) (t .places) i j (seatOf (finished x)) (left .0)
           (left .1) knows (x .attempt .timestamp) (x .attempt .result)
           (record { stamp = refl; pos = pos; write = rw ea refl; block = eb; okay = eo; none = out; value = refl })));
-      listed = refl;
+      listed = rw (read-commits true) refl;
       kept = λ u w z. inr z;
-      done = λ k w q. let e : j ≡ k = cc in inl (ap (λ (a : ℕ). timestampAt t a .0) e, cc);
+      done = λ k w q. let e : j ≡ k = cc in inl (ap (λ (a : ℕ). hostOf t a .attempt .timestamp .0) e, cc);
+      began = λ u q. inl (q, refl);
     }
-    finish-as Action.Read ea true eo (inr far) = idly (outcomeOf Action.Read true) _ (far-done Action.Read far)
+    finish-as Action.Read ea true eo (inr far) = idly (outcomeOf Action.Read true) _ _ (read-commits true) (far-done Action.Read far)
         (finish-other Action.Read true (read-net true))
-    finish-as Action.Read ea false eo d = idly (outcomeOf Action.Read false) _ (failing (x .attempt .restart) Action.Read)
+    finish-as Action.Read ea false eo d = idly (outcomeOf Action.Read false) _ _ (read-commits false) (failing (x .attempt .restart) Action.Read)
         (finish-other Action.Read false (read-net false))
 
   -- finish
   pub ev-finish : (free messages : ℕ) → codeOf (finishRefusals x free messages) ≡ 0
-      → Next b h t (byHost b t (finishOutcome j x)) (finishOutcome j x) (closed (front x .action) (x .attempt .okay))
+      → Next b h t (byHost b x) (finishOutcome j x) (closed (front x .action) (x .attempt .okay))
   unfolding every finishOutcome
   ev-finish free messages e =
       let row = granted-exactly (finishRefusals x free messages) refl .0 e in

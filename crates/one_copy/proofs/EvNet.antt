@@ -30,7 +30,7 @@ use Rattle.one_copy.proofs.Chunks.{withQueue, net-only, takes-read, tak
 use Rattle.one_copy.proofs.Shapes.{Shape}
 use Rattle.one_copy.proofs.Homes.{Homes}
 use Rattle.one_copy.proofs.Arrivals.{Passed, arrived-walk, decides-walk, heard-keeps}
-use Rattle.one_copy.proofs.Good.{In, Good, good-host, good-record, good-far, Next, quietly}
+use Rattle.one_copy.proofs.Good.{In, Good, good-host, good-record, good-far, Next, unnoted}
 use Rattle.one_copy.proofs.EvHost.{front-same, same-host, sour-host}
 use Rattle.one_copy.proofs.EvChunk.{Plain, net-replied}
 
@@ -292,10 +292,10 @@ module _ (b : ℕ) (h : Hist) (t : Table) (f : Formed t) (s : Shape t) (lb : isB
 
     -- deliver
     pub ev-deliver : (m : Message) → slotOf (t .places) p ≡ Slot.Full m → Next b h t [] Outcome.None (takes (withPlaces t n1) (Slot.Full m))
-    ev-deliver m e = quietly b h t _ (walk (Good b h) (isForChunk m) _ _
+    ev-deliver m e = unnoted b h t _ (walk (Good b h) (isForChunk m) _ _
         (λ _. walk (Good b h) (isNormal (chunkOf t (headerOf m .chunk) .state)) _ _ (took-at m e) (λ _. gone))
         (λ _. host-takes m e))
 
   -- drop
   pub ev-drop : Next b h t [] Outcome.None (withPlaces t n1)
-  ev-drop = quietly b h t _ gone
+  ev-drop = unnoted b h t _ gone

@@ -1,7 +1,7 @@
 -- A table and its history are good; reading a table with one part changed
 use Prim.Native.Nat.{ℕ, _+_, _*_, _<_}
 use mathlib.Core.Path.{_≡_, refl, sym, subst⁻¹, _∙_, ap, fun-ext}
-use mathlib.Core.Logic.{inl, inr}
+use mathlib.Core.Logic.{_⊎_, inl, inr}
 use mathlib.Core.Bool.{Bool, true, false, cond, not}
 use mathlib.Core.List.{List, [], _++_}
 use native.Mathlib.Omega.{arith}
@@ -10,7 +10,7 @@ use lib.Dec.{eqb}
 use lib.Seq.{getD-set-same, getD-set-other}
 use borrow.Author.Tests.{eqb-true, not-true, not-false}
 use Rattle.one_copy.specs.Types.{Creation, Record, Chunk, Host, Place, Table, Outcome}
-use Rattle.one_copy.specs.Runs.{Write, timestampAt}
+use Rattle.one_copy.specs.Listed.{Write}
 use Rattle.rules.specs.Chunks.{emptied}
 use Rattle.rules.specs.Creation.{ofStore}
 use Rattle.rules.specs.Limits.{hostLimit, chunkLimit, blockLimit}
@@ -20,9 +20,10 @@ use Rattle.rules.specs.Zero.{_among_, isEmpty, noHost, noChunk, noRecord}
 use Rattle.rules.proofs.Formed.{Formed, creation-facts, chunk-place, block-place, of-store}
 use Rattle.rules.proofs.Lists.{both, some-number, grid-at}
 use Rattle.one_copy.proofs.Tests.{at, at-map, at-same, at-other, at-with, eq-or-ne, le-or-lt}
+use Rattle.one_copy.proofs.Abs.{writeK}
 use Rattle.one_copy.proofs.Lists.{Any, getD-set}
 use Rattle.one_copy.proofs.Shapes.{Shape, records-beyond, beyond}
-use Rattle.one_copy.proofs.View.{Hist, Part, partWith, partOf, Seat, seatOf, seatsOf, isIt, CInv}
+use Rattle.one_copy.proofs.View.{Hist, Part, partWith, partOf, Seat, seatOf, seatsOf, isIt, HasW, CInv}
 
 -- chunk c holds a copy of block b
 abbrev pub In : Creation → (block chunk : ℕ) → Type 0
@@ -120,17 +121,33 @@ module _ (b : ℕ) (h : Hist) (t : Table) (s : Shape t) where
 
 -- ---- what an event makes of a good table: ws are the writes that it lists, o its outcome
 
+-- a host is at a write of block b: v under u
+pub record Trying (b : ℕ) (t : Table) (u v : ℕ) : Type 0 where
+  pub host : ℕ
+  pub place : host < hostLimit
+  pub at : HasW b (seatsOf t host) u
+  pub value : (seatsOf t host) .value ≡ v
+
 pub record Next (b : ℕ) (h : Hist) (t : Table) (ws : List Write) (o : Outcome) (t′ : Table) : Type 0 where
   pub hist : Hist
   pub good : Good b hist t′
   pub listed : hist .listed ≡ ws ++ h .listed
   pub kept : (u v : ℕ) → Any (isIt u v) (h .reads) → Any (isIt u v) (hist .reads)
-  pub done : (j v : ℕ) → o ≡ Outcome.ReadDone j b v → Any (isIt (timestampAt t j .0) v) (hist .reads)
+  pub done : (j v : ℕ) → o ≡ Outcome.ReadDone j b v → Any (isIt (hostOf t j .attempt .timestamp .0) v) (hist .reads)
+  -- a write that is begun now is a host's
+  pub began : (u : ℕ) → hist .kind u ≡ writeK → ((h .kind u ≡ writeK) × (hist .value u ≡ h .value u)) ⊎ Trying b t′ u (hist .value u)
 
 -- no outcome is a read done
 pub none-done : (j b v : ℕ) → Outcome.None ≡ Outcome.ReadDone j b v → ⊥
 none-done j b v q = let z : _≡_ {A = ℕ} 0 1 = cc in omega arith
 
 -- an event that the history does not note
-pub quietly : (b : ℕ) (h : Hist) (t t′ : Table) → Good b h t′ → Next b h t [] Outcome.None t′
-quietly b h t t′ g = record { hist = h; good = g; listed = refl; kept = λ u v z. z; done = λ j v q. absurd (none-done j b v q) }
+pub unnoted : (b : ℕ) (h : Hist) (t t′ : Table) → Good b h t′ → Next b h t [] Outcome.None t′
+unnoted b h t t′ g = record {
+  hist = h;
+  good = g;
+  listed = refl;
+  kept = λ u v z. z;
+  done = λ j v q. absurd (none-done j b v q);
+  began = λ u q. inl (q, refl);
+}

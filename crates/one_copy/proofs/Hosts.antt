@@ -6,7 +6,7 @@ use mathlib.Core.Bool.{true, false}
 use mathlib.Core.List.{List, [], _∷_, _++_}
 use native.Mathlib.Omega.{arith}
 use Rattle.one_copy.specs.Types.{Timestamp, Epoch, Message, Place}
-use Rattle.one_copy.specs.Runs.{Write}
+use Rattle.one_copy.specs.Listed.{Write}
 use Rattle.rules.specs.Kinds.{headed}
 use Rattle.rules.specs.Limits.{chunkLimit}
 use Rattle.rules.specs.Timestamps.{stamp}

@@ -25,5 +25,7 @@ pub mod EvNet
 pub mod Fresh
 pub mod Steps
 pub mod History
+pub mod Listing
+pub mod Attempts
 pub mod Demand
-pub mod Sessions
+pub mod Computed

@@ -5,8 +5,8 @@ use mathlib.Core.Logic.{_⊎_, inl, inr}
 use mathlib.Core.Bool.{Bool, true, false, not}
 use mathlib.Core.List.{List}
 use native.Mathlib.Omega.{arith}
-use Rattle.one_copy.specs.Types.{Set, Kind, Entry, Record, State, Chunk, Host, Header, Message, Place, Table}
-use Rattle.one_copy.specs.Runs.{Write, written}
+use Rattle.one_copy.specs.Types.{Set, Kind, Entry, Record, State, Chunk, Action, Host, Header, Message, Place, Table}
+use Rattle.one_copy.specs.Listed.{Write}
 use Rattle.rules.specs.Hosts.{front}
 use Rattle.rules.specs.Kinds.{isNormal, isReading, headerOf}
 use Rattle.rules.specs.Tables.{hostOf, chunkOf, recordOf}
@@ -55,6 +55,11 @@ pub record Seat : Type 0 where
   pub result : ℕ
   pub known : ℕ
   pub clock : ℕ
+
+-- the value that an operation writes
+abbrev pub written : Action → ℕ
+written Action.Read = 0
+written (Action.Write v) = v
 
 -- of a host
 abbrev pub seatOf : Host → Seat

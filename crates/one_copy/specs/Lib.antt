@@ -1,4 +1,4 @@
 pub mod Types
-pub mod Runs
+pub mod Listed
 pub mod OneCopy
 pub mod Sessions

@@ -3,7 +3,7 @@
 ghost use Prim.Native.Nat.{_+_, _*_, _<_, _/_};
 ghost use mathlib.Core.Path.{_≡_};
 ghost use lib.ListN.{length};
-ghost use Rattle.replay.specs.Replay.{eventAt, mixed, mixedWith, replayed, sumAfter};
+ghost use Rattle.replay.specs.Replay.{eventAt, mixed, mixedWith, replayed, sumAfter, tableBytes};
 use rules::Event;
 use rules::Outcome;
 use rules::Table;
@@ -13,6 +13,8 @@ const NUMBERS: usize = 4;
 
 // Two to the power 56.
 const TOP: u64 = 72057594037927936;
+
+const TABLE_BYTES: u64 = 51688;
 
 // One number more in the checksum: a few machine instructions, and no sum overflows.
 fn mix(sum: u64, x: u64) -> u64
@@ -82,4 +84,12 @@ pub extern "C" fn kerzubian_replay(first: &[u8], second: &[u8], events: &[u64]) 
     let made = engine::create(k);
     let t = made.table;
     run(t, events)
+}
+
+// How many bytes a table takes, for those who time a copy of it.
+#[no_mangle]
+pub extern "C" fn kerzubian_table_bytes() -> u64
+    ensures { λ r. ⌜ r ≡ tableBytes ⌝ }
+{
+    TABLE_BYTES
 }

@@ -13,6 +13,7 @@ use Rattle.rules.specs.Creation.{isCreation, firstEpoch, freshChunk, fre
 use Rattle.rules.specs.Events.{kindOf, ranges, ruleOf, rows, step}
 use Rattle.rules.specs.Formed.{hostFormed, chunkFormed, recordFormed, wellFormed}
 use Rattle.rules.specs.Limits.{hostLimit, chunkLimit, blockLimit, placeLimit}
+use Rattle.rules.specs.Runs.{after}
 use Rattle.rules.specs.Tables.{isHost, isChunk, isBlock, at}
 use Rattle.rules.specs.Words.{every, some, place, from}
 use Rattle.rules.specs.Zero.{zeroRecord, isZeroRecord, zeroChunk, isZeroChunk, zeroHost, isZeroHost, zeroPlace, zeroTable, noRecord, noChunk, noHost}
@@ -96,13 +97,9 @@ step-formed t e h =
     well-formed (ruleOf t e .effect .table) (kind-keeps t (e .kind) (e .a) (e .b) (e .c) (formed t h) (own .1) (own .2)))
     (λ _. h)
 
--- the table after the events, each given to the step
-abbrev pub after : Table → List Event → Table
-after t [] = t
-after t (e ∷ es) = after (step t e .table) es
-
 -- a well-formed table stays well formed
 after-formed : (t : Table) (es : List Event) → wellFormed t ≡ true → wellFormed (after t es) ≡ true
+unfolding after
 after-formed t [] h = h
 after-formed t (e ∷ es) h = after-formed (step t e .table) es (step-formed t e h)
 

@@ -211,12 +211,12 @@ module _ (t : Table) where
   -- 1 read
   pub read-kept : Keeps t (kindOf 1)
   unfolding kindOf place
-  read-kept host block _ f e p = let r = three _ _ _ e in intake-kept host (record { block = block; action = Action.Read }) f (r .0) (r .1) p
+  read-kept host _ _ f e p = let r = three _ _ _ e in intake-kept host _ f (r .0) (r .1) p
 
   -- 2 write
   pub write-kept : Keeps t (kindOf 2)
   unfolding kindOf place
-  write-kept host block value f e p = let r = three _ _ _ e in intake-kept host (record { block = block; action = Action.Write value }) f (r .0) (r .1) p
+  write-kept host _ _ f e p = let r = three _ _ _ e in intake-kept host _ f (r .0) (r .1) p
 
   -- the front operation of a host of the store's: its block's set, and the headers of its messages
   module _ (f : Formed t) (host : ℕ) (e : isHost creation host ≡ true) (one : 1 ≤ hostOf t host .queue .count) where

@@ -8,6 +8,7 @@ pub mod Relies
 pub mod Errors
 pub mod Cases
 pub mod Formed
+pub mod Begun
 pub mod KeepsParts
 pub mod KeepsHosts
 pub mod KeepsChunks

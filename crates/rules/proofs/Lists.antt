@@ -272,6 +272,15 @@ implies false b h = refl
 
 -- ---- every, through the words that make lists
 
+pub those-short : {A : Type 0} (p : A → Bool) (l : List A) → length (those p l) ≤ length l
+unfolding those
+those-short p [] = omega arith
+those-short p (x ∷ xs) = go (p x) (those-short p xs)
+  where
+    go : (b : Bool) → length (those p xs) ≤ length xs → length (cond b (x ∷ those p xs) (those p xs)) ≤ suc (length xs)
+    go true h = omega arith
+    go false h = omega arith
+
 pub take-short : {A : Type 0} (n : ℕ) (l : List A) → length (take n l) ≤ n
 take-short n l = omega (arith, length-take n l)
 

@@ -15,3 +15,4 @@ pub mod Hosts
 pub mod Settlement
 pub mod Operands
 pub mod Events
+pub mod Runs

@@ -2,7 +2,8 @@
 //! the named fields changed.
 
 use crate::{answer, entry, granted, message, ready_store};
-use second::event::{step, Answer};
+use second::answer::Answer;
+use second::event::step;
 use second::queue::Queue;
 use second::table::*;
 

@@ -1,16 +1,21 @@
 //! The tests of the second program.
 
+mod broken_stores;
 mod cases;
 mod codes;
 mod comparing;
 mod errors_that_look_right;
 mod granted;
 mod lines;
+mod lists;
 mod sequences;
 mod session;
 mod well_formed;
 
-use second::event::{step, Answer};
+use second::answer::Answer;
+use second::event::step;
+use second::generate::{generate_with, EVENTS};
+use second::one_copy::{run, Clause, Plain, Stepper};
 use second::table::*;
 
 /// The answer of a refusal, or of a granted event without outcome.
@@ -74,4 +79,24 @@ fn message(block: usize, timestamp: u64, body: Body) -> Message {
         timestamp: Timestamp(timestamp),
         body,
     }
+}
+
+/// Sequences that are tried before a broken store counts as not found out.
+const SEEDS: u64 = 3000;
+
+/// Whether the clause finds the store out, on some sequence.
+fn found_by<S: Stepper>(clause: Clause, broken: impl Fn() -> S) -> bool {
+    (0..SEEDS).any(|seed| found_on(seed, &broken).contains(&clause))
+}
+
+/// The clauses by which the store is found out on a sequence.
+fn found_on<S: Stepper>(seed: u64, broken: impl Fn() -> S) -> Vec<Clause> {
+    // The broken store guides the sequence, so that it goes on from its fault.
+    let mut guiding = broken();
+    let mut guide = |table: &mut Table, kind, operands| guiding.step(table, kind, operands);
+    let sequence = generate_with(seed, EVENTS, &mut guide);
+    // On the same events the plain store has nothing wrong.
+    assert_eq!(run(&sequence, &mut Plain).verdict(), []);
+    let wrong = run(&sequence, &mut broken()).verdict();
+    wrong.into_iter().map(|wrong| wrong.clause).collect()
 }

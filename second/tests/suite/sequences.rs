@@ -58,9 +58,12 @@ fn every_situation_comes_up() {
 
 #[test]
 fn mirrors_answer_as_one_copy() {
-    let [reads, writes, listed] = one_copy::check(1_000_000, 3000, EVENTS).unwrap();
+    let sizes = one_copy::check(1_000_000, 3000, EVENTS).unwrap();
     // The check must have had something to look at.
-    assert!(reads > 3000 && writes > 3000 && listed > writes);
+    assert!(sizes.reads > 3000 && sizes.writes > 3000, "{sizes:?}");
+    assert!(sizes.listed > sizes.writes, "{sizes:?}");
+    assert!(sizes.writes_listed_earlier > 0, "{sizes:?}");
+    assert!(sizes.reads_overtaken > 300, "{sizes:?}");
 }
 
 /// From fresh stores: a refusal leaves the table, and every table is well formed.
