@@ -230,7 +230,10 @@ pub fn act(e: Event, p: Parts) -> Acted
         }
         9 => {
             let state = c.state;
-            by_run(p, head::run(e.a, e.b, state, r, network::free_places(places)))
+            by_run(
+                p,
+                head::run(e.a, e.b, state, r, network::free_places(places)),
+            )
         }
         10 => by_host(p, host::stop(h)),
         12 => by_chunk(p, chunk::recover(c)),
