@@ -18,12 +18,12 @@ use Rattle.rules.specs.declared.Table.{Table}
 use Rattle.rules.specs.declared.Event.{Event}
 use Rattle.rules.specs.Chunks.{withWaiting, failRefusals, failed, emptied}
 use Rattle.rules.specs.Codes.{codeOf}
-use Rattle.rules.specs.Events.{quietly, done, refused, unused, failRule, epochRule, epochRefusals, ruleOf, step}
+use Rattle.rules.specs.Events.{quietly, done, refused, epochRefusals, kindOf, ranges, ruleOf, step}
 use Rattle.rules.specs.Formed.{wellFormed}
 use Rattle.rules.specs.Limits.{chunkLimit, blockLimit}
-use Rattle.rules.specs.Tables.{isChunk, chunkOf, at, recordsBy, withEpoch, withChunks, withRecords, withChunk}
+use Rattle.rules.specs.Tables.{chunkOf, at, recordsBy, withEpoch, withChunks, withRecords, withChunk}
 use Rattle.rules.specs.Timestamps.{next}
-use Rattle.rules.specs.Words.{each, joined, from, numbers}
+use Rattle.rules.specs.Words.{each, joined, place, from, numbers}
 use Rattle.rules.specs.Zero.{zeroWaiting, noRecord}
 use Rattle.rules.proofs.Events.{refused-own, granted-own}
 use Rattle.rules.proofs.Formed.{formed, chunk-place}
@@ -36,53 +36,49 @@ use Rattle.engine.specs.Records.{withoutWaiting}
 
 -- ---- fail
 
-module _ (t : Table) (e : Event) (ok : wellFormed t ≡ true) (inside : ruleOf t e .ranges ≡ true) (kind : e .kind ≡ 11) where
+module _ (t : Table) (e : Event) (ok : wellFormed t ≡ true) (inside : ranges (t .creation) e ≡ true) (kind : e .kind ≡ 11) where
   pub fail-below : e .a < chunkLimit
-  unfolding ruleOf failRule
-  fail-below = chunk-place (t .creation) (e .a) (three (isChunk (t .creation) (e .a)) (unused (e .b)) (unused (e .c)) (rw kind at inside) .0) (formed t ok .creation)
+  unfolding ranges kindOf place
+  fail-below = chunk-place (t .creation) (e .a) (three _ _ _ (rw kind at inside) .0) (formed t ok .creation)
 
   module _ (d : Changed) (d-is : d ≡ changed (failRefusals (chunkOf t (e .a) .state)) (chunkOf t (e .a)) (failed (chunkOf t (e .a)))) where
     fail-code : d .code ≡ codeOf (ruleOf t e .refusals)
-    unfolding ruleOf failRule
+    unfolding ruleOf kindOf place
     fail-code = rw (kind, d-is) refl
 
     pub fail-refused : (d .code ≡ 0 → ⊥) → refused t (d .code) ≡ step t e
-    unfolding step
-    fail-refused = refused-own t (ruleOf t e) ok inside (d .code) fail-code
+    fail-refused = refused-own t e ok inside (d .code) fail-code
 
     fail-effect : (rest : List Record) → d .code ≡ 0 → rest ≡ withoutWaiting (t .records) (e .a)
         → quietly (withRecords (withChunk t (e .a) (d .chunk)) rest) ≡ ruleOf t e .effect
-    unfolding ruleOf failRule
+    unfolding ruleOf kindOf place
     fail-effect rest z rest-is =
         let granted : codeOf (failRefusals (chunkOf t (e .a) .state)) ≡ 0 = ap (λ (x : Changed). x .code) (sym d-is) ∙ z in
         rw (kind, rest-is, d-is, granted) refl
 
     pub fail-granted : (rest : List Record) → d .code ≡ 0 → rest ≡ withoutWaiting (t .records) (e .a)
         → done (quietly (withRecords (withChunk t (e .a) (d .chunk)) rest)) ≡ step t e
-    unfolding step
-    fail-granted rest z rest-is = ap done (fail-effect rest z rest-is) ∙ granted-own t (ruleOf t e) ok inside (sym fail-code ∙ z)
+    fail-granted rest z rest-is = ap done (fail-effect rest z rest-is) ∙ granted-own t e ok inside (sym fail-code ∙ z)
 
 -- ---- epoch change
 
-module _ (t : Table) (e : Event) (ok : wellFormed t ≡ true) (inside : ruleOf t e .ranges ≡ true) (kind : e .kind ≡ 15)
+module _ (t : Table) (e : Event) (ok : wellFormed t ≡ true) (inside : ranges (t .creation) e ≡ true) (kind : e .kind ≡ 15)
     (code : ℕ) (is : code ≡ codeOf (epochRefusals (bare t))) where
   change-code : code ≡ codeOf (ruleOf t e .refusals)
-  unfolding ruleOf epochRule
+  unfolding ruleOf kindOf place
   change-code = rw kind (is ∙ code-is t)
 
   pub change-refused : (code ≡ 0 → ⊥) → refused t code ≡ step t e
-  unfolding step
-  change-refused = refused-own t (ruleOf t e) ok inside code change-code
+  change-refused = refused-own t e ok inside code change-code
 
   module _ (records : List Record) (chunks : List Chunk) (records-are : records ≡ recordsBy (settledAt (tableOf (t .creation) (t .chunks) (t .records))))
       (chunks-are : chunks ≡ each (renewedWith (t .creation) (next (t .epoch)) (t .chunks)) (numbers chunkLimit)) where
     change-effect : quietly (withEpoch (withChunks (withRecords t records) chunks) (next (t .epoch))) ≡ ruleOf t e .effect
-    unfolding ruleOf epochRule
+    unfolding ruleOf kindOf place
     change-effect = rw kind (ap quietly (changed-is t records chunks records-are chunks-are))
 
     pub change-granted : code ≡ 0 → done (quietly (withEpoch (withChunks (withRecords t records) chunks) (next (t .epoch)))) ≡ step t e
-    unfolding step
-    change-granted z = ap done change-effect ∙ granted-own t (ruleOf t e) ok inside (sym change-code ∙ z)
+    change-granted z = ap done change-effect ∙ granted-own t e ok inside (sym change-code ∙ z)
 
 -- ---- the records of one chunk emptied by a loop over its blocks: those below n are
 

@@ -3,7 +3,7 @@ ghost use Prim.Native.Nat.{_<_};
 ghost use mathlib.Core.Path.{_≡_};
 ghost use mathlib.Core.Bool.{true};
 ghost use Rattle.rules.specs.Creation.{created};
-ghost use Rattle.rules.specs.Events.{done, refused, ruleOf, step};
+ghost use Rattle.rules.specs.Events.{done, refused, ranges, step};
 ghost use Rattle.rules.specs.Formed.{wellFormed};
 ghost use Rattle.rules.specs.Limits.{chunkLimit};
 ghost use Rattle.engine.specs.Records.{withoutWaiting};
@@ -58,7 +58,7 @@ struct Touched {
 
 // An event that touches one host, one chunk, one record and the network: they are gathered, and it acts on them.
 fn touch(t: Table, e: Event) -> Touched
-    requires { ⌜ (wellFormed t ≡ true) × (ruleOf t e .ranges ≡ true) × (e .kind ≡ 11 → ⊥) × (e .kind ≡ 15 → ⊥) ⌝ }
+    requires { ⌜ (wellFormed t ≡ true) × (ranges (t .creation) e ≡ true) ⌝ }
     ensures { λ r. ⌜ r ≡ touched t e ⌝ }
 {
     let k = t.creation;
@@ -116,7 +116,7 @@ fn without_waiting(records: [Record; rules::RECORDS], chunk: usize) -> [Record; 
 
 // "11 fail (chunk)": the chunk and all its records change.
 fn fail(mut t: Table, e: Event) -> Answer
-    requires { ⌜ (wellFormed t ≡ true) × (ruleOf t e .ranges ≡ true) × (e .kind ≡ 11) ⌝ }
+    requires { ⌜ (wellFormed t ≡ true) × (ranges (t .creation) e ≡ true) × (e .kind ≡ 11) ⌝ }
     ensures { λ r. ⌜ r ≡ step t e ⌝ }
 {
     let i = e.a as usize;
@@ -135,7 +135,7 @@ fn fail(mut t: Table, e: Event) -> Answer
 
 // "15 epoch change": every block is settled, every chunk renewed, and the epoch grows by one.
 fn change_epoch(mut t: Table, e: Event) -> Answer
-    requires { ⌜ (wellFormed t ≡ true) × (ruleOf t e .ranges ≡ true) × (e .kind ≡ 15) ⌝ }
+    requires { ⌜ (wellFormed t ≡ true) × (ranges (t .creation) e ≡ true) × (e .kind ≡ 15) ⌝ }
     ensures { λ r. ⌜ r ≡ step t e ⌝ }
 {
     let k = t.creation;

@@ -1,36 +1,26 @@
 -- The tests of an event's line and of the first two lines
 use Prim.Native.Nat.{ℕ, _+_, _≤_}
-use mathlib.Core.Path.{_≡_, refl, sym}
+use mathlib.Core.Path.{_≡_, refl}
 use mathlib.Core.Bool.{Bool, true, false, _&&_}
-use mathlib.Core.List.{List}
-use native.Mathlib.Decide.{decLe}
-use native.Mathlib.Omega.{arith}
-use lib.ListN.{List·getD-eq-default}
-use lib.Dec.{eqb, leb}
-use borrow.Author.Tests.{leb-true}
+use mathlib.Core.List.{List, [], _∷_}
+use lib.Dec.{eqb}
 use Rattle.rules.specs.declared.Set.{Set}
+use Rattle.rules.specs.Events.{kindOf}
+use Rattle.rules.specs.Operands.{isOwn}
 use Rattle.rules.specs.Words.{each, every}
 use Rattle.rules.specs.Zero.{zeroCreation}
-use Rattle.rules.proofs.Lists.{every-at}
+use Rattle.rules.proofs.Lists.{those-short}
 use Rattle.numbers.specs.declared.Line.{Line}
-use Rattle.meanings.specs.Meanings.{numberAt, operandTable, operandsOf, noEvent, askedBy, isSum, setWith, namedBy}
+use Rattle.meanings.specs.Meanings.{numberAt, ownCount, noEvent, askedBy, isSum, setWith, namedBy}
 
 -- ---- operands
 
-pub operands-none : (kind : ℕ) → 17 ≤ kind → 0 ≡ operandsOf kind
-operands-none kind h = sym (List·getD-eq-default operandTable 0 h)
-
-pub operands-few : (kind : ℕ) → operandsOf kind ≤ 3
-unfolding every
-operands-few kind = go (decLe 17 kind)
-  where
-    go : Dec (17 ≤ kind) → operandsOf kind ≤ 3
-    go (yes h) = rw (← operands-none kind h) (omega arith)
-    go (no h) = leb-true (operandsOf kind) 3 (every-at (λ n. leb n 3) operandTable kind 0 refl (omega arith))
+pub own-few : (kind : ℕ) → ownCount kind ≤ 3
+own-few kind = let o = kindOf kind .operands in those-short isOwn (o .0 ∷ o .1 ∷ o .2 ∷ [])
 
 -- ---- an event's line
 
-module _ (l : Line) (n : ℕ) (are : n ≡ operandsOf (numberAt l 0)) where
+module _ (l : Line) (n : ℕ) (are : n ≡ ownCount (numberAt l 0)) where
   pub asked-good : l .good && eqb (l .count) (1 + n) ≡ true
       → record { good = true; event = record { kind = numberAt l 0; a = numberAt l 1; b = numberAt l 2; c = numberAt l 3 } } ≡ askedBy l
   unfolding askedBy

@@ -1,12 +1,13 @@
 -- Document 01, "One session, whole": the event that a line asks for, and the creation that the first two lines name
 use Prim.Native.Nat.{ℕ, _+_, _/_, _%_, _^_}
 use mathlib.Core.Bool.{Bool, true, false, _&&_}
-use mathlib.Core.List.{List, [], _∷_}
-use lib.ListN.{getD}
+use lib.ListN.{length, getD}
 use lib.Dec.{eqb, ltb}
 use Rattle.rules.specs.declared.Set.{Set}
 use Rattle.rules.specs.declared.Event.{Event}
+use Rattle.rules.specs.Events.{kindOf}
 use Rattle.rules.specs.Limits.{chunkLimit}
+use Rattle.rules.specs.Operands.{ownOf}
 use Rattle.rules.specs.Words.{if_then_else_, each, every, numbers}
 use Rattle.rules.specs.Zero.{zeroCreation}
 use Rattle.numbers.specs.declared.Line.{Line}
@@ -19,32 +20,10 @@ numberAt l i = getD (l .numbers) i 0
 
 -- ---- "then an event a line, its number and then only its own operands"
 
--- how many operands each event has
-abbrev pub operandTable : List ℕ
-operandTable =
-    0 ∷  -- 0 is no event
-    2 ∷  -- 1 read (host, block)
-    3 ∷  -- 2 write (host, block, value)
-    3 ∷  -- 3 start (host, clock, copy)
-    1 ∷  -- 4 deliver (place)
-    1 ∷  -- 5 drop (place)
-    1 ∷  -- 6 finish (host)
-    1 ∷  -- 7 timeout (host)
-    1 ∷  -- 8 refresh (host)
-    2 ∷  -- 9 run (chunk, block)
-    1 ∷  -- 10 stop (host)
-    1 ∷  -- 11 fail (chunk)
-    1 ∷  -- 12 recover (chunk)
-    1 ∷  -- 13 take lease (chunk)
-    1 ∷  -- 14 give lease (chunk)
-    0 ∷  -- 15 epoch change
-    3 ∷  -- 16 overdue (chunk, block, now)
-    []
-
--- an unknown kind has none here, which is no choice: whatever follows it, its line gets `1 0 0 0 0`, as an event that is refused
+-- an unknown kind has none of its own, which is no choice: whatever follows it, its line gets `1 0 0 0 0`, as an event that is refused
 -- or as a bad line
-abbrev pub operandsOf : (kind : ℕ) → ℕ
-operandsOf kind = getD operandTable kind 0
+abbrev pub ownCount : (kind : ℕ) → ℕ
+ownCount kind = length (ownOf (kindOf kind .operands))
 
 abbrev pub noEvent : Event
 noEvent = record { kind = 0; a = 0; b = 0; c = 0 }
@@ -52,7 +31,7 @@ noEvent = record { kind = 0; a = 0; b = 0; c = 0 }
 -- "A bad event line (wrong count, not a number, ..)"; an operand that the kind lacks is 0
 unfoldable pub askedBy : Line → Asked
 askedBy l =
-    if l .good && eqb (l .count) (1 + operandsOf (numberAt l 0)) then record {
+    if l .good && eqb (l .count) (1 + ownCount (numberAt l 0)) then record {
       good = true;
       event = record { kind = numberAt l 0; a = numberAt l 1; b = numberAt l 2; c = numberAt l 3 };
     } else record { good = false; event = noEvent }

@@ -3,14 +3,11 @@
 ghost use mathlib.Core.Path.{_≡_};
 ghost use Rattle.rules.specs.Words.{each, every};
 ghost use Rattle.rules.specs.Zero.{zeroCreation};
-ghost use Rattle.meanings.specs.Meanings.{operandsOf, askedBy, isSum, setWith, namedBy};
+ghost use Rattle.meanings.specs.Meanings.{askedBy, isSum, setWith, namedBy};
 use numbers::Line;
 use rules::Creation;
 use rules::Event;
 use rules::Set;
-
-// How many operands the events 0 to 16 have.
-const OPERANDS: [u64; 17] = [0, 2, 3, 3, 1, 1, 1, 1, 1, 2, 1, 1, 1, 1, 1, 0, 3];
 
 // The event of a line; a bad one has none, that is zeros.
 pub struct Asked {
@@ -24,23 +21,12 @@ pub struct Named {
     pub creation: Creation,
 }
 
-// How many operands an event has.
-fn operands(kind: u64) -> u64
-    ensures { λ r. ⌜ r ≡ operandsOf kind ⌝ }
-{
-    if kind < 17 {
-        let i = kind as usize;
-        return OPERANDS[i];
-    }
-    0
-}
-
 // "an event a line, its number and then only its own operands"
 pub fn event_of(l: Line) -> Asked
     ensures { λ r. ⌜ r ≡ askedBy l ⌝ }
 {
     let kind = l.numbers[0];
-    let count = operands(kind);
+    let count = operands::count(kind);
     if l.good & (l.count == 1 + count) {
         let e = Event {
             kind: kind,

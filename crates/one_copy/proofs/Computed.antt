@@ -4,11 +4,11 @@ use mathlib.Core.Path.{_≡_, refl, ap, _∙_}
 use mathlib.Core.Bool.{true, not}
 use mathlib.Core.List.{List, [], _∷_, _++_}
 use lib.Dec.{eqb}
-use Rattle.one_copy.specs.Types.{Table, Event, Outcome, Answer}
+use Rattle.one_copy.specs.Types.{Table, Event, Answer}
 use Rattle.rules.specs.Chunks.{atChunk, arrived, decides, ran}
 use Rattle.rules.specs.Codes.{_gives_⨾_, codeOf}
 use Rattle.rules.specs.Creation.{fresh, isCreation}
-use Rattle.rules.specs.Events.{step, done, refused, answered, rows, ruleOf, readRule, writeRule, startRule, finishRule, timeoutRule, refreshRule, stopRule, deliverRule, dropRule, runRule, failRule, recoverRule, takeLeaseRule, giveLeaseRule, overdueRule, epochRule}
+use Rattle.rules.specs.Events.{step, done, refused, rows, kindOf, ranges, ruleOf}
 use Rattle.rules.specs.Formed.{wellFormed}
 use Rattle.rules.specs.Hosts.{queueOf, appended, atHost, finishOutcome, finished}
 use Rattle.rules.specs.Network.{freePlaces, sent, howMany, sentToEach, replied}
@@ -27,11 +27,11 @@ use Rattle.one_copy.specs.Sessions.{entryOf, Seen, Session, seen, plainR
 abbrev lean : Table → Event → Answer
 lean t e =
     let r = ruleOf t e in
-    let code = codeOf (not (r .ranges) gives 1 ⨾ r .refusals) in
+    let code = codeOf (not (ranges (t .creation) e) gives 1 ⨾ r .refusals) in
     if eqb code 0 then done (r .effect) else refused t code
 
 lean-is : (t : Table) (e : Event) → wellFormed t ≡ true → step t e ≡ lean t e
-unfolding step answered rows codeOf
+unfolding step rows codeOf
 lean-is t e h = rw h refl
 
 -- what the events are answered and what they commit, in one pass
@@ -80,7 +80,7 @@ unfolding isCreation every some from
 created = refl
 
 computed : each quickly sessions ≡ each (λ (s : Session). s .expected) sessions
-unfolding pass ruleOf readRule writeRule startRule finishRule timeoutRule refreshRule stopRule deliverRule dropRule runRule failRule recoverRule takeLeaseRule giveLeaseRule overdueRule epochRule codeOf fresh atChunk arrived decides ran queueOf appended atHost finishOutcome finished freePlaces sent howMany sentToEach replied W besideW agreed committed writes commits latest writtenWith settledRecord settled allLost holding insert inserted headRemoved firstWith mark marked those each joined every some place fold from lastOf plainReads entered
+unfolding pass ranges ruleOf kindOf codeOf fresh atChunk arrived decides ran queueOf appended atHost finishOutcome finished freePlaces sent howMany sentToEach replied W besideW agreed committed writes commits latest writtenWith settledRecord settled allLost holding insert inserted headRemoved firstWith mark marked those each joined every some place fold from lastOf plainReads entered
 computed = refl
 
 -- what is seen of each session is what must be

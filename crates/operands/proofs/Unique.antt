@@ -2,12 +2,16 @@
 use Rattle.rules.proofs.Unique.{unique, Determined}
 use Rattle.operands.proofs.block_at.Reads as block-at-contract
 use Rattle.operands.proofs.chunk_at.Reads as chunk-at-contract
+use Rattle.operands.proofs.count.Reads as count-contract
 use Rattle.operands.proofs.host_at.Reads as host-at-contract
 use Rattle.operands.proofs.in_range.Reads as in-range-contract
 use Rattle.operands.proofs.place_at.Reads as place-at-contract
 
 in-range-unique : Determined in-range-contract.Learnt
 in-range-unique κs a x y s u = unique
+
+count-unique : Determined count-contract.Learnt
+count-unique κs a x y s u = unique
 
 place-at-unique : Determined place-at-contract.Learnt
 place-at-unique κs a x y s u = unique

@@ -1,66 +1,72 @@
--- An event's operands: are they in their ranges, and which place, host, chunk and block they mean
+-- Which place, host, chunk and block an event is about
 use Prim.Native.Nat.{ℕ}
 use mathlib.Core.Bool.{Bool, _||_}
-use mathlib.Core.List.{[]}
 use lib.Dec.{eqb}
-use Rattle.rules.specs.declared.Creation.{Creation}
 use Rattle.rules.specs.declared.Host.{Host}
 use Rattle.rules.specs.declared.Header.{Header}
 use Rattle.rules.specs.declared.Slot.{Slot}
-use Rattle.rules.specs.declared.Table.{Table}
 use Rattle.rules.specs.declared.Event.{Event}
-use Rattle.rules.specs.Events.{ruleOf}
+use Rattle.rules.specs.declared.Operand.{Operand}
+use Rattle.rules.specs.declared.Operands.{Operands}
+use Rattle.rules.specs.Events.{kindOf}
 use Rattle.rules.specs.Hosts.{front}
 use Rattle.rules.specs.Kinds.{headerOf, headed}
-use Rattle.rules.specs.Timestamps.{never, noEpoch}
+use Rattle.rules.specs.Timestamps.{never}
 use Rattle.rules.specs.Words.{if_then_else_}
 
--- the ranges of the event's rule, which look at the creation numbers alone
-abbrev pub bare : Creation → Table
-bare k = record { creation = k; epoch = noEpoch; hosts = []; chunks = []; records = []; places = [] }
+-- ---- the sorts of operands, told apart by a number each
 
-unfoldable pub rangesOf : Creation → Event → Bool
-rangesOf k e = ruleOf (bare k) e .ranges
+abbrev pub sortNumber : Operand → ℕ
+sortNumber Operand.Unknown = 0
+sortNumber Operand.Unused = 1
+sortNumber Operand.Host = 2
+sortNumber Operand.Chunk = 3
+sortNumber Operand.Block = 4
+sortNumber Operand.Place = 5
+sortNumber Operand.Clock = 6
+sortNumber Operand.Now = 7
+sortNumber Operand.Value = 8
 
--- ---- which events are about a place, a host, a chunk
+infix 40 _isA_
+abbrev pub _isA_ : Operand → Operand → Bool
+o isA sort = eqb (sortNumber o) (sortNumber sort)
 
-abbrev pub isMailEvent : (kind : ℕ) → Bool
-isMailEvent k = eqb k 4 || eqb k 5
+-- ---- the operand of a sort
 
-abbrev pub isHostEvent : (kind : ℕ) → Bool
-isHostEvent k = eqb k 1 || eqb k 2 || eqb k 3 || eqb k 6 || eqb k 7 || eqb k 8 || eqb k 10
+abbrev pub operandsOf : Event → Operands
+operandsOf e = kindOf (e .kind) .operands
 
-abbrev pub isChunkEvent : (kind : ℕ) → Bool
-isChunkEvent k = eqb k 9 || eqb k 12 || eqb k 13 || eqb k 14 || eqb k 16
+abbrev pub hasA : Event → (sort : Operand) → Bool
+hasA e sort = let o = operandsOf e in o .0 isA sort || o .1 isA sort || o .2 isA sort
 
--- ---- whom an event is about; 0 where it is about none
+-- 0 where the event has none
+abbrev pub the : (sort : Operand) → Event → ℕ
+the sort e =
+    let o = operandsOf e in
+    if o .0 isA sort then e .a else
+    if o .1 isA sort then e .b else
+    if o .2 isA sort then e .c else
+    0
 
--- which host, chunk and block a place's message names; an empty place (it is refused) names none, that is zeros
+-- ---- whom an event is about: an event of a place is about whom its message names
+
+-- an empty place (it is refused) names nobody, that is zeros
 abbrev pub addressOf : Slot → Header
 addressOf Slot.Empty = headed 0 0 0 never
 addressOf (Slot.Full m) = headerOf m
 
 abbrev pub placeAt : Event → ℕ
-placeAt e =
-    if isMailEvent (e .kind) then e .a else
-    0
+placeAt e = the Operand.Place e
 
 abbrev pub hostAt : Event → Slot → ℕ
-hostAt e s =
-    if isMailEvent (e .kind) then addressOf s .host else
-    if isHostEvent (e .kind) then e .a else
-    0
+hostAt e s = if hasA e Operand.Place then addressOf s .host else the Operand.Host e
 
 abbrev pub chunkAt : Event → Slot → ℕ
-chunkAt e s =
-    if isMailEvent (e .kind) then addressOf s .chunk else
-    if isChunkEvent (e .kind) then e .a else
-    0
+chunkAt e s = if hasA e Operand.Place then addressOf s .chunk else the Operand.Chunk e
 
--- a start and a finish are about the block of the host's front operation
+-- an event that names no block is about the block of the host's front operation
 abbrev pub blockAt : Event → Slot → Host → ℕ
 blockAt e s h =
-    if isMailEvent (e .kind) then addressOf s .block else
-    if eqb (e .kind) 3 || eqb (e .kind) 6 then front h .block else
-    if eqb (e .kind) 9 || eqb (e .kind) 16 then e .b else
-    0
+    if hasA e Operand.Place then addressOf s .block else
+    if hasA e Operand.Block then the Operand.Block e else
+    front h .block

@@ -1,9 +1,7 @@
 -- One event on the parts of the table that it touches
 use Prim.Native.Nat.{ℕ}
-use mathlib.Core.Bool.{Bool, _||_}
+use mathlib.Core.List.{List, []}
 use lib.Dec.{eqb}
-use Rattle.rules.specs.declared.Epoch.{Epoch}
-use Rattle.rules.specs.declared.Waiting.{Waiting}
 use Rattle.rules.specs.declared.Record.{Record}
 use Rattle.rules.specs.declared.Chunk.{Chunk}
 use Rattle.rules.specs.declared.Action.{Action}
@@ -17,7 +15,7 @@ use Rattle.rules.specs.Codes.{codeOf}
 use Rattle.rules.specs.Hosts.{intakeRefusals, appended, timeoutRefusals, timedOut, workingRefusals, refreshed, stopped}
 use Rattle.rules.specs.Kinds.{isForChunk}
 use Rattle.rules.specs.Network.{freePlaces, removed, replied, placeRefusals}
-use Rattle.rules.specs.Words.{if_then_else_}
+use Rattle.rules.specs.Words.{if_then_else_, Numbered, _⇒_⨾_, under}
 use Rattle.arrival.specs.Arrivals.{arrives}
 use Rattle.chunk.specs.declared.Changed.{Changed}
 use Rattle.chunk.specs.Changes.{changed}
@@ -32,7 +30,13 @@ use Rattle.parts.specs.declared.Parts.{Parts}
 use Rattle.parts.specs.declared.Acted.{Acted}
 use Rattle.parts.specs.declared.Delivered.{Delivered}
 
--- ---- what is left of the parts where an event changes the host alone, the host and the network, the chunk alone, a record and the network
+-- ---- what is left of the parts
+
+-- "same table, zeros": a refusal leaves them as they were
+abbrev pub unchanged : Parts → (code : ℕ) → Acted
+unchanged p code = record { code = code; host = p .host; chunk = p .chunk; block = p .block; places = p .places; outcome = Outcome.None }
+
+-- .. where an event changes the host alone, the host and the network, the chunk alone, a record and the network
 
 abbrev pub byHost : Parts → Moved → Acted
 byHost p m = record { code = m .code; host = m .host; chunk = p .chunk; block = p .block; places = p .places; outcome = Outcome.None }
@@ -46,33 +50,21 @@ byChunk p c = record { code = c .code; host = p .host; chunk = c .chunk; block =
 abbrev pub byRun : Parts → Ran → Acted
 byRun p r = record { code = r .code; host = p .host; chunk = p .chunk; block = r .block; places = replied (p .places) (r .reply); outcome = Outcome.None }
 
+-- .. where a message is removed: the host or the record that it names, and the network
 abbrev pub byMail : Parts → (place : ℕ) → Delivered → Acted
-byMail p place d = record { code = 0; host = d .host; chunk = p .chunk; block = d .block; places = replied (removed (p .places) place) (d .reply); outcome = Outcome.None }
+byMail p place d =
+    let code = codeOf (placeRefusals (p .slot)) in
+    if eqb code 0 then record {
+      code = 0;
+      host = d .host;
+      chunk = p .chunk;
+      block = d .block;
+      places = replied (removed (p .places) place) (d .reply);
+      outcome = Outcome.None;
+    } else unchanged p code
 
--- "same table, zeros": a refusal leaves the parts as they were
-abbrev pub unchanged : Parts → (code : ℕ) → Acted
-unchanged p code = record { code = code; host = p .host; chunk = p .chunk; block = p .block; places = p .places; outcome = Outcome.None }
+-- ---- a place's message at the host and the chunk that it names: a request is the chunk's, a reply the host's
 
--- ---- the events
-
--- "1 read (host, block); 2 write (host, block, value)"; "7 timeout (host)"; "8 refresh (host)"; "10 stop (host)". epoch: the store's
-unfoldable pub hostMoved : Event → Host → (epoch : Epoch) → Moved
-hostMoved e h epoch =
-    if eqb (e .kind) 1 then moved (intakeRefusals h) h (appended h (record { block = e .b; action = Action.Read })) else
-    if eqb (e .kind) 2 then moved (intakeRefusals h) h (appended h (record { block = e .b; action = Action.Write (e .c) })) else
-    if eqb (e .kind) 7 then moved (timeoutRefusals h) h (timedOut h) else
-    if eqb (e .kind) 8 then moved (workingRefusals h) h (refreshed h epoch) else
-    moved (workingRefusals h) h (stopped h)
-
--- "12 recover", "13 take lease", "14 give lease", "16 overdue (chunk, block, now)"; w waits for the event's block
-unfoldable pub chunkChanged : Event → Chunk → Waiting → (age : ℕ) → Changed
-chunkChanged e c w age =
-    if eqb (e .kind) 12 then changed (recoverRefusals (c .state)) c (recovered c) else
-    if eqb (e .kind) 13 then changed (takeLeaseRefusals (c .state)) c (leaseTaken c) else
-    if eqb (e .kind) 14 then changed (giveLeaseRefusals (c .state) (c .lost)) c (leaseGiven c) else
-    changed (overdueRefusals (c .state) w (e .c) age) c (overdue c (e .b))
-
--- a place's message at the host and the chunk that it names: a request is the chunk's, a reply the host's
 abbrev pub toChunk : (blocks : ℕ) → Host → Chunk → Record → Message → Delivered
 toChunk blocks h c r m = record { host = h; block = arrives blocks c r m .block; reply = arrives blocks c r m .reply }
 
@@ -86,28 +78,26 @@ abbrev pub delivered : (blocks : ℕ) → Host → Chunk → Record → Slot →
 delivered blocks h c r Slot.Empty = toNobody h r
 delivered blocks h c r (Slot.Full m) = if isForChunk m then toChunk blocks h c r m else toHost h r m
 
--- a dropped message reaches nobody
-abbrev pub taken : (kind blocks : ℕ) → Host → Chunk → Record → Slot → Delivered
-taken k blocks h c r s =
-    if eqb k 4 then delivered blocks h c r s else
-    toNobody h r
+-- ---- the events, by their numbers
 
--- "4 deliver (place)", "5 drop (place)"
-unfoldable pub mailTaken : Event → Parts → Acted
-mailTaken e p =
-    let code = codeOf (placeRefusals (p .slot)) in
-    if eqb code 0 then byMail p (e .a) (taken (e .kind) (p .blocks) (p .host) (p .chunk) (p .block) (p .slot)) else
-    unchanged p code
+abbrev pub acts : List (Numbered (Event → Parts → Acted))
+acts =
+    1 ⇒ (λ e p. let h = p .host in byHost p (moved (intakeRefusals h) h (appended h (record { block = e .b; action = Action.Read })))) ⨾
+    2 ⇒ (λ e p. let h = p .host in byHost p (moved (intakeRefusals h) h (appended h (record { block = e .b; action = Action.Write (e .c) })))) ⨾
+    3 ⇒ (λ e p. byMessages p (starts (e .a) (e .b) (e .c) (p .set) (p .host) (p .places))) ⨾
+    4 ⇒ (λ e p. byMail p (e .a) (delivered (p .blocks) (p .host) (p .chunk) (p .block) (p .slot))) ⨾
+    5 ⇒ (λ e p. byMail p (e .a) (toNobody (p .host) (p .block))) ⨾
+    6 ⇒ (λ e p. byMessages p (finishes (e .a) (p .set) (p .host) (p .places))) ⨾
+    7 ⇒ (λ e p. let h = p .host in byHost p (moved (timeoutRefusals h) h (timedOut h))) ⨾
+    8 ⇒ (λ e p. let h = p .host in byHost p (moved (workingRefusals h) h (refreshed h (p .epoch)))) ⨾
+    9 ⇒ (λ e p. let r = p .block in byRun p (ranOr (runRefusals (p .chunk .state) (r .waiting) (freePlaces (p .places))) r (ran (e .a) (e .b) r))) ⨾
+    10 ⇒ (λ e p. let h = p .host in byHost p (moved (workingRefusals h) h (stopped h))) ⨾
+    12 ⇒ (λ e p. let c = p .chunk in byChunk p (changed (recoverRefusals (c .state)) c (recovered c))) ⨾
+    13 ⇒ (λ e p. let c = p .chunk in byChunk p (changed (takeLeaseRefusals (c .state)) c (leaseTaken c))) ⨾
+    14 ⇒ (λ e p. let c = p .chunk in byChunk p (changed (giveLeaseRefusals (c .state) (c .lost)) c (leaseGiven c))) ⨾
+    16 ⇒ (λ e p. let c = p .chunk in byChunk p (changed (overdueRefusals (c .state) (p .block .waiting) (e .c) (p .age)) c (overdue c (e .b)))) ⨾
+    []
 
--- the events that change one host and nothing else
-abbrev pub isHostChange : (kind : ℕ) → Bool
-isHostChange k = eqb k 1 || eqb k 2 || eqb k 7 || eqb k 8 || eqb k 10
-
+-- "unknown kind" here is one that is not done on parts too: 11 fail and 15 epoch change
 unfoldable pub acted : Event → Parts → Acted
-acted e p =
-    if eqb (e .kind) 4 || eqb (e .kind) 5 then mailTaken e p else
-    if eqb (e .kind) 3 then byMessages p (starts (e .a) (e .b) (e .c) (p .set) (p .host) (p .places)) else
-    if eqb (e .kind) 6 then byMessages p (finishes (e .a) (p .set) (p .host) (p .places)) else
-    if isHostChange (e .kind) then byHost p (hostMoved e (p .host) (p .epoch)) else
-    if eqb (e .kind) 9 then byRun p (ranOr (runRefusals (p .chunk .state) (p .block .waiting) (freePlaces (p .places))) (p .block) (ran (e .a) (e .b) (p .block))) else
-    byChunk p (chunkChanged e (p .chunk) (p .block .waiting) (p .age))
+acted e = under (λ _ p. unchanged p 1) acts (e .kind) e

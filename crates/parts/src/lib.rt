@@ -1,6 +1,6 @@
 // One event on the parts of the table that it touches: a host, a chunk, a record, the network. Failure and epoch change touch more.
 ghost use mathlib.Core.Path.{_≡_};
-ghost use Rattle.parts.specs.Acts.{byHost, byMessages, byChunk, byRun, byMail, unchanged, hostMoved, chunkChanged, delivered, taken, mailTaken, acted};
+ghost use Rattle.parts.specs.Acts.{unchanged, byHost, byMessages, byChunk, byRun, byMail, toNobody, delivered, acted};
 use attempts::Sent;
 use chunk::Changed;
 use head::Ran;
@@ -16,7 +16,6 @@ use rules::Place;
 use rules::Record;
 use rules::Set;
 use rules::Slot;
-use rules::Waiting;
 
 // What an event looks at: numbers of the store, the place's slot, and the parts.
 pub struct Parts {
@@ -121,10 +120,15 @@ fn by_run(p: Parts, r: Ran) -> Acted
     out
 }
 
-// The message is removed; the host or the record that it names changes, and the sender may have a reply.
+// A message is removed: the host or the record that it names changes, and the sender may have a reply.
 fn by_mail(p: Parts, place: u64, d: Delivered) -> Acted
     ensures { λ r. ⌜ r ≡ byMail p place d ⌝ }
 {
+    let slot = p.slot;
+    let code = network::place_code(slot);
+    if code != 0 {
+        return unchanged(p, code);
+    }
     let host = d.host;
     let block = d.block;
     let reply = d.reply;
@@ -138,44 +142,16 @@ fn by_mail(p: Parts, place: u64, d: Delivered) -> Acted
     out
 }
 
-// ---- the events
+// ---- whom a message reaches
 
-// "1 read (host, block); 2 write (host, block, value)"; "7 timeout (host)"; "8 refresh (host)"; "10 stop (host)".
-fn host_event(e: Event, h: Host, epoch: Epoch) -> Moved
-    ensures { λ r. ⌜ r ≡ hostMoved e h epoch ⌝ }
+// A dropped one, nobody.
+fn drop(h: Host, r: Record) -> Delivered
+    ensures { λ d. ⌜ d ≡ toNobody h r ⌝ }
 {
-    let kind = e.kind;
-    match kind {
-        1 => host::intake(
-            h,
-            Operation {
-                block: e.b,
-                action: Action::Read,
-            },
-        ),
-        2 => host::intake(
-            h,
-            Operation {
-                block: e.b,
-                action: Action::Write(e.c),
-            },
-        ),
-        7 => host::time_out(h),
-        8 => host::refresh(h, epoch),
-        _ => host::stop(h),
-    }
-}
-
-// "12 recover", "13 take lease", "14 give lease", "16 overdue (chunk, block, now)"; w waits for the event's block.
-fn chunk_event(e: Event, c: Chunk, w: Waiting, age: u64) -> Changed
-    ensures { λ r. ⌜ r ≡ chunkChanged e c w age ⌝ }
-{
-    let kind = e.kind;
-    match kind {
-        12 => chunk::recover(c),
-        13 => chunk::take_lease(c),
-        14 => chunk::give_lease(c),
-        _ => head::overdue(c, e.b, w, e.c, age),
+    Delivered {
+        host: h,
+        block: r,
+        reply: Slot::Empty,
     }
 }
 
@@ -184,11 +160,7 @@ fn deliver(blocks: u64, h: Host, c: Chunk, r: Record, s: Slot) -> Delivered
     ensures { λ d. ⌜ d ≡ delivered blocks h c r s ⌝ }
 {
     match s {
-        Slot::Empty => Delivered {
-            host: h,
-            block: r,
-            reply: Slot::Empty,
-        },
+        Slot::Empty => drop(h, r),
         Slot::Full(m) => {
             if messages::is_for_chunk(m) {
                 let a = arrival::arrive(blocks, c, r, m);
@@ -211,69 +183,66 @@ fn deliver(blocks: u64, h: Host, c: Chunk, r: Record, s: Slot) -> Delivered
     }
 }
 
-// A dropped message reaches nobody.
-fn taken(kind: u64, blocks: u64, h: Host, c: Chunk, r: Record, s: Slot) -> Delivered
-    ensures { λ d. ⌜ d ≡ taken kind blocks h c r s ⌝ }
-{
-    if kind == 4 {
-        return deliver(blocks, h, c, r, s);
-    }
-    Delivered {
-        host: h,
-        block: r,
-        reply: Slot::Empty,
-    }
-}
+// ---- the events
 
-// "4 deliver (place)", "5 drop (place)": "The message is removed. Its reply, if any, takes the lowest free place".
-fn mail_event(e: Event, p: Parts) -> Acted
-    ensures { λ r. ⌜ r ≡ mailTaken e p ⌝ }
-{
-    let slot = p.slot;
-    let code = network::place_code(slot);
-    if code != 0 {
-        return unchanged(p, code);
-    }
-    let h = p.host;
-    let c = p.chunk;
-    let r = p.block;
-    let d = taken(e.kind, p.blocks, h, c, r, slot);
-    by_mail(p, e.a, d)
-}
-
-// The event's refusals and effect. (Kinds that this is not about are taken for 16; the engine has looked.)
+// The event's refusals and effect. A kind that is not done on parts is out of range.
 pub fn act(e: Event, p: Parts) -> Acted
     ensures { λ r. ⌜ r ≡ acted e p ⌝ }
 {
-    let kind = e.kind;
-    if (kind == 4) | (kind == 5) {
-        return mail_event(e, p);
-    }
     let h = p.host;
-    let set = p.set;
-    let places = p.places;
-    if kind == 3 {
-        let s = attempts::start(e.a, e.b, e.c, set, h, places);
-        return by_messages(p, s);
-    }
-    if kind == 6 {
-        let s = attempts::finish(e.a, set, h, places);
-        return by_messages(p, s);
-    }
-    if (kind == 1) | (kind == 2) | (kind == 7) | (kind == 8) | (kind == 10) {
-        let epoch = p.epoch;
-        let m = host_event(e, h, epoch);
-        return by_host(p, m);
-    }
     let c = p.chunk;
     let r = p.block;
-    if kind == 9 {
-        let state = c.state;
-        let free = network::free_places(places);
-        let a = head::run(e.a, e.b, state, r, free);
-        return by_run(p, a);
+    let set = p.set;
+    let places = p.places;
+    let kind = e.kind;
+    match kind {
+        1 => by_host(
+            p,
+            host::intake(
+                h,
+                Operation {
+                    block: e.b,
+                    action: Action::Read,
+                },
+            ),
+        ),
+        2 => by_host(
+            p,
+            host::intake(
+                h,
+                Operation {
+                    block: e.b,
+                    action: Action::Write(e.c),
+                },
+            ),
+        ),
+        3 => by_messages(p, attempts::start(e.a, e.b, e.c, set, h, places)),
+        4 => {
+            let slot = p.slot;
+            by_mail(p, e.a, deliver(p.blocks, h, c, r, slot))
+        }
+        5 => by_mail(p, e.a, drop(h, r)),
+        6 => by_messages(p, attempts::finish(e.a, set, h, places)),
+        7 => by_host(p, host::time_out(h)),
+        8 => {
+            let epoch = p.epoch;
+            by_host(p, host::refresh(h, epoch))
+        }
+        9 => {
+            let state = c.state;
+            by_run(
+                p,
+                head::run(e.a, e.b, state, r, network::free_places(places)),
+            )
+        }
+        10 => by_host(p, host::stop(h)),
+        12 => by_chunk(p, chunk::recover(c)),
+        13 => by_chunk(p, chunk::take_lease(c)),
+        14 => by_chunk(p, chunk::give_lease(c)),
+        16 => {
+            let w = r.waiting;
+            by_chunk(p, head::overdue(c, e.b, w, e.c, p.age))
+        }
+        _ => unchanged(p, 1),
     }
-    let w = r.waiting;
-    let d = chunk_event(e, c, w, p.age);
-    by_chunk(p, d)
 }

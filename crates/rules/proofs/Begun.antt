@@ -5,28 +5,29 @@ use mathlib.Core.Logic.{_⊎_, inl, inr}
 use mathlib.Core.Bool.{Bool, true, false, cond, not, _&&_, _||_, false≢true}
 use mathlib.Core.List.{List, [], _∷_, _++_, append-nil, append-assoc}
 use native.Mathlib.Omega.{arith}
-use lib.ListN.{length, getD, set, take, drop, length-append, length-drop, length-set}
+use lib.ListN.{length, getD, take, drop, length-set}
 use lib.Dec.{eqb}
 use lib.Seq.{getD-set-same, getD-set-other}
-use borrow.Author.Tests.{lt-ltb, ltb-true, eqb-true, eqb-false, eq-eqb, ne-eqb}
+use borrow.Author.Tests.{lt-ltb, eqb-true, eqb-false, eq-eqb, ne-eqb}
 use Rattle.rules.specs.Types.{Timestamp, Set, Creation, Action, Operation, Queue, Attempt, Host, Message, Slot, Table, Event, Outcome, Answer}
 use Rattle.rules.specs.Codes.{codeOf}
 use Rattle.rules.specs.Creation.{freshHost, fresh}
-use Rattle.rules.specs.Events.{Rule, holdersOf, readRule, writeRule, startRule, deliverRule, dropRule, finishRule, timeoutRule, refreshRule, runRule, stopRule, failRule, recoverRule, takeLeaseRule, giveLeaseRule, epochRule, overdueRule, takes, ruleOf, rows, done, refused, answered, step}
-use Rattle.rules.specs.Hosts.{operationsOf, queueOf, front, hasCurrent, intakeRefusals, appended, openingTo, started, counts, answeredBy, heard, atHost, finishRefusals, closingTo, doneAs, failedAs, goesBack, finishOutcome, ended, finished, withQueue}
-use Rattle.rules.specs.Kinds.{isNormal, isReading, headerOf, isForChunk}
+use Rattle.rules.specs.Events.{EventKind, quietly, holdersOf, readRule, writeRule, startRule, takes, kindOf, ranges, ruleOf, rows, done, step}
+use Rattle.rules.specs.Hosts.{operationsOf, queueOf, front, hasCurrent, intakeRefusals, appended, openingTo, started, counts, answeredBy, heard, atHost, doneAs, failedAs, goesBack, finishOutcome, ended, finished, withQueue}
+use Rattle.rules.specs.Kinds.{isNormal, headerOf, isForChunk}
 use Rattle.rules.specs.Limits.{hostLimit, operationLimit, greatestClock}
 use Rattle.rules.specs.Network.{freePlaces, removed}
+use Rattle.rules.specs.Operands.{allInRange}
 use Rattle.rules.specs.Runs.{after, Told, tell, told, Taken, Begun, Account, Ledger, noTaken, nothing, withAccount, takenIn, tried, attempt, isNone, endedWith, noted, ledger, begun, noAttempt, lastOf, Agrees, distinct, tellsOf}
 use Rattle.rules.specs.Tables.{isHost, hostOf, chunkOf, slotOf, withPlaces, withHost}
 use Rattle.rules.specs.Timestamps.{stamp, never, _is_, _above_}
-use Rattle.rules.specs.Words.{each, none, some, fold, numbers, filled}
+use Rattle.rules.specs.Words.{each, none, some, place, fold, numbers, filled}
 use Rattle.rules.specs.Zero.{zeroOperation, zeroHost, noHost}
-use Rattle.rules.proofs.Lists.{both, and-true, three, walk, filled-take, take-short, set-all, each-length, each-number, numbers-length}
-use Rattle.rules.proofs.Events.{by-number, rows-granted}
+use Rattle.rules.proofs.Lists.{All, _&_, end, and-true, three, walk, filled-take, set-all, each-length, each-number, numbers-length}
+use Rattle.rules.proofs.Events.{by-kind, rows-granted}
 use Rattle.rules.proofs.Formed.{one-to, Formed, formed, host-place, host-of, host-facts, queue-facts, attempt-facts}
 use Rattle.rules.proofs.Errors.{start-draws}
-use Rattle.rules.proofs.Relies.{intake-place, finish-current}
+use Rattle.rules.proofs.Relies.{finish-current}
 
 -- ---- lists
 
@@ -108,22 +109,18 @@ pub record Drawn (t : Table) (x : Begun) : Type 0 where
   pub past : clock ≤ hostOf t (x .host) .clock
   pub host : x .host < hostLimit
 
-abbrev All : {A : Type 0} → (A → Type 0) → List A → Type 0
-All P [] = Unit {0}
-All P (x ∷ l) = P x × All P l
-
 all-map : {A : Type 0} (P Q : A → Type 0) → ((x : A) → P x → Q x) → (l : List A) → All P l → All Q l
-all-map P Q f [] h = tt
-all-map P Q f (x ∷ l) h = (f x (h .0), all-map P Q f l (h .1))
+all-map P Q f [] end = end
+all-map P Q f (x ∷ l) (h & hs) = f x h & all-map P Q f l hs
 
 all-each : {A B : Type 0} (f : A → B) (P : B → Type 0) (l : List A) → All (λ x. P (f x)) l → All P (each f l)
 unfolding each
-all-each f P [] h = tt
-all-each f P (x ∷ l) h = (h .0, all-each f P l (h .1))
+all-each f P [] end = end
+all-each f P (x ∷ l) (h & hs) = h & all-each f P l hs
 
 all-append : {A : Type 0} (P : A → Type 0) (l : List A) (x : A) → All P l → P x → All P (l ++ x ∷ [])
-all-append P [] x h p = (p, tt)
-all-append P (y ∷ l) x h p = (h .0, all-append P l x (h .1) p)
+all-append P [] x end p = p & end
+all-append P (y ∷ l) x (h & hs) p = h & all-append P l x hs p
 
 pub record Kept (l : Ledger) (t : Table) : Type 0 where
   pub length : length (t .hosts) ≡ hostLimit
@@ -236,13 +233,13 @@ none-goes-back host h = go (h .attempt .okay) (h .attempt .restart) (front h .ac
 distinct-more : (l : List Timestamp) (u : Timestamp) → distinct l ≡ true → u above never ≡ true → All (λ s. (s ≡ u → ⊥)) l
     → distinct (l ++ u ∷ []) ≡ true
 unfolding distinct some
-distinct-more [] u d p n = and-true _ _ (and-true _ _ p refl) refl
-distinct-more (s ∷ l) u d p n =
+distinct-more [] u d p end = and-true _ _ (and-true _ _ p refl) refl
+distinct-more (s ∷ l) u d p (n & ns) =
     let r = three (s above never) (none (λ v. v is s) l) (distinct l) d in
-    and-true _ _ (and-true _ _ (r .0) (others l (r .1))) (distinct-more l u (r .2) p (n .1))
+    and-true _ _ (and-true _ _ (r .0) (others l (r .1))) (distinct-more l u (r .2) p ns)
   where
     others : (l : List Timestamp) → none (λ v. v is s) l ≡ true → none (λ v. v is s) (l ++ u ∷ []) ≡ true
-    others [] h = rw (ne-eqb (u .0) (s .0) (λ e. n .0 (ap {B = Timestamp} (λ (a : ℕ). record { 0 = a }) (sym e)))) refl
+    others [] h = rw (ne-eqb (u .0) (s .0) (λ e. n (ap {B = Timestamp} (λ (a : ℕ). record { 0 = a }) (sym e)))) refl
     others (v ∷ l) h = go (v is s) h (others l)
       where
         go : (b : Bool) → not (b || some (λ v. v is s) l) ≡ true
@@ -351,32 +348,34 @@ module _ (l : Ledger) (t : Table) (f : Formed t) (i : Kept l t) (j : ℕ) (e : i
 -- ---- every event
 
 module _ (l : Ledger) (t : Table) (i : Kept l t) (e : Event) where
-  -- a rule where it is granted
-  abbrev Grants : Rule → Type 0
-  Grants r = Formed t → r .ranges ≡ true → codeOf (r .refusals) ≡ 0
-      → Kept (noted l (tell e (done (r .effect)))) (r .effect .table)
+  -- a kind of event where it is granted
+  abbrev Grants : EventKind → Type 0
+  Grants k =
+      let x = k .rule t (e .a) (e .b) (e .c) in
+      Formed t → allInRange (t .creation) (k .operands) (e .a) (e .b) (e .c) ≡ true → codeOf (x .refusals) ≡ 0
+      → Kept (noted l (tell e (done (x .effect)))) (x .effect .table)
 
   -- the hosts are as they were
   as-were : (t′ : Table) → t′ .hosts ≡ t .hosts → Kept l t′
   as-were t′ q = still l t t′ (same t t′ q) i
 
   -- what stands in the host's row is what the event handed in: its operation, and its clock x 8 + host
-  reads : e .kind ≡ 1 → Grants (readRule t (e .a) (e .b) (e .c))
-  unfolding readRule
+  reads : e .kind ≡ 1 → Grants (kindOf 1)
+  unfolding kindOf place
   reads k f r c =
       let o : Operation = record { block = e .b; action = Action.Read } in
       let row : readRule t (e .a) (e .b) (e .c) .effect .table .hosts ≡ withHost t (e .a) (appended (hostOf t (e .a)) o) .hosts = refl in
       rw k (still _ _ _ (same _ _ row) (took l t f i (e .a) (three _ _ _ r .0) o c))
 
-  writes : e .kind ≡ 2 → Grants (writeRule t (e .a) (e .b) (e .c))
-  unfolding writeRule
+  writes : e .kind ≡ 2 → Grants (kindOf 2)
+  unfolding kindOf place
   writes k f r c =
       let o : Operation = record { block = e .b; action = Action.Write (e .c) } in
       let row : writeRule t (e .a) (e .b) (e .c) .effect .table .hosts ≡ withHost t (e .a) (appended (hostOf t (e .a)) o) .hosts = refl in
       rw k (still _ _ _ (same _ _ row) (took l t f i (e .a) (three _ _ _ r .0) o c))
 
-  starts : e .kind ≡ 3 → Grants (startRule t (e .a) (e .b) (e .c))
-  unfolding startRule
+  starts : e .kind ≡ 3 → Grants (kindOf 3)
+  unfolding kindOf place
   starts k f r c =
       let h = hostOf t (e .a) in
       let to = openingTo (front h .action) (e .c) (holdersOf t h) in
@@ -387,39 +386,57 @@ module _ (l : Ledger) (t : Table) (i : Kept l t) (e : Event) where
       rw k (still _ _ _ (same _ _ row)
       (begins l t f i (e .a) (q .0) (e .b) to (one-to greatestClock (e .b) (q .1) .0) (omega (arith, drawn .0))))
 
-  finishes : e .kind ≡ 6 → Grants (finishRule t (e .a) (e .b) (e .c))
-  unfolding finishRule
+  finishes : e .kind ≡ 6 → Grants (kindOf 6)
+  unfolding kindOf place
   finishes k f r c =
       let h = hostOf t (e .a) in
       rw k (still _ (withHost t (e .a) (finished h)) _ (same _ _ refl)
       (ends l t f i (e .a) (three _ _ _ r .0) (finishOutcome (e .a) h) (none-goes-back (e .a) h)))
 
-  delivers : e .kind ≡ 4 → Grants (deliverRule t (e .a) (e .b) (e .c))
-  unfolding deliverRule
+  delivers : e .kind ≡ 4 → Grants (kindOf 4)
+  unfolding kindOf place
   delivers k f r c =
       let left = withPlaces t (removed (t .places) (e .a)) in
       rw k (still l left _ (takes-same left (slotOf (t .places) (e .a))) (as-were left refl))
 
+  -- the ledger has nothing of an event of kind n
+  unnoted : (n : ℕ) (t′ : Table) → e .kind ≡ n → noted l (tell (record { kind = n; a = e .a; b = e .b; c = e .c }) (done (quietly t′))) ≡ l
+      → Kept l t′ → Kept (noted l (tell e (done (quietly t′)))) t′
+  unnoted n t′ k q i = rw (k, q) i
+
   -- timeout, refresh, stop: the host's queue, timestamp and clock stay
-  at-one : (y : Host) → Alike (hostOf t (e .a)) y → Kept l (withHost t (e .a) y)
-  at-one y a = still l t (withHost t (e .a) y) (same-host t (e .a) y a) i
+  at-one : (y : Host) → y .queue ≡ hostOf t (e .a) .queue → y .attempt .timestamp ≡ hostOf t (e .a) .attempt .timestamp → y .clock ≡ hostOf t (e .a) .clock
+      → Kept l (withHost t (e .a) y)
+  at-one y q s c = still l t (withHost t (e .a) y) (same-host t (e .a) y (record { queue = q; timestamp = s; clock = c })) i
+
+  granted : Grants (kindOf (e .kind))
+  unfolding kindOf place
+  granted =
+      by-kind Grants (e .kind) (
+      reads
+      & writes
+      & starts
+      & delivers
+      & (λ k _ _ _. unnoted 5 _ k refl (as-were _ refl))
+      & finishes
+      & (λ k _ _ _. unnoted 7 _ k refl (at-one _ refl refl refl))
+      & (λ k _ _ _. unnoted 8 _ k refl (at-one _ refl refl refl))
+      & (λ k _ _ _. unnoted 9 _ k refl (as-were _ refl))
+      & (λ k _ _ _. unnoted 10 _ k refl (at-one _ refl refl refl))
+      & (λ k _ _ _. unnoted 11 _ k refl (as-were _ refl))
+      & (λ k _ _ _. unnoted 12 _ k refl (as-were _ refl))
+      & (λ k _ _ _. unnoted 13 _ k refl (as-were _ refl))
+      & (λ k _ _ _. unnoted 14 _ k refl (as-were _ refl))
+      & (λ k _ _ _. unnoted 15 _ k refl (as-were _ refl))
+      & (λ k _ _ _. unnoted 16 _ k refl (as-were _ refl))
+      & end) (λ _ r _. absurd (false≢true r))
 
   step-kept : Kept (noted l (tell e (step t e))) (step t e .table)
-  unfolding step answered timeoutRule refreshRule runRule stopRule failRule recoverRule takeLeaseRule giveLeaseRule epochRule overdueRule dropRule
-  step-kept = walk (λ (a : Answer). Kept (noted l (tell e a)) (a .table))
-      (eqb (codeOf (rows t (ruleOf t e))) 0) _ _
-      (λ z. let own = rows-granted t (ruleOf t e) (eqb-true (codeOf (rows t (ruleOf t e))) 0 z) in granted (formed t (own .0)) (own .1) (own .2))
+  unfolding step ranges ruleOf
+  step-kept =
+      walk (λ (a : Answer). Kept (noted l (tell e a)) (a .table)) (eqb (codeOf (rows t e)) 0) _ _
+      (λ z. let own = rows-granted t e (eqb-true (codeOf (rows t e)) 0 z) in granted (formed t (own .0)) (own .1) (own .2))
       (λ z. rw z i)
-    where
-      granted : Grants (ruleOf t e)
-      granted = by-number Grants t e reads writes starts delivers (λ k _ _ _. rw k (as-were _ refl)) finishes
-          (λ k _ _ _. rw k (at-one _ (record { queue = refl; timestamp = refl; clock = refl })))
-          (λ k _ _ _. rw k (at-one _ (record { queue = refl; timestamp = refl; clock = refl })))
-          (λ k _ _ _. rw k (as-were _ refl))
-          (λ k _ _ _. rw k (at-one _ (record { queue = refl; timestamp = refl; clock = refl })))
-          (λ k _ _ _. rw k (as-were _ refl)) (λ k _ _ _. rw k (as-were _ refl)) (λ k _ _ _. rw k (as-were _ refl))
-          (λ k _ _ _. rw k (as-were _ refl)) (λ k _ _ _. rw k (as-were _ refl)) (λ k _ _ _. rw k (as-were _ refl))
-          (λ _ r _. absurd (false≢true r))
 
 -- ---- an outcome is a finish's
 
@@ -431,26 +448,48 @@ pub record Finish (t : Table) (e : Event) (a : Answer) : Type 0 where
   pub current : hasCurrent (hostOf t (e .a)) ≡ true
   pub outcome : a .outcome ≡ finishOutcome (e .a) (hostOf t (e .a))
 
-pub none-or-finish : (t : Table) (e : Event) → (step t e .outcome ≡ Outcome.None) ⊎ Finish t e (step t e)
-unfolding step answered readRule writeRule startRule deliverRule dropRule finishRule timeoutRule refreshRule runRule stopRule failRule recoverRule takeLeaseRule giveLeaseRule epochRule overdueRule
-none-or-finish t e = walk (λ (a : Answer). (a .outcome ≡ Outcome.None) ⊎ Finish t e a) (eqb (codeOf (rows t (ruleOf t e))) 0) _ _
-    (λ z. let own = rows-granted t (ruleOf t e) (eqb-true (codeOf (rows t (ruleOf t e))) 0 z) in granted (formed t (own .0)) (own .1) (own .2))
-    (λ _. inl refl)
-  where
-    granted : Formed t → ruleOf t e .ranges ≡ true → codeOf (ruleOf t e .refusals) ≡ 0
-        → (ruleOf t e .effect .outcome ≡ Outcome.None) ⊎ Finish t e (done (ruleOf t e .effect))
-    granted = by-number (λ r. Formed t → r .ranges ≡ true → codeOf (r .refusals) ≡ 0 → (r .effect .outcome ≡ Outcome.None) ⊎ Finish t e (done (r .effect))) t e
-        (λ _ _ _ _. inl refl) (λ _ _ _ _. inl refl) (λ _ _ _ _. inl refl) (λ _ _ _ _. inl refl) (λ _ _ _ _. inl refl)
-        (λ k f r c. inr (record {
-          formed = f;
-          kind = k;
-          code = refl;
-          host = three _ _ _ r .0;
-          current = finish-current (hostOf t (e .a)) (freePlaces (t .places)) _ c;
-          outcome = refl;
-        }))
-        (λ _ _ _ _. inl refl) (λ _ _ _ _. inl refl) (λ _ _ _ _. inl refl) (λ _ _ _ _. inl refl) (λ _ _ _ _. inl refl) (λ _ _ _ _. inl refl)
-        (λ _ _ _ _. inl refl) (λ _ _ _ _. inl refl) (λ _ _ _ _. inl refl) (λ _ _ _ _. inl refl) (λ _ _ _. inl refl)
+module _ (t : Table) (e : Event) where
+  abbrev Tells : EventKind → Type 0
+  Tells k =
+      let x = k .rule t (e .a) (e .b) (e .c) in
+      Formed t → allInRange (t .creation) (k .operands) (e .a) (e .b) (e .c) ≡ true → codeOf (x .refusals) ≡ 0
+      → (x .effect .outcome ≡ Outcome.None) ⊎ Finish t e (done (x .effect))
+
+  tells : Tells (kindOf (e .kind))
+  unfolding kindOf place
+  tells =
+      by-kind Tells (e .kind) (
+      (λ _ _ _ _. inl refl)
+      & (λ _ _ _ _. inl refl)
+      & (λ _ _ _ _. inl refl)
+      & (λ _ _ _ _. inl refl)
+      & (λ _ _ _ _. inl refl)
+      & (λ k f r c. inr (record {
+        formed = f;
+        kind = k;
+        code = refl;
+        host = three _ _ _ r .0;
+        current = finish-current (hostOf t (e .a)) (freePlaces (t .places)) _ c;
+        outcome = refl;
+      }))
+      & (λ _ _ _ _. inl refl)
+      & (λ _ _ _ _. inl refl)
+      & (λ _ _ _ _. inl refl)
+      & (λ _ _ _ _. inl refl)
+      & (λ _ _ _ _. inl refl)
+      & (λ _ _ _ _. inl refl)
+      & (λ _ _ _ _. inl refl)
+      & (λ _ _ _ _. inl refl)
+      & (λ _ _ _ _. inl refl)
+      & (λ _ _ _ _. inl refl)
+      & end) (λ _ _ _. inl refl)
+
+  pub none-or-finish : (step t e .outcome ≡ Outcome.None) ⊎ Finish t e (step t e)
+  unfolding step ranges ruleOf
+  none-or-finish =
+      walk (λ (a : Answer). (a .outcome ≡ Outcome.None) ⊎ Finish t e a) (eqb (codeOf (rows t e)) 0) _ _
+      (λ z. let own = rows-granted t e (eqb-true (codeOf (rows t e)) 0 z) in tells (formed t (own .0)) (own .1) (own .2))
+      (λ _. inl refl)
 
 -- ---- a host that is at an attempt is at its last one
 
@@ -540,7 +579,7 @@ fresh-kept k = record {
   length = each-length (λ h. cond (isHost k h) freshHost zeroHost) (numbers hostLimit) ∙ numbers-length hostLimit;
   agree = λ h m. subst⁻¹ (Agrees h (nothing .accounts h) noAttempt) (each-number (λ h. cond (isHost k h) freshHost zeroHost) hostLimit h noHost m)
       (go h (isHost k h));
-  drawn = tt;
+  drawn = end;
   distinct = refl;
 }
   where

@@ -9,7 +9,7 @@ use Rattle.rules.specs.Types.{Timestamp, Set, Kind, Entry, Record, State
 use Rattle.rules.specs.Chunks.{atChunk, arrived}
 use Rattle.rules.specs.Codes.{codeOf}
 use Rattle.rules.specs.Creation.{fresh, firstEpoch, isCreation}
-use Rattle.rules.specs.Events.{step, answered, rows, ruleOf, startRule, deliverRule, epochRule, overdueRule}
+use Rattle.rules.specs.Events.{step, rows, ranges, ruleOf, kindOf}
 use Rattle.rules.specs.Formed.{wellFormed}
 use Rattle.rules.specs.Hosts.{appended, refreshed, withClock, queueOf}
 use Rattle.rules.specs.Kinds.{headed}
@@ -171,5 +171,5 @@ cases =
 
 -- what is seen in each case is what document 01 says
 pub cases-hold : each seen cases ≡ each (λ (k : Case). k .expected) cases
-unfolding step answered rows ruleOf codeOf wellFormed isCreation fresh startRule deliverRule epochRule overdueRule atChunk arrived appended queueOf freePlaces howMany sent sentToEach replied W besideW agreed committed writes commits latest writtenWith settledRecord settled allLost holding insert inserted those each joined every some place fold from
+unfolding step rows ranges ruleOf kindOf codeOf wellFormed isCreation fresh atChunk arrived appended queueOf freePlaces howMany sent sentToEach replied W besideW agreed committed writes commits latest writtenWith settledRecord settled allLost holding insert inserted those each joined every some place fold from
 cases-hold = refl

@@ -29,6 +29,7 @@ one-to greatest n h = let r = both (leb 1 n) (leb n greatest) h in (leb-true 1 n
 -- ---- a creation
 
 pub record FormedCreation (k : Creation) : Type 0 where
+  pub host : 1 ≤ k .hosts
   pub hosts : k .hosts ≤ hostLimit
   pub chunks : k .chunks ≤ chunkLimit
   pub blocks : k .blocks ≤ blockLimit
@@ -42,6 +43,7 @@ module _ (k : Creation) where
       let r = five (oneTo hostLimit (k .hosts)) (oneTo chunkLimit (k .chunks)) (oneTo blockLimit (k .blocks))
       (every (isSetOf k) (numbers blockLimit)) (upTo greatestClock (k .age)) h in
       record {
+        host = one-to hostLimit (k .hosts) (r .0) .0;
         hosts = one-to hostLimit (k .hosts) (r .0) .1;
         chunks = one-to chunkLimit (k .chunks) (r .1) .1;
         blocks = one-to blockLimit (k .blocks) (r .2) .1;

@@ -1,25 +1,25 @@
 -- Every event keeps well-formedness, so code 8 never comes from a fresh store
-use Prim.Native.Nat.{ℕ, _*_, _≤_}
+use Prim.Native.Nat.{ℕ, _*_}
 use mathlib.Core.Path.{_≡_, refl}
-use mathlib.Core.Bool.{Bool, true, false, cond, not, _&&_}
+use mathlib.Core.Bool.{Bool, true, false, cond, _&&_}
 use mathlib.Core.List.{List, [], _∷_}
 use native.Mathlib.Omega.{arith}
 use lib.ListN.{getD-replicate}
-use lib.Dec.{eqb, leb}
-use borrow.Author.Tests.{leb-true, eqb-true}
+use lib.Dec.{eqb}
+use borrow.Author.Tests.{eqb-true}
 use Rattle.rules.specs.Types.{Creation, Table, Event, Answer}
-use Rattle.rules.specs.Codes.{Row, _gives_⨾_, codeOf}
+use Rattle.rules.specs.Codes.{codeOf}
 use Rattle.rules.specs.Creation.{isCreation, firstEpoch, freshChunk, freshHost, fresh}
-use Rattle.rules.specs.Events.{readRule, writeRule, startRule, finishRule, timeoutRule, refreshRule, stopRule, deliverRule, dropRule, runRule, failRule, recoverRule, takeLeaseRule, giveLeaseRule, overdueRule, epochRule, ruleOf, rows, answered, step}
+use Rattle.rules.specs.Events.{kindOf, ranges, ruleOf, rows, step}
 use Rattle.rules.specs.Formed.{hostFormed, chunkFormed, recordFormed, wellFormed}
 use Rattle.rules.specs.Limits.{hostLimit, chunkLimit, blockLimit, placeLimit}
 use Rattle.rules.specs.Runs.{after}
 use Rattle.rules.specs.Tables.{isHost, isChunk, isBlock, at}
-use Rattle.rules.specs.Words.{every, some, from}
+use Rattle.rules.specs.Words.{every, some, place, from}
 use Rattle.rules.specs.Zero.{zeroRecord, isZeroRecord, zeroChunk, isZeroChunk, zeroHost, isZeroHost, zeroPlace, zeroTable, noRecord, noChunk, noHost}
-use Rattle.rules.proofs.Lists.{both, walk, each-number}
-use Rattle.rules.proofs.Events.{by-number, rows-granted}
-use Rattle.rules.proofs.Formed.{well-formed}
+use Rattle.rules.proofs.Lists.{_&_, end, walk, each-number}
+use Rattle.rules.proofs.Events.{by-kind, rows-granted, step-most}
+use Rattle.rules.proofs.Formed.{formed, well-formed}
 use Rattle.rules.proofs.KeepsParts.{Keeps}
 use Rattle.rules.proofs.KeepsHosts.{read-kept, write-kept, start-kept, finish-kept, timeout-kept, refresh-kept, stop-kept}
 use Rattle.rules.proofs.KeepsChunks.{deliver-kept, drop-kept, run-kept, fail-kept, recover-kept, take-lease-kept, give-lease-kept, overdue-kept}
@@ -44,38 +44,29 @@ module _ (k : Creation) where
   fresh-record-at true = refl
   fresh-record-at false = refl
 
--- ---- the rules: each keeps well-formedness, and none of its own refusals is above 7
+-- ---- the events: each keeps well-formedness
 
-rule-keeps : (t : Table) (e : Event) → Keeps t (ruleOf t e)
-rule-keeps t e =
-    let a = e .a in
-    let b = e .b in
-    let c = e .c in
-    by-number (Keeps t) t e (λ _. read-kept t a b c) (λ _. write-kept t a b c) (λ _. start-kept t a b c) (λ _. deliver-kept t a b c) (λ _. drop-kept t a b c)
-    (λ _. finish-kept t a b c) (λ _. timeout-kept t a b c) (λ _. refresh-kept t a b c) (λ _. run-kept t a b c) (λ _. stop-kept t a b c) (λ _. fail-kept t a b c)
-    (λ _. recover-kept t a b c) (λ _. take-lease-kept t a b c) (λ _. give-lease-kept t a b c) (λ _. epoch-kept t a b c) (λ _. overdue-kept t a b c) (λ h _ _. h)
-
-rule-codes : (t : Table) (e : Event) → every (λ row. leb (row .code) 7) (ruleOf t e .refusals) ≡ true
-unfolding every readRule writeRule startRule finishRule timeoutRule refreshRule stopRule deliverRule dropRule runRule failRule recoverRule takeLeaseRule giveLeaseRule overdueRule epochRule
-rule-codes t e =
-    by-number (λ r. every (λ row. leb (row .code) 7) (r .refusals) ≡ true) t e (λ _. refl) (λ _. refl) (λ _. refl) (λ _. refl) (λ _. refl) (λ _. refl)
-    (λ _. refl) (λ _. refl) (λ _. refl) (λ _. refl) (λ _. refl) (λ _. refl) (λ _. refl) (λ _. refl) (λ _. refl) (λ _. refl) refl
-
--- no row above n, no code above n
-code-most : (n : ℕ) (l : List Row) → every (λ row. leb (row .code) n) l ≡ true → codeOf l ≤ n
-unfolding codeOf every
-code-most n [] h = omega arith
-code-most n (r ∷ rs) h =
-    let b = both (leb (r .code) n) (every (λ row. leb (row .code) n) rs) h in
-    walk (λ (m : ℕ). m ≤ n) (r .holds) (r .code) (codeOf rs) (λ _. leb-true (r .code) n (b .0)) (λ _. code-most n rs (b .1))
-
--- a well-formed table is answered with 7 at most
-step-most : (t : Table) (e : Event) → wellFormed t ≡ true → step t e .code ≤ 7
-unfolding step answered rows codeOf every
-step-most t e h =
-    let r = ruleOf t e in
-    walk (λ (a : Answer). a .code ≤ 7) (eqb (codeOf (rows t r)) 0) _ _ (λ _. omega arith)
-    (λ _. rw h (code-most 7 (not (r .ranges) gives 1 ⨾ r .refusals) (rule-codes t e)))
+kind-keeps : (t : Table) (n : ℕ) → Keeps t (kindOf n)
+unfolding kindOf place
+kind-keeps t n =
+    by-kind (Keeps t) n (
+    (λ _. read-kept t)
+    & (λ _. write-kept t)
+    & (λ _. start-kept t)
+    & (λ _. deliver-kept t)
+    & (λ _. drop-kept t)
+    & (λ _. finish-kept t)
+    & (λ _. timeout-kept t)
+    & (λ _. refresh-kept t)
+    & (λ _. run-kept t)
+    & (λ _. stop-kept t)
+    & (λ _. fail-kept t)
+    & (λ _. recover-kept t)
+    & (λ _. take-lease-kept t)
+    & (λ _. give-lease-kept t)
+    & (λ _. epoch-kept t)
+    & (λ _. overdue-kept t)
+    & end) (λ _ _ _ f _ _. f)
 
 -- ---- the theorems
 
@@ -99,12 +90,11 @@ no-store = refl
 
 -- every event, granted or refused, keeps well-formedness
 pub step-formed : (t : Table) (e : Event) → wellFormed t ≡ true → wellFormed (step t e .table) ≡ true
-unfolding step answered rows
+unfolding step ranges ruleOf
 step-formed t e h =
-    let r = ruleOf t e in
-    walk (λ (a : Answer). wellFormed (a .table) ≡ true) (eqb (codeOf (rows t r)) 0) _ _ (λ done.
-    let own = rows-granted t r (eqb-true (codeOf (rows t r)) 0 done) in
-    rule-keeps t e h (own .1) (own .2))
+    walk (λ (a : Answer). wellFormed (a .table) ≡ true) (eqb (codeOf (rows t e)) 0) _ _ (λ done.
+    let own = rows-granted t e (eqb-true (codeOf (rows t e)) 0 done) in
+    well-formed (ruleOf t e .effect .table) (kind-keeps t (e .kind) (e .a) (e .b) (e .c) (formed t h) (own .1) (own .2)))
     (λ _. h)
 
 -- a well-formed table stays well formed

@@ -7,26 +7,27 @@ use native.Mathlib.Omega.{arith}
 use lib.ListN.{getD, drop, length-drop, length-set, getD-replicate}
 use lib.Dec.{eqb, ltb, leb}
 use borrow.Author.Tests.{ltb-true, lt-ltb, leb-false, not-false}
-use Rattle.rules.specs.Types.{Timestamp, Epoch, Creation, Kind, Entry, Waiting, Record, State, Chunk, Header, Message, Slot, Table, Arrived}
+use Rattle.rules.specs.Types.{Timestamp, Epoch, Creation, Kind, Entry, Waiting, Record, State, Chunk, Header, Message, Slot, Table, Arrived, Operand}
 use Rattle.rules.specs.Chunks.{withState, withValue, withRead, withWrite, withWaiting, answering, silent, isOutOfOrder, entryOf, arrived, decides, atChunk, runs, ran, failed, emptied, recoverRefusals, takeLeaseRefusals, giveLeaseRefusals, overdue}
 use Rattle.rules.specs.Codes.{Row}
 use Rattle.rules.specs.Creation.{isCreation}
-use Rattle.rules.specs.Events.{unused, isPlace, chunkTakes, hostTakes, takes, deliverRule, dropRule, runRule, chunkRule, failRule, recoverRule, takeLeaseRule, giveLeaseRule, overdueRule}
+use Rattle.rules.specs.Events.{chunkTakes, hostTakes, takes, chunkRule, _does_, kindOf}
 use Rattle.rules.specs.Formed.{chunkFormed, entryFormed, waitingFormed, recordFormed, messageFormed, slotFormed}
 use Rattle.rules.specs.Hosts.{atHost}
 use Rattle.rules.specs.Kinds.{isWrite, isNormal, headed, headerOf, epochOf, isForChunk}
-use Rattle.rules.specs.Limits.{blockLimit, waitingLimit, placeLimit, greatestClock, upTo}
+use Rattle.rules.specs.Limits.{blockLimit, waitingLimit, placeLimit}
+use Rattle.rules.specs.Operands.{_∥_∥_}
 use Rattle.rules.specs.Tables.{isHost, isChunk, isBlock, hostOf, chunkOf, recordOf, slotOf, withChunk, withRecord, withPlaces}
 use Rattle.rules.specs.Network.{removed, freePlaces}
 use Rattle.rules.specs.Timestamps.{never, _is_, _above_, _below_, later, isTimestamp, _same_, isEpoch}
 use Rattle.rules.specs.Waiting.{inOrder, insert, inserted, head, headRemoved, firstWith, decided, mark, marked}
-use Rattle.rules.specs.Words.{every, from, numbers}
+use Rattle.rules.specs.Words.{every, place, from, numbers}
 use Rattle.rules.specs.Zero.{noBlocks, zeroEntry, isZeroEntry, zeroWaiting, isZeroRecord}
 use Rattle.rules.proofs.Lists.{three, five, walk, every-drop, every-change, set-all, take-short}
 use Rattle.rules.proofs.Order.{insert-length, insert-every, insert-ordered, tail-ordered, mark-ordered}
 use Rattle.rules.proofs.Formed.{Formed, chunk-place, block-place, chunk-facts, chunk-formed, waiting-facts, entries-length, entries-formed, entries-ordered, waiting-formed, head-formed, FormedRecord, record-facts, record-formed, FormedHeader, message-facts, message-formed, host-of, chunk-of, record-of}
 use Rattle.rules.proofs.Relies.{run-head}
-use Rattle.rules.proofs.KeepsParts.{Keeps, keeps, RecordAt, host-kept, chunk-kept, record-kept, records-kept, removed-kept, replied-kept}
+use Rattle.rules.proofs.KeepsParts.{Keeps, RecordAt, host-kept, chunk-kept, record-kept, records-kept, removed-kept, replied-kept}
 use Rattle.rules.proofs.KeepsHosts.{at-host-formed}
 
 -- the later of two timestamps is one
@@ -265,76 +266,70 @@ module _ (t : Table) where
   creation = t .creation
 
   -- 4 deliver
-  pub deliver-kept : (place b c : ℕ) → Keeps t (deliverRule t place b c)
-  unfolding deliverRule
-  deliver-kept place b c =
-      keeps t (deliverRule t place b c) (λ f e p.
-      let r = three (isPlace place) (unused b) (unused c) e in
+  pub deliver-kept : Keeps t (kindOf 4)
+  unfolding kindOf place
+  deliver-kept place _ _ f e p =
       taken (withPlaces t (removed (t .places) place)) (removed-kept t f place) (slotOf (t .places) place)
-      (f .places place (ltb-true place placeLimit (r .0))))
+      (f .places place (ltb-true place placeLimit (three _ _ _ e .0)))
 
   -- 5 drop
-  pub drop-kept : (place b c : ℕ) → Keeps t (dropRule t place b c)
-  unfolding dropRule
-  drop-kept place b c = keeps t (dropRule t place b c) (λ f e p. removed-kept t f place)
+  pub drop-kept : Keeps t (kindOf 5)
+  unfolding kindOf place
+  drop-kept place _ _ f e p = removed-kept t f place
 
   -- ---- the chunks' events
 
   -- 9 run
-  pub run-kept : (chunk block c : ℕ) → Keeps t (runRule t chunk block c)
-  unfolding runRule
-  run-kept chunk block c =
-      keeps t (runRule t chunk block c) (λ f e p.
+  pub run-kept : Keeps t (kindOf 9)
+  unfolding kindOf place
+  run-kept chunk block _ f e p =
       let r = recordOf t chunk block in
       let a = ran chunk block r in
-      let s = three (isChunk creation chunk) (isBlock creation block) (unused c) e in
+      let s = three _ _ _ e in
       let l = block-place creation block (s .1) (f .creation) in
       let some = run-head (chunkOf t chunk .state) (r .waiting) (freePlaces (t .places)) p in
       let old = record-of t f chunk block (chunk-place creation chunk (s .0) (f .creation)) l in
       let g = ran-at creation (f .creation) chunk block (s .0) (s .1) r old some in
-      replied-kept (withRecord t chunk block (a .block)) (record-kept t f chunk block (a .block) l (g .block)) (a .reply) (g .reply))
+      replied-kept (withRecord t chunk block (a .block)) (record-kept t f chunk block (a .block) l (g .block)) (a .reply) (g .reply)
 
   -- 11 fail
-  pub fail-kept : (chunk b c : ℕ) → Keeps t (failRule t chunk b c)
-  unfolding failRule
-  fail-kept chunk b c =
-      keeps t (failRule t chunk b c) (λ f e p.
-      let s = three (isChunk creation chunk) (unused b) (unused c) e in
+  pub fail-kept : Keeps t (kindOf 11)
+  unfolding kindOf place
+  fail-kept chunk _ _ f e p =
+      let s = three _ _ _ e in
       let x = chunkOf t chunk in
       let now = blank-formed creation (t .epoch) (failed x) (chunk-facts creation (t .epoch) x (chunk-of t f chunk (s .0)) .epoch) refl in
       records-kept (withChunk t chunk (failed x)) (chunk-kept t f chunk (failed x) (s .0) now) _
       (λ c b l m.
       let old = f .records c b l m in
-      walk (RecordAt creation c b) (eqb c chunk) _ _ (λ _. emptied-at creation c b (recordOf t c b) old) (λ _. old)))
+      walk (RecordAt creation c b) (eqb c chunk) _ _ (λ _. emptied-at creation c b (recordOf t c b) old) (λ _. old))
 
   -- an event that changes a chunk's state alone
-  state-kept : (chunk b c : ℕ) (refusals : List Row) (state : State)
-      → Keeps t (chunkRule t chunk b c refusals (withChunk t chunk (withState (chunkOf t chunk) state)))
-  state-kept chunk b c refusals state =
-      keeps t (chunkRule t chunk b c refusals (withChunk t chunk (withState (chunkOf t chunk) state))) (λ f e p.
-      let s = three (isChunk creation chunk) (unused b) (unused c) e in
-      chunk-kept t f chunk (withState (chunkOf t chunk) state) (s .0) (chunk-of t f chunk (s .0)))
+  state-kept : (refusals : Chunk → List Row) (state : State)
+      → Keeps t (Operand.Chunk ∥ Operand.Unused ∥ Operand.Unused does (λ t chunk _ _. chunkRule t chunk refusals (λ c. withState c state)))
+  state-kept refusals state chunk _ _ f e p =
+      let s = three _ _ _ e in
+      chunk-kept t f chunk (withState (chunkOf t chunk) state) (s .0) (chunk-of t f chunk (s .0))
 
   -- 12 recover
-  pub recover-kept : (chunk b c : ℕ) → Keeps t (recoverRule t chunk b c)
-  unfolding recoverRule
-  recover-kept chunk b c = state-kept chunk b c (recoverRefusals (chunkOf t chunk .state)) State.Nolease
+  pub recover-kept : Keeps t (kindOf 12)
+  unfolding kindOf place
+  recover-kept = state-kept (λ c. recoverRefusals (c .state)) State.Nolease
 
   -- 13 take lease
-  pub take-lease-kept : (chunk b c : ℕ) → Keeps t (takeLeaseRule t chunk b c)
-  unfolding takeLeaseRule
-  take-lease-kept chunk b c = state-kept chunk b c (takeLeaseRefusals (chunkOf t chunk .state)) State.Nolease
+  pub take-lease-kept : Keeps t (kindOf 13)
+  unfolding kindOf place
+  take-lease-kept = state-kept (λ c. takeLeaseRefusals (c .state)) State.Nolease
 
   -- 14 give lease
-  pub give-lease-kept : (chunk b c : ℕ) → Keeps t (giveLeaseRule t chunk b c)
-  unfolding giveLeaseRule
-  give-lease-kept chunk b c = state-kept chunk b c (giveLeaseRefusals (chunkOf t chunk .state) (chunkOf t chunk .lost)) State.Normal
+  pub give-lease-kept : Keeps t (kindOf 14)
+  unfolding kindOf place
+  give-lease-kept = state-kept (λ c. giveLeaseRefusals (c .state) (c .lost)) State.Normal
 
   -- 16 overdue
-  pub overdue-kept : (chunk block now : ℕ) → Keeps t (overdueRule t chunk block now)
-  unfolding overdueRule
-  overdue-kept chunk block now =
-      keeps t (overdueRule t chunk block now) (λ f e p.
-      let s = three (isChunk creation chunk) (isBlock creation block) (upTo greatestClock now) e in
+  pub overdue-kept : Keeps t (kindOf 16)
+  unfolding kindOf place
+  overdue-kept chunk block now f e p =
+      let s = three _ _ _ e in
       let x = chunkOf t chunk in
-      chunk-kept t f chunk (overdue x block) (s .0) (overdue-formed creation (t .epoch) x block (chunk-of t f chunk (s .0)) (s .1)))
+      chunk-kept t f chunk (overdue x block) (s .0) (overdue-formed creation (t .epoch) x block (chunk-of t f chunk (s .0)) (s .1))

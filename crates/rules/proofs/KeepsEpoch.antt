@@ -7,19 +7,19 @@ use lib.ListN.{getD}
 use borrow.Author.Tests.{eq-eqb}
 use Rattle.rules.specs.Types.{Timestamp, Creation, Entry, Record, State, Chunk, Table, Copy}
 use Rattle.rules.specs.Chunks.{emptied}
-use Rattle.rules.specs.Events.{copyOf, copiesOf, renewed, epochChanged, epochRule}
+use Rattle.rules.specs.Events.{copyOf, copiesOf, renewed, epochChanged, kindOf}
 use Rattle.rules.specs.Formed.{chunkFormed, entryFormed, recordFormed}
 use Rattle.rules.specs.Kinds.{isWrite}
 use Rattle.rules.specs.Limits.{chunkLimit, blockLimit}
 use Rattle.rules.specs.Settlement.{inSet, notLost, lastRead, lastWrite, waiting, writesOf, W, committed, writes, commits, latest, settledRecord, settled}
 use Rattle.rules.specs.Tables.{isHost, isChunk, setOf, chunkOf, recordOf}
 use Rattle.rules.specs.Timestamps.{never, later, greatest, isTimestamp, next, isEpoch}
-use Rattle.rules.specs.Words.{those, each, every, some}
+use Rattle.rules.specs.Words.{those, each, every, some, place}
 use Rattle.rules.specs.Zero.{_among_, noBlocks, isZeroChunk, noCopy, noChunk}
 use Rattle.rules.proofs.Lists.{three, walk, every-of-all, every-each, every-each-number, every-joined, fold-keeps, each-number, each-each-number}
 use Rattle.rules.proofs.Formed.{Formed, of-store, set-of-store, set-of-block, waiting-facts, entries-formed, record-facts, record-formed, record-of}
 use Rattle.rules.proofs.Relies.{epoch-next}
-use Rattle.rules.proofs.KeepsParts.{Keeps, keeps, RecordAt, records-kept}
+use Rattle.rules.proofs.KeepsParts.{Keeps, RecordAt, records-kept}
 use Rattle.rules.proofs.KeepsChunks.{later-formed, none-waiting, emptied-at, blank-formed}
 
 -- the greatest of timestamps is one
@@ -119,7 +119,6 @@ module _ (t : Table) (f : Formed t) where
   }
 
 -- 15 epoch change
-pub epoch-kept : (t : Table) (a b c : ℕ) → Keeps t (epochRule t a b c)
-unfolding epochRule
-epoch-kept t a b c =
-    keeps t (epochRule t a b c) (λ f e p. changed-formed t f (epoch-next t p (f .epoch)))
+pub epoch-kept : (t : Table) → Keeps t (kindOf 15)
+unfolding kindOf place
+epoch-kept t _ _ _ f e p = changed-formed t f (epoch-next t p (f .epoch))

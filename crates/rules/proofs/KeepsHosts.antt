@@ -7,22 +7,23 @@ use native.Mathlib.Omega.{arith}
 use lib.ListN.{length, drop, length-append, length-drop}
 use lib.Dec.{eqb}
 use borrow.Author.Tests.{le-leb, lt-ltb, eqb-true, not-true}
-use Rattle.rules.specs.Types.{Timestamp, Epoch, Set, Creation, Action, Operation, Attempt, Host, Header, Message, Table}
+use Rattle.rules.specs.Types.{Timestamp, Epoch, Set, Creation, Action, Operation, Attempt, Host, Header, Message, Table, Operand}
 use Rattle.rules.specs.Codes.{Row, codeOf}
 use Rattle.rules.specs.Creation.{isCreation, ofStore}
-use Rattle.rules.specs.Events.{unused, holdersOf, intakeRule, readRule, writeRule, startRule, finishRule, hostRule, timeoutRule, refreshRule, stopRule}
+use Rattle.rules.specs.Events.{holdersOf, hostRule, _does_, kindOf}
 use Rattle.rules.specs.Formed.{operationFormed, attemptFormed, hostFormed, messageFormed}
-use Rattle.rules.specs.Hosts.{withQueue, withAttempt, withOkay, withRestart, withResult, operationsOf, queueOf, front, appended, only, openingTo, opening, started, suits, counts, answeredBy, heard, atHost, closingTo, closing, goesBack, ended, finished, timeoutRefusals, timedOut, workingRefusals, refreshed, stopped}
+use Rattle.rules.specs.Hosts.{withQueue, withAttempt, withOkay, withRestart, withResult, operationsOf, queueOf, front, intakeRefusals, appended, only, openingTo, opening, started, suits, counts, answeredBy, heard, atHost, closingTo, closing, goesBack, ended, finished, timeoutRefusals, timedOut, workingRefusals, refreshed, stopped}
 use Rattle.rules.specs.Kinds.{isReading, headerOf, headed}
 use Rattle.rules.specs.Limits.{chunkLimit, blockLimit, operationLimit, greatestClock, greatestTimestamp, oneTo}
 use Rattle.rules.specs.Network.{freePlaces, howMany}
+use Rattle.rules.specs.Operands.{_∥_∥_}
 use Rattle.rules.specs.Tables.{isHost, isChunk, isBlock, hostOf, withHost}
 use Rattle.rules.specs.Timestamps.{stamp, never, _is_, _above_, isTimestamp, isEpoch}
-use Rattle.rules.specs.Words.{every, some, from}
+use Rattle.rules.specs.Words.{every, some, place, from}
 use Rattle.rules.specs.Zero.{_among_, isEmpty, zeroSet, zeroAttempt, isZeroAttempt}
 use Rattle.rules.proofs.Lists.{three, and-true, walk, every-one, every-append, every-drop, each-number, set-all, take-short}
 use Rattle.rules.proofs.Formed.{one-to, Formed, host-place, chunk-place, block-place, member-some, of-store, is-of-store, set-of-store, queue-facts, operations-length, operations-formed, queue-formed, front-block, FormedAttempt, attempt-facts, attempt-formed, outstanding-current, host-facts, host-formed, FormedHeader, message-facts, message-formed, host-of, queue-of}
-use Rattle.rules.proofs.KeepsParts.{Keeps, keeps, host-kept, sent-to-each-kept}
+use Rattle.rules.proofs.KeepsParts.{Keeps, host-kept, sent-to-each-kept}
 use Rattle.rules.proofs.Relies.{intake-place, start-front, finish-current, timeout-outstanding}
 
 module _ (k : Creation) where
@@ -201,22 +202,21 @@ module _ (t : Table) where
   creation = t .creation
 
   -- read and write
-  intake-kept : (host block : ℕ) (inRange : Bool) (o : Operation) → o .block ≡ block → Keeps t (intakeRule t host block inRange o)
-  intake-kept host block inRange o about =
-      keeps t (intakeRule t host block inRange o) (λ f e p.
-      let r = three (isHost creation host) (isBlock creation block) inRange e in
+  intake-kept : (host : ℕ) (o : Operation) → Formed t → isHost creation host ≡ true → isBlock creation (o .block) ≡ true
+      → codeOf (intakeRefusals (hostOf t host)) ≡ 0 → Formed (withHost t host (appended (hostOf t host) o))
+  intake-kept host o f e g p =
       let h = hostOf t host in
-      host-kept t f host (appended h o) (r .0) (appended-formed creation h o (host-of t f host (r .0)) (rw about (r .1)) (intake-place h p)))
+      host-kept t f host (appended h o) e (appended-formed creation h o (host-of t f host e) g (intake-place h p))
 
   -- 1 read
-  pub read-kept : (host block c : ℕ) → Keeps t (readRule t host block c)
-  unfolding readRule
-  read-kept host block c = intake-kept host block (unused c) _ refl
+  pub read-kept : Keeps t (kindOf 1)
+  unfolding kindOf place
+  read-kept host _ _ f e p = let r = three _ _ _ e in intake-kept host _ f (r .0) (r .1) p
 
   -- 2 write
-  pub write-kept : (host block value : ℕ) → Keeps t (writeRule t host block value)
-  unfolding writeRule
-  write-kept host block value = intake-kept host block true _ refl
+  pub write-kept : Keeps t (kindOf 2)
+  unfolding kindOf place
+  write-kept host _ _ f e p = let r = three _ _ _ e in intake-kept host _ f (r .0) (r .1) p
 
   -- the front operation of a host of the store's: its block's set, and the headers of its messages
   module _ (f : Formed t) (host : ℕ) (e : isHost creation host ≡ true) (one : 1 ≤ hostOf t host .queue .count) where
@@ -235,14 +235,13 @@ module _ (t : Table) where
         record { host = e; chunk = h; block = l; timestamp = g }
 
   -- 3 start
-  pub start-kept : (host clock copy : ℕ) → Keeps t (startRule t host clock copy)
-  unfolding startRule
-  start-kept host clock copy =
-      keeps t (startRule t host clock copy) (λ f e p.
+  pub start-kept : Keeps t (kindOf 3)
+  unfolding kindOf place
+  start-kept host clock copy f e p =
       let h = hostOf t host in
       let o = front h in
       let to = openingTo (o .action) copy (holdersOf t h) in
-      let r = three (isHost creation host) (oneTo greatestClock clock) (isChunk creation copy) e in
+      let r = three _ _ _ e in
       let one = start-front h clock copy (holdersOf t h) (freePlaces (t .places)) (howMany to) p in
       let g = host-of t f host (r .0) in
       let now = stamp clock host in
@@ -251,17 +250,16 @@ module _ (t : Table) where
       sent-to-each-kept (withHost t host (started h now clock to))
       (host-kept t f host (started h now clock to) (r .0) (started-formed creation h clock host to g s (r .1) one ours)) to _ ours
       (λ c q. opening-formed creation (headed host c (o .block) now) (h .epoch) (o .action)
-      (header-of f host (r .0) one now s c q) (host-facts creation h g .epoch)))
+      (header-of f host (r .0) one now s c q) (host-facts creation h g .epoch))
 
   -- 6 finish
-  pub finish-kept : (host b c : ℕ) → Keeps t (finishRule t host b c)
-  unfolding finishRule
-  finish-kept host b c =
-      keeps t (finishRule t host b c) (λ f e p.
+  pub finish-kept : Keeps t (kindOf 6)
+  unfolding kindOf place
+  finish-kept host _ _ f e p =
       let h = hostOf t host in
       let o = front h in
       let to = closingTo (o .action) (holdersOf t h) in
-      let r = three (isHost creation host) (unused b) (unused c) e in
+      let r = three _ _ _ e in
       let has = finish-current h (freePlaces (t .places)) (howMany to) p in
       let now = h .attempt .timestamp in
       let g = host-of t f host (r .0) in
@@ -269,33 +267,32 @@ module _ (t : Table) where
       sent-to-each-kept (withHost t host (finished h)) (host-kept t f host (finished h) (r .0) (finished-formed creation h g)) to _
       (closing-of-store creation (o .action) (holdersOf t h) (holders-of f host (r .0) (a .one)))
       (λ c q. closing-formed creation (h .attempt .okay) (headed host c (o .block) now) (h .epoch)
-      (header-of f host (r .0) (a .one) now (a .timestamp) c q) (host-facts creation h g .epoch)))
+      (header-of f host (r .0) (a .one) now (a .timestamp) c q) (host-facts creation h g .epoch))
 
   -- an event of one host alone
-  alone-kept : (host b c : ℕ) (refusals : Host → List Row) (change : Host → Host)
+  alone-kept : (refusals : Host → List Row) (change : Host → Host)
       → (Formed t → (h : Host) → hostFormed creation h ≡ true → codeOf (refusals h) ≡ 0 → hostFormed creation (change h) ≡ true)
-      → Keeps t (hostRule t host b c refusals change)
-  alone-kept host b c refusals change g =
-      keeps t (hostRule t host b c refusals change) (λ f e p.
-      let r = three (isHost creation host) (unused b) (unused c) e in
-      host-kept t f host (change (hostOf t host)) (r .0) (g f (hostOf t host) (host-of t f host (r .0)) p))
+      → Keeps t (Operand.Host ∥ Operand.Unused ∥ Operand.Unused does (λ t host _ _. hostRule t host refusals change))
+  alone-kept refusals change g host _ _ f e p =
+      let r = three _ _ _ e in
+      host-kept t f host (change (hostOf t host)) (r .0) (g f (hostOf t host) (host-of t f host (r .0)) p)
 
   -- 7 timeout
-  pub timeout-kept : (host b c : ℕ) → Keeps t (timeoutRule t host b c)
-  unfolding timeoutRule
-  timeout-kept host b c =
-      alone-kept host b c timeoutRefusals timedOut (λ f h g p.
+  pub timeout-kept : Keeps t (kindOf 7)
+  unfolding kindOf place
+  timeout-kept =
+      alone-kept timeoutRefusals timedOut (λ f h g p.
       timed-out-formed creation h g (not-true (isEmpty (h .attempt .outstanding)) (timeout-outstanding h p)))
 
   -- 8 refresh
-  pub refresh-kept : (host b c : ℕ) → Keeps t (refreshRule t host b c)
-  unfolding refreshRule
-  refresh-kept host b c =
-      alone-kept host b c workingRefusals (λ h. refreshed h (t .epoch)) (λ f h g _.
+  pub refresh-kept : Keeps t (kindOf 8)
+  unfolding kindOf place
+  refresh-kept =
+      alone-kept workingRefusals (λ h. refreshed h (t .epoch)) (λ f h g _.
       let r = host-facts creation h g in
       host-formed creation (refreshed h (t .epoch)) (record { queue = r .queue; attempt = r .attempt; epoch = f .epoch; clock = r .clock }))
 
   -- 10 stop
-  pub stop-kept : (host b c : ℕ) → Keeps t (stopRule t host b c)
-  unfolding stopRule
-  stop-kept host b c = alone-kept host b c workingRefusals stopped (λ f h g _. g)
+  pub stop-kept : Keeps t (kindOf 10)
+  unfolding kindOf place
+  stop-kept = alone-kept workingRefusals stopped (λ f h g _. g)

@@ -9,25 +9,24 @@ use lib.ListN.{getD, set}
 use Rattle.rules.specs.Types.{Set, Creation, Record, Chunk, Host, Message, Slot, Place, Table}
 use Rattle.rules.specs.Codes.{codeOf}
 use Rattle.rules.specs.Creation.{ofStore}
-use Rattle.rules.specs.Events.{Rule}
-use Rattle.rules.specs.Formed.{hostFormed, chunkFormed, recordFormed, messageFormed, slotFormed, wellFormed}
+use Rattle.rules.specs.Events.{EventKind}
+use Rattle.rules.specs.Formed.{hostFormed, chunkFormed, recordFormed, messageFormed, slotFormed}
 use Rattle.rules.specs.Limits.{hostLimit, chunkLimit, blockLimit, placeLimit}
 use Rattle.rules.specs.Network.{isFree, removed, sent, chunksOf, sentToEach, replied}
+use Rattle.rules.specs.Operands.{allInRange}
 use Rattle.rules.specs.Tables.{isHost, isChunk, isBlock, at, recordOf, recordsBy, withHost, withChunk, withRecords, withRecord, withPlaces}
 use Rattle.rules.specs.Words.{each, place, numbers}
 use Rattle.rules.specs.Zero.{_among_, isZeroHost, isZeroChunk, isZeroRecord, zeroPlace, noHost, noChunk, noRecord}
 use Rattle.rules.proofs.Lists.{get-set, set-all, every-those, every-each, fold-keeps, grid-at}
-use Rattle.rules.proofs.Formed.{Formed, formed, well-formed, FormedPlaces}
+use Rattle.rules.proofs.Formed.{Formed, FormedPlaces}
 
--- ---- rules
+-- ---- events
 
--- a rule keeps well-formedness where it is granted
-abbrev pub Keeps : Table → Rule → Type 0
-Keeps t r = wellFormed t ≡ true → r .ranges ≡ true → codeOf (r .refusals) ≡ 0 → wellFormed (r .effect .table) ≡ true
-
--- the same by facts
-pub keeps : (t : Table) (r : Rule) → (Formed t → r .ranges ≡ true → codeOf (r .refusals) ≡ 0 → Formed (r .effect .table)) → Keeps t r
-keeps t r g h e c = well-formed (r .effect .table) (g (formed t h) e c)
+-- a kind of event keeps well-formedness where it is granted
+abbrev pub Keeps : Table → EventKind → Type 0
+Keeps t k =
+    (a b c : ℕ) → Formed t → allInRange (t .creation) (k .operands) a b c ≡ true → codeOf (k .rule t a b c .refusals) ≡ 0
+    → Formed (k .rule t a b c .effect .table)
 
 -- ---- what may stand at a place of the table: a formed part of the store's, or zero
 

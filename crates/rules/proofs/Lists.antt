@@ -8,10 +8,10 @@ use native.Mathlib.Nat.{suc-mul}
 use native.Mathlib.Decide.{decLe}
 use native.Mathlib.Omega.{arith}
 use lib.ListN.{length, getD, set, take, drop, replicate, length-take, List·getD-eq-default, List·getD-append, getD-replicate}
-use lib.Dec.{ltb}
+use lib.Dec.{eqb, ltb}
 use lib.Seq.{getD-append-add, getD-take, take-take, take-append-seam}
-use borrow.Author.Tests.{ltb-true, ltb-false, lt-ltb}
-use Rattle.rules.specs.Words.{those, each, joined, every, some, fold, from, numbers, filled}
+use borrow.Author.Tests.{ltb-true, ltb-false, lt-ltb, eqb-true, ne-eqb}
+use Rattle.rules.specs.Words.{Numbered, under, place, those, each, joined, every, some, fold, from, numbers, filled}
 
 -- ---- tests
 
@@ -63,6 +63,11 @@ module _ {A : Type 0} (p : A → Bool) where
   every-of [] d h = refl
   every-of (x ∷ xs) d h = rw (h 0 (omega arith), every-of xs d (λ i k. h (suc i) (omega arith))) refl
 
+  pub every-so : (q : A → Bool) → ((x : A) → q x ≡ true → p x ≡ true) → (l : List A) → every q l ≡ true → every p l ≡ true
+  unfolding every
+  every-so q f [] h = refl
+  every-so q f (x ∷ xs) h = let b = both (q x) (every q xs) h in and-true (p x) (every p xs) (f x (b .0)) (every-so q f xs (b .1))
+
   pub none-every : (l : List A) → not (some p l) ≡ every (λ x. not (p x)) l
   unfolding some every
   none-every [] = refl
@@ -80,6 +85,64 @@ module _ {A : Type 0} (p : A → Bool) where
       go : (b : Bool) → p x ≡ b → b || some p xs ≡ true → (some p xs ≡ true → (i : ℕ) × (i < length xs) × (p (getD xs i d) ≡ true)) → (i : ℕ) × (i < suc (length xs)) × (p (getD (x ∷ xs) i d) ≡ true)
       go true e h f = (0, omega arith, e)
       go false e h f = let r = f h in let k = r .1 in (suc (r .0), omega arith, r .2)
+
+-- ---- a table by numbers
+
+-- P of each of the list, one after the other
+infixr 5 _&_
+pub data All {A : Type 0} (P : A → Type 0) : List A → Type 0 where
+  end : All P []
+  _&_ : {x : A} {xs : List A} → P x → All P xs → All P (x ∷ xs)
+
+-- n is no number of the table, where the entries before it are told by X: so a `match` on n that names them all ends
+abbrev pub Others : {A : Type 0} → Type 0 → (n : ℕ) → List (Numbered A) → Type 0
+Others X n [] = X
+Others X n (x ∷ xs) = Others (X × (n ≡ x .number → ⊥)) n xs
+
+module _ {A : Type 0} (d : A) (n : ℕ) where
+  -- what holds of each entry under its number, and where there is none, holds of what stands under n
+  pub under-number : (P : A → Type 0) (l : List (Numbered A)) → All (λ (x : Numbered A). n ≡ x .number → P (x .entry)) l → P d → P (under d l n)
+  unfolding place
+  under-number P [] end p = p
+  under-number P (x ∷ xs) (h & a) p = go (eqb (x .number) n) refl (under-number P xs a p)
+    where
+      go : (b : Bool) → eqb (x .number) n ≡ b → P (under d xs n)
+          → P (getD (x ∷ xs) (cond b 0 (suc (place (λ (y : Numbered A). eqb (y .number) n) xs))) (record { number = n; entry = d }) .entry)
+      go true e _ = h (sym (eqb-true (x .number) n e))
+      go false e other = other
+
+  pub under-every : (p : A → Bool) (l : List (Numbered A)) → every (λ (x : Numbered A). p (x .entry)) l ≡ true → p d ≡ true → p (under d l n) ≡ true
+  unfolding every place
+  under-every p [] h k = k
+  under-every p (x ∷ xs) h k =
+      let b = both (p (x .entry)) (every (λ (x : Numbered A). p (x .entry)) xs) h in
+      go (eqb (x .number) n) (b .0) (under-every p xs (b .1) k)
+    where
+      go : (b : Bool) → p (x .entry) ≡ true → p (under d xs n) ≡ true
+          → p (getD (x ∷ xs) (cond b 0 (suc (place (λ (y : Numbered A). eqb (y .number) n) xs))) (record { number = n; entry = d }) .entry) ≡ true
+      go true here other = here
+      go false here other = other
+
+  -- nothing stands under a number beyond all of the table
+  pub under-beyond : (m : ℕ) (l : List (Numbered A)) → every (λ (x : Numbered A). ltb (x .number) m) l ≡ true → m ≤ n → under d l n ≡ d
+  unfolding every place
+  under-beyond m [] h k = refl
+  under-beyond m (x ∷ xs) h k =
+      let b = both (ltb (x .number) m) (every (λ (x : Numbered A). ltb (x .number) m) xs) h in
+      let l = ltb-true (x .number) m (b .0) in
+      rw (ne-eqb (x .number) n (λ e. omega arith), under, place) (under-beyond m xs (b .1) k)
+
+  others-first : (X : Type 0) (l : List (Numbered A)) → Others X n l → X
+  others-first X [] o = o
+  others-first X (x ∷ xs) o = others-first (X × (n ≡ x .number → ⊥)) xs o .0
+
+  -- nothing stands under another number
+  pub under-other : (X : Type 0) (l : List (Numbered A)) → Others X n l → under d l n ≡ d
+  unfolding place
+  under-other X [] o = refl
+  under-other X (x ∷ xs) o =
+      let here : n ≡ x .number → ⊥ = others-first (X × (n ≡ x .number → ⊥)) xs o .1 in
+      rw (ne-eqb (x .number) n (λ e. here (sym e)), under, place) (under-other (X × (n ≡ x .number → ⊥)) xs o)
 
 -- ---- the numbers below n
 
@@ -208,6 +271,15 @@ implies true b h = h refl
 implies false b h = refl
 
 -- ---- every, through the words that make lists
+
+pub those-short : {A : Type 0} (p : A → Bool) (l : List A) → length (those p l) ≤ length l
+unfolding those
+those-short p [] = omega arith
+those-short p (x ∷ xs) = go (p x) (those-short p xs)
+  where
+    go : (b : Bool) → length (those p xs) ≤ length xs → length (cond b (x ∷ those p xs) (those p xs)) ≤ suc (length xs)
+    go true h = omega arith
+    go false h = omega arith
 
 pub take-short : {A : Type 0} (n : ℕ) (l : List A) → length (take n l) ≤ n
 take-short n l = omega (arith, length-take n l)

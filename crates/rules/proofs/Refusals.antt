@@ -9,7 +9,7 @@ use lib.ListN.{length, getD}
 use Rattle.rules.specs.Codes.{Row, codeOf}
 use Rattle.rules.specs.Limits.{oneTo}
 use Rattle.rules.specs.Words.{every}
-use Rattle.rules.proofs.Lists.{every-at}
+use Rattle.rules.proofs.Lists.{both, walk, every-at}
 use Rattle.rules.proofs.Formed.{one-to}
 
 -- row i of a list; what lies beyond the last never holds
@@ -28,9 +28,9 @@ pub record First (rs : List Row) (k : ℕ) : Type 0 where
 abbrev pub Free : List Row → Type 0
 Free rs = (j : ℕ) → j < length rs → row rs j .holds ≡ false
 
--- "0 done" is no refusal: a row's code is 1 to 8
-abbrev pub coded : List Row → Bool
-coded rs = every (λ (r : Row). oneTo 8 (r .code)) rs
+-- "0 done" is no refusal: a row's code is 1 to n
+abbrev pub coded : (n : ℕ) → List Row → Bool
+coded n rs = every (λ (r : Row). oneTo n (r .code)) rs
 
 later-first : (r : Row) (rs : List Row) (k : ℕ) → r .holds ≡ false → First rs k → First (r ∷ rs) k
 later-first r rs k h f = record { at = suc (f .at); inside = let z = f .inside in omega arith; holds = f .holds; code = f .code; before = go }
@@ -64,7 +64,15 @@ first-code (r ∷ rs) k f = go (f .at) (f .inside) (f .holds) (f .code) (f .befo
     go zero l h c b f = rw h c
     go (suc i) l h c b f = rw (b 0 (omega arith)) (f (record { at = i; inside = omega arith; holds = h; code = c; before = λ j m. b (suc j) (omega arith) }))
 
-module _ (rs : List Row) (proper : coded rs ≡ true) where
+-- no row above n, no code above n
+pub code-most : (n : ℕ) (rs : List Row) → coded n rs ≡ true → codeOf rs ≤ n
+unfolding codeOf every
+code-most n [] h = omega arith
+code-most n (r ∷ rs) h =
+    let b = both (oneTo n (r .code)) (coded n rs) h in
+    walk (λ (m : ℕ). m ≤ n) (r .holds) (r .code) (codeOf rs) (λ _. one-to n (r .code) (b .0) .1) (λ _. code-most n rs (b .1))
+
+module _ (rs : List Row) (proper : coded 8 rs ≡ true) where
   -- a first row's code is 1 to 8
   pub first-range : (k : ℕ) → First rs k → (1 ≤ k) × (k ≤ 8)
   first-range k f =
@@ -98,10 +106,3 @@ module _ (rs : List Row) (proper : coded rs ≡ true) where
           go : First rs (codeOf rs) ⊎ ((codeOf rs ≡ 0) × Free rs) → codeOf rs ≡ 0
           go (inl f) = absurd (true≢false (sym (f .holds) ∙ free (f .at) (f .inside)))
           go (inr f) = f .0
-
-  pub code-range : codeOf rs ≤ 8
-  code-range = go (code-first rs)
-    where
-      go : First rs (codeOf rs) ⊎ ((codeOf rs ≡ 0) × Free rs) → codeOf rs ≤ 8
-      go (inl f) = first-range (codeOf rs) f .1
-      go (inr f) = let z = f .0 in omega arith

@@ -1,21 +1,23 @@
--- Document 01, "Events": for each event its operands' ranges, its refusals in their order, and its effect
+-- Document 01, "Events": for each event its refusals in their order, and its effect; the events by their numbers; the step
 use Prim.Native.Nat.{ℕ}
-use mathlib.Core.Bool.{Bool, true, false, not, _&&_}
-use mathlib.Core.List.{List}
+use mathlib.Core.Bool.{Bool, false, not, _&&_}
+use mathlib.Core.List.{List, []}
 use lib.ListN.{getD}
-use lib.Dec.{eqb, ltb}
-use Rattle.rules.specs.Types.{Set, State, Chunk, Action, Operation, Host, Header, Message, Slot, Table, Copy, Event, Outcome, Answer}
+use lib.Dec.{eqb}
+use Rattle.rules.specs.Types.{Set, Creation, State, Chunk, Action, Operation, Host, Header, Message, Slot, Table, Copy, Event, Operands, Outcome, Answer}
+use Rattle.rules.specs.declared.Operand.the-variants.{Unknown as unknown, Unused as unused, Host as aHost, Chunk as aChunk, Block as aBlock, Place as aPlace, Clock as aClock, Now as aTime, Value as aValue}
 use Rattle.rules.specs.Chunks.{atChunk, runRefusals, ran, failRefusals, failed, emptied, recoverRefusals, recovered, takeLeaseRefusals, leaseTaken, giveLeaseRefusals, leaseGiven, overdueRefusals, overdue}
 use Rattle.rules.specs.Codes.{Row, _gives_⨾_, granted, codeOf}
 use Rattle.rules.specs.Formed.{wellFormed}
 use Rattle.rules.specs.Hosts.{front, intakeRefusals, appended, startRefusals, openingTo, opening, started, atHost, finishRefusals, closingTo, closing, finishOutcome, finished, timeoutRefusals, timedOut, workingRefusals, refreshed, stopped}
 use Rattle.rules.specs.Kinds.{isNormal, isFailed, headerOf, isForChunk, headed}
-use Rattle.rules.specs.Limits.{chunkLimit, blockLimit, placeLimit, greatestClock, upTo, oneTo}
+use Rattle.rules.specs.Limits.{chunkLimit, blockLimit, greatestClock}
 use Rattle.rules.specs.Network.{freePlaces, removed, howMany, sentToEach, replied, placeRefusals}
+use Rattle.rules.specs.Operands.{_∥_∥_, allInRange}
 use Rattle.rules.specs.Settlement.{settled, allLost}
-use Rattle.rules.specs.Tables.{isHost, isChunk, isBlock, setOf, hostOf, chunkOf, recordOf, recordsBy, slotOf, withEpoch, withChunks, withRecords, withPlaces, withHost, withChunk, withRecord}
+use Rattle.rules.specs.Tables.{isChunk, isBlock, setOf, hostOf, chunkOf, recordOf, recordsBy, slotOf, withEpoch, withChunks, withRecords, withPlaces, withHost, withChunk, withRecord}
 use Rattle.rules.specs.Timestamps.{stamp, next}
-use Rattle.rules.specs.Words.{if_then_else_, each, some, numbers}
+use Rattle.rules.specs.Words.{if_then_else_, Numbered, _⇒_⨾_, under, each, some, numbers}
 use Rattle.rules.specs.Zero.{_among_, noBlocks, noCopy}
 
 -- what a granted event gives: the new table and the outcome
@@ -23,9 +25,8 @@ pub record Effect : Type 0 where
   pub table : Table
   pub outcome : Outcome
 
--- an event's rule: are its operands in their ranges, its own refusals, and what it does where nothing is refused
+-- an event's rule: its own refusals, and what it does where nothing is refused
 pub record Rule : Type 0 where
-  pub ranges : Bool
   pub refusals : List Row
   pub effect : Effect
 
@@ -39,30 +40,22 @@ done x = record { table = x .table; code = 0; outcome = x .outcome }
 abbrev pub refused : Table → (code : ℕ) → Answer
 refused t k = record { table = t; code = k; outcome = Outcome.None }
 
--- "unused operand not 0" is out of range
-abbrev pub unused : ℕ → Bool
-unused n = eqb n 0
-
-abbrev pub isPlace : ℕ → Bool
-isPlace p = ltb p placeLimit
-
 module _ (t : Table) where
   -- ---- hosts: intake
 
-  abbrev pub intakeRule : (host block : ℕ) → (inRange : Bool) → Operation → Rule
-  intakeRule host block inRange o = record {
-    ranges = isHost (t .creation) host && isBlock (t .creation) block && inRange;
+  abbrev pub intakeRule : (host : ℕ) → Operation → Rule
+  intakeRule host o = record {
     refusals = intakeRefusals (hostOf t host);
     effect = quietly (withHost t host (appended (hostOf t host) o));
   }
 
   -- "1 read (host, block)"
-  unfoldable pub readRule : (host block c : ℕ) → Rule
-  readRule host block c = intakeRule host block (unused c) (record { block = block; action = Action.Read })
+  abbrev pub readRule : (host block c : ℕ) → Rule
+  readRule host block _ = intakeRule host (record { block = block; action = Action.Read })
 
   -- "2 write (host, block, value)"
-  unfoldable pub writeRule : (host block value : ℕ) → Rule
-  writeRule host block value = intakeRule host block true (record { block = block; action = Action.Write value })
+  abbrev pub writeRule : (host block value : ℕ) → Rule
+  writeRule host block value = intakeRule host (record { block = block; action = Action.Write value })
 
   -- ---- hosts: start and finish
 
@@ -70,28 +63,26 @@ module _ (t : Table) where
   abbrev pub holdersOf : Host → Set
   holdersOf h = setOf (t .creation) (front h .block)
 
-  -- "3 start (host, clock from 1, copy)": "the copy is a chunk's number"
-  unfoldable pub startRule : (host clock copy : ℕ) → Rule
+  -- "3 start (host, clock from 1, copy)"
+  abbrev pub startRule : (host clock copy : ℕ) → Rule
   startRule host clock copy =
       let h = hostOf t host in
       let o = front h in
       let to = openingTo (o .action) copy (holdersOf h) in
       let now = stamp clock host in
       record {
-        ranges = isHost (t .creation) host && oneTo greatestClock clock && isChunk (t .creation) copy;
         refusals = startRefusals h clock copy (holdersOf h) (freePlaces (t .places)) (howMany to);
         effect = quietly (withPlaces (withHost t host (started h now clock to))
             (sentToEach (t .places) to (λ chunk. opening (headed host chunk (o .block) now) (h .epoch) (o .action))));
       }
 
   -- "6 finish (host)"
-  unfoldable pub finishRule : (host b c : ℕ) → Rule
-  finishRule host b c =
+  abbrev pub finishRule : (host b c : ℕ) → Rule
+  finishRule host _ _ =
       let h = hostOf t host in
       let o = front h in
       let to = closingTo (o .action) (holdersOf h) in
       record {
-        ranges = isHost (t .creation) host && unused b && unused c;
         refusals = finishRefusals h (freePlaces (t .places)) (howMany to);
         effect = record {
           table = withPlaces (withHost t host (finished h))
@@ -102,24 +93,23 @@ module _ (t : Table) where
 
   -- ---- hosts: the other events of one host
 
-  abbrev pub hostRule : (host b c : ℕ) → (Host → List Row) → (Host → Host) → Rule
-  hostRule host b c refusals change = record {
-    ranges = isHost (t .creation) host && unused b && unused c;
+  abbrev pub hostRule : (host : ℕ) → (Host → List Row) → (Host → Host) → Rule
+  hostRule host refusals change = record {
     refusals = refusals (hostOf t host);
     effect = quietly (withHost t host (change (hostOf t host)));
   }
 
   -- "7 timeout (host)"
-  unfoldable pub timeoutRule : (host b c : ℕ) → Rule
-  timeoutRule host b c = hostRule host b c timeoutRefusals timedOut
+  abbrev pub timeoutRule : (host b c : ℕ) → Rule
+  timeoutRule host _ _ = hostRule host timeoutRefusals timedOut
 
   -- "8 refresh (host)"
-  unfoldable pub refreshRule : (host b c : ℕ) → Rule
-  refreshRule host b c = hostRule host b c workingRefusals (λ h. refreshed h (t .epoch))
+  abbrev pub refreshRule : (host b c : ℕ) → Rule
+  refreshRule host _ _ = hostRule host workingRefusals (λ h. refreshed h (t .epoch))
 
   -- "10 stop (host)"
-  unfoldable pub stopRule : (host b c : ℕ) → Rule
-  stopRule host b c = hostRule host b c workingRefusals stopped
+  abbrev pub stopRule : (host b c : ℕ) → Rule
+  stopRule host _ _ = hostRule host workingRefusals stopped
 
   -- ---- the network
 
@@ -144,71 +134,62 @@ module _ (t : Table) where
   takes (Slot.Full m) = if isForChunk m then chunkTakes (headerOf m) m else hostTakes (headerOf m) m
 
 module _ (t : Table) where
-  abbrev pub placeRule : (place b c : ℕ) → Table → Rule
-  placeRule place b c after = record {
-    ranges = isPlace place && unused b && unused c;
+  abbrev pub placeRule : (place : ℕ) → Table → Rule
+  placeRule place after = record {
     refusals = placeRefusals (slotOf (t .places) place);
     effect = quietly after;
   }
 
   -- "4 deliver (place)"
-  unfoldable pub deliverRule : (place b c : ℕ) → Rule
-  deliverRule place b c = placeRule place b c (takes (withPlaces t (removed (t .places) place)) (slotOf (t .places) place))
+  abbrev pub deliverRule : (place b c : ℕ) → Rule
+  deliverRule place _ _ = placeRule place (takes (withPlaces t (removed (t .places) place)) (slotOf (t .places) place))
 
   -- "5 drop (place)"
-  unfoldable pub dropRule : (place b c : ℕ) → Rule
-  dropRule place b c = placeRule place b c (withPlaces t (removed (t .places) place))
+  abbrev pub dropRule : (place b c : ℕ) → Rule
+  dropRule place _ _ = placeRule place (withPlaces t (removed (t .places) place))
 
   -- ---- chunks
 
   -- "9 run (chunk, block)"
-  unfoldable pub runRule : (chunk block c : ℕ) → Rule
-  runRule chunk block c =
+  abbrev pub runRule : (chunk block c : ℕ) → Rule
+  runRule chunk block _ =
       let r = recordOf t chunk block in
       let a = ran chunk block r in
       record {
-        ranges = isChunk (t .creation) chunk && isBlock (t .creation) block && unused c;
         refusals = runRefusals (chunkOf t chunk .state) (r .waiting) (freePlaces (t .places));
         effect = quietly (withPlaces (withRecord t chunk block (a .block)) (replied (t .places) (a .reply)));
       }
 
-  abbrev pub chunkRule : (chunk b c : ℕ) → List Row → Table → Rule
-  chunkRule chunk b c refusals after = record {
-    ranges = isChunk (t .creation) chunk && unused b && unused c;
-    refusals = refusals;
-    effect = quietly after;
+  -- "11 fail (chunk)": "all its waiting entries .. go"
+  abbrev pub failRule : (chunk b c : ℕ) → Rule
+  failRule chunk _ _ = record {
+    refusals = failRefusals (chunkOf t chunk .state);
+    effect = quietly (withRecords (withChunk t chunk (failed (chunkOf t chunk)))
+        (recordsBy (λ c b. if eqb c chunk then emptied (recordOf t c b) else recordOf t c b)));
   }
 
-  -- "11 fail (chunk)": "all its waiting entries .. go"
-  unfoldable pub failRule : (chunk b c : ℕ) → Rule
-  failRule chunk b c =
-      chunkRule chunk b c (failRefusals (chunkOf t chunk .state))
-      (withRecords (withChunk t chunk (failed (chunkOf t chunk)))
-      (recordsBy (λ c b. if eqb c chunk then emptied (recordOf t c b) else recordOf t c b)))
+  abbrev pub chunkRule : (chunk : ℕ) → (Chunk → List Row) → (Chunk → Chunk) → Rule
+  chunkRule chunk refusals change = record {
+    refusals = refusals (chunkOf t chunk);
+    effect = quietly (withChunk t chunk (change (chunkOf t chunk)));
+  }
 
   -- "12 recover"
-  unfoldable pub recoverRule : (chunk b c : ℕ) → Rule
-  recoverRule chunk b c =
-      chunkRule chunk b c (recoverRefusals (chunkOf t chunk .state)) (withChunk t chunk (recovered (chunkOf t chunk)))
+  abbrev pub recoverRule : (chunk b c : ℕ) → Rule
+  recoverRule chunk _ _ = chunkRule chunk (λ c. recoverRefusals (c .state)) recovered
 
   -- "13 take lease"
-  unfoldable pub takeLeaseRule : (chunk b c : ℕ) → Rule
-  takeLeaseRule chunk b c =
-      chunkRule chunk b c (takeLeaseRefusals (chunkOf t chunk .state)) (withChunk t chunk (leaseTaken (chunkOf t chunk)))
+  abbrev pub takeLeaseRule : (chunk b c : ℕ) → Rule
+  takeLeaseRule chunk _ _ = chunkRule chunk (λ c. takeLeaseRefusals (c .state)) leaseTaken
 
   -- "14 give lease"
-  unfoldable pub giveLeaseRule : (chunk b c : ℕ) → Rule
-  giveLeaseRule chunk b c =
-      chunkRule chunk b c (giveLeaseRefusals (chunkOf t chunk .state) (chunkOf t chunk .lost))
-      (withChunk t chunk (leaseGiven (chunkOf t chunk)))
+  abbrev pub giveLeaseRule : (chunk b c : ℕ) → Rule
+  giveLeaseRule chunk _ _ = chunkRule chunk (λ c. giveLeaseRefusals (c .state) (c .lost)) leaseGiven
 
   -- "16 overdue (chunk, block, now 0 to 4,294,967,295)"
-  unfoldable pub overdueRule : (chunk block now : ℕ) → Rule
-  overdueRule chunk block now = record {
-    ranges = isChunk (t .creation) chunk && isBlock (t .creation) block && upTo greatestClock now;
-    refusals = overdueRefusals (chunkOf t chunk .state) (recordOf t chunk block .waiting) now (t .creation .age);
-    effect = quietly (withChunk t chunk (overdue (chunkOf t chunk) block));
-  }
+  abbrev pub overdueRule : (chunk block now : ℕ) → Rule
+  overdueRule chunk block now =
+      chunkRule chunk (λ c. overdueRefusals (c .state) (recordOf t chunk block .waiting) now (t .creation .age)) (λ c. overdue c block)
 
   -- ---- the epoch change
 
@@ -240,51 +221,63 @@ module _ (t : Table) where
       some (λ b. isBlock (t .creation) b && allLost (copiesOf b)) (numbers blockLimit) gives 6 ⨾
       granted
 
-  unfoldable pub epochRule : (a b c : ℕ) → Rule
-  epochRule a b c = record {
-    ranges = unused a && unused b && unused c;
-    refusals = epochRefusals;
-    effect = quietly epochChanged;
-  }
+  abbrev pub epochRule : (a b c : ℕ) → Rule
+  epochRule _ _ _ = record { refusals = epochRefusals; effect = quietly epochChanged }
 
-  -- ---- the rule of each event; "unknown kind" is out of range
+-- ---- the events by their numbers
 
-  abbrev pub unknownRule : Rule
-  unknownRule = record { ranges = false; refusals = granted; effect = quietly t }
+-- a kind of event: what its operands are, and its rule
+pub record EventKind : Type 0 where
+  pub operands : Operands
+  pub rule : Table → (a b c : ℕ) → Rule
 
-  unfoldable pub ruleOf : Event → Rule
-  ruleOf e =
-      let k = e .kind in
-      let a = e .a in
-      let b = e .b in
-      let c = e .c in
-      if eqb k 1 then readRule t a b c else
-      if eqb k 2 then writeRule t a b c else
-      if eqb k 3 then startRule t a b c else
-      if eqb k 4 then deliverRule a b c else
-      if eqb k 5 then dropRule a b c else
-      if eqb k 6 then finishRule t a b c else
-      if eqb k 7 then timeoutRule t a b c else
-      if eqb k 8 then refreshRule t a b c else
-      if eqb k 9 then runRule a b c else
-      if eqb k 10 then stopRule t a b c else
-      if eqb k 11 then failRule a b c else
-      if eqb k 12 then recoverRule a b c else
-      if eqb k 13 then takeLeaseRule a b c else
-      if eqb k 14 then giveLeaseRule a b c else
-      if eqb k 15 then epochRule a b c else
-      if eqb k 16 then overdueRule a b c else
-      unknownRule
+infix 6 _does_
+abbrev pub _does_ : Operands → (Table → (a b c : ℕ) → Rule) → EventKind
+operands does rule = record { operands = operands; rule = rule }
 
-  -- "Code 8 is looked for first, then ranges (1), then the order in each event"
-  unfoldable pub rows : Rule → List Row
-  rows r =
-      not (wellFormed t) gives 8 ⨾
-      not (r .ranges) gives 1 ⨾
-      r .refusals
+abbrev pub eventKinds : List (Numbered EventKind)
+eventKinds =
+    1 ⇒ aHost ∥ aBlock ∥ unused does readRule ⨾  -- "read (host, block)"
+    2 ⇒ aHost ∥ aBlock ∥ aValue does writeRule ⨾  -- "write (host, block, value)"
+    3 ⇒ aHost ∥ aClock ∥ aChunk does startRule ⨾  -- "start (host, clock from 1, copy)": "the copy is a chunk's number"
+    4 ⇒ aPlace ∥ unused ∥ unused does deliverRule ⨾  -- "deliver (place)"
+    5 ⇒ aPlace ∥ unused ∥ unused does dropRule ⨾  -- "drop (place)"
+    6 ⇒ aHost ∥ unused ∥ unused does finishRule ⨾  -- "finish (host)"
+    7 ⇒ aHost ∥ unused ∥ unused does timeoutRule ⨾  -- "timeout (host)"
+    8 ⇒ aHost ∥ unused ∥ unused does refreshRule ⨾  -- "refresh (host)"
+    9 ⇒ aChunk ∥ aBlock ∥ unused does runRule ⨾  -- "run (chunk, block)"
+    10 ⇒ aHost ∥ unused ∥ unused does stopRule ⨾  -- "stop (host)"
+    11 ⇒ aChunk ∥ unused ∥ unused does failRule ⨾  -- "fail (chunk)"
+    12 ⇒ aChunk ∥ unused ∥ unused does recoverRule ⨾  -- "recover"
+    13 ⇒ aChunk ∥ unused ∥ unused does takeLeaseRule ⨾  -- "take lease"
+    14 ⇒ aChunk ∥ unused ∥ unused does giveLeaseRule ⨾  -- "give lease"
+    15 ⇒ unused ∥ unused ∥ unused does epochRule ⨾  -- "epoch change"
+    16 ⇒ aChunk ∥ aBlock ∥ aTime does overdueRule ⨾  -- "overdue (chunk, block, now 0 to 4,294,967,295)"
+    []
 
-  unfoldable pub answered : Rule → Answer
-  answered r = if eqb (codeOf (rows r)) 0 then done (r .effect) else refused t (codeOf (rows r))
+-- no number is in range for an "unknown kind"
+abbrev pub unknownKind : EventKind
+unknownKind = unknown ∥ unknown ∥ unknown does (λ t _ _ _. record { refusals = granted; effect = quietly t })
 
-  unfoldable pub step : Event → Answer
-  step e = answered (ruleOf e)
+unfoldable pub kindOf : (number : ℕ) → EventKind
+kindOf = under unknownKind eventKinds
+
+unfoldable pub ranges : Creation → Event → Bool
+ranges k e = allInRange k (kindOf (e .kind) .operands) (e .a) (e .b) (e .c)
+
+unfoldable pub ruleOf : Table → Event → Rule
+ruleOf t e = kindOf (e .kind) .rule t (e .a) (e .b) (e .c)
+
+-- ---- the step
+
+-- "Code 8 is looked for first, then ranges (1), then the order in each event"
+unfoldable pub rows : Table → Event → List Row
+rows t e =
+    not (wellFormed t) gives 8 ⨾
+    not (ranges (t .creation) e) gives 1 ⨾
+    ruleOf t e .refusals
+
+unfoldable pub step : Table → Event → Answer
+step t e =
+    let code = codeOf (rows t e) in
+    if eqb code 0 then done (ruleOf t e .effect) else refused t code

@@ -13,5 +13,6 @@ pub mod Formed
 pub mod Chunks
 pub mod Hosts
 pub mod Settlement
+pub mod Operands
 pub mod Events
 pub mod Runs

@@ -23,5 +23,7 @@ pub use Rattle.rules.specs.declared.Created.{Created}
 pub use Rattle.rules.specs.declared.Arrived.{Arrived}
 pub use Rattle.rules.specs.declared.Copy.{Copy}
 pub use Rattle.rules.specs.declared.Event.{Event}
+pub use Rattle.rules.specs.declared.Operand.{Operand}
+pub use Rattle.rules.specs.declared.Operands.{Operands}
 pub use Rattle.rules.specs.declared.Outcome.{Outcome}
 pub use Rattle.rules.specs.declared.Answer.{Answer}

@@ -3,6 +3,7 @@ use Prim.Native.Nat.{ℕ, zero, suc}
 use mathlib.Core.Bool.{Bool, true, false, cond, _&&_, _||_, not}
 use mathlib.Core.List.{List, [], _∷_, _++_}
 use lib.ListN.{getD, take, replicate}
+use lib.Dec.{eqb}
 
 infixr 5 if_then_else_
 abbrev pub if_then_else_ : {A : Type 0} → Bool → A → A → A
@@ -45,6 +46,19 @@ place p (x ∷ xs) = if p x then 0 else suc (place p xs)
 -- the first that is p; d where there is none
 abbrev pub first : {A : Type 0} → A → (A → Bool) → List A → A
 first d p l = getD l (place p l) d
+
+-- a table by numbers: what stands under each
+pub record Numbered (A : Type 0) : Type 0 where
+  pub number : ℕ
+  pub entry : A
+
+infixr 5 _⇒_⨾_
+abbrev pub _⇒_⨾_ : {A : Type 0} → ℕ → A → List (Numbered A) → List (Numbered A)
+n ⇒ x ⨾ rest = record { number = n; entry = x } ∷ rest
+
+-- what stands under the number; d where nothing does
+abbrev pub under : {A : Type 0} → A → List (Numbered A) → (number : ℕ) → A
+under d l n = first (record { number = n; entry = d }) (λ x. eqb (x .number) n) l .entry
 
 -- the elements taken into s one after another
 unfoldable pub fold : {S A : Type 0} → (S → A → S) → S → List A → S

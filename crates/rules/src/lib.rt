@@ -213,6 +213,22 @@ pub struct Event {
     pub c: u64,
 }
 
+// What an operand is: the number of a host, a chunk, a block or a place, a clock, a time, a value; unused; of an unknown kind.
+pub enum Operand {
+    Unknown,
+    Unused,
+    Host,
+    Chunk,
+    Block,
+    Place,
+    Clock,
+    Now,
+    Value,
+}
+
+// What the three operands of a kind are.
+pub struct Operands(pub Operand, pub Operand, pub Operand);
+
 pub enum Outcome {
     None,
     ReadDone { host: u64, block: u64, value: u64 },

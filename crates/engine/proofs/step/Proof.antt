@@ -5,10 +5,11 @@ use mathlib.Core.Bool.{true}
 use native.Mathlib.Omega.{arith}
 use borrow.Author.Tests.{not-true, not-false}
 use borrow.Author.Needs.{needs}
-use Rattle.rules.specs.Events.{ruleOf}
+use Rattle.rules.specs.Events.{ranges}
 use Rattle.rules.specs.Formed.{wellFormed}
 use Rattle.rules.specs.Limits.{hostLimit, chunkLimit, blockLimit}
-use Rattle.engine.proofs.PartLaws.{ranges-are, not-formed, outside, Acts, acts, parts-inside, touch-refused, touch-granted}
+use Rattle.rules.proofs.Events.{ill-formed, out-of-range}
+use Rattle.engine.proofs.PartLaws.{Acts, acts, parts-inside, touch-refused, touch-granted}
 use Rattle.engine.proofs.step.Statement.{statement}
 use Rattle.engine.proofs.step.Tie as tie
 
@@ -17,10 +18,10 @@ formed : (c : tie.Else1) → wellFormed (c .before .before .args .t1) ≡ true
 formed c = sym (c .before .well-formed .ensures) ∙ not-false _ (c .if1 .left)
 
 -- .. and past the second the operands are in range
-inside : (c : tie.Else2) → let s = c .before .before .before .before .before in ruleOf (s .args .t1) (s .args .e) .ranges ≡ true
+inside : (c : tie.Else2) → let s = c .before .before .before .before .before in ranges (s .args .t1 .creation) (s .args .e) ≡ true
 inside c =
     let s = c .before .before .before .before .before in
-    sym (c .before .in-range .ensures ∙ ranges-are (s .args .t1) (s .args .e)) ∙ not-false _ (c .if2 .left)
+    sym (c .before .in-range .ensures) ∙ not-false _ (c .if2 .left)
 
 well-formed-requires : tie.Need-well-formed-requires
 well-formed-requires c κs = search needs
@@ -31,7 +32,7 @@ refuse-requires c κs = search needs
 returns : tie.Need-returns
 returns c =
     let s = c .before .before .before in
-    c .refuse .ensures ∙ not-formed (s .args .t1) (s .args .e) (sym (c .before .before .well-formed .ensures) ∙ not-true _ (c .before .if1 .taken))
+    c .refuse .ensures ∙ ill-formed (s .args .t1) (s .args .e) (sym (c .before .before .well-formed .ensures) ∙ not-true _ (c .before .if1 .taken))
 
 in-range-requires : tie.Need-in-range-requires
 in-range-requires c κs = search needs
@@ -44,7 +45,7 @@ returns-2 c =
     let r = c .before .before in
     let s = r .before .before .before .before in
     c .refuse2 .ensures
-    ∙ outside (s .args .t1) (s .args .e) (formed (r .before .before)) (sym (r .in-range .ensures ∙ ranges-are (s .args .t1) (s .args .e)) ∙ not-true _ (c .before .if2 .taken))
+    ∙ out-of-range (s .args .t1) (s .args .e) (formed (r .before .before)) (sym (r .in-range .ensures) ∙ not-true _ (c .before .if2 .taken))
 
 fail-requires : tie.Need-fail-requires
 fail-requires c κs = (formed (c .before .before .before .before), inside (c .before), c .if3 .taken)
@@ -59,19 +60,20 @@ returns-4 : tie.Need-returns-4
 returns-4 c = c .change-epoch .ensures
 
 touch-requires : tie.Need-touch-requires
-touch-requires c κs = (formed (c .before .before .before .before .before), inside (c .before .before), c .before .if3 .left, c .if4 .left)
+touch-requires c κs = (formed (c .before .before .before .before .before), inside (c .before .before))
 
--- the parts that the event touches are places of the arrays
+-- what it leaves of the parts is the rule's
 facts : (c : tie.Else4) → let s = c .before .before .before .before .before .before .before in Acts (s .args .t1) (s .args .e)
 facts c =
     let s = c .before .before .before .before .before .before .before in
     acts (s .args .t1) (s .args .e) (formed (c .before .before .before .before .before)) (inside (c .before .before)) (c .before .if3 .left) (c .if4 .left)
 
+-- the parts that it touches are places of the arrays
 below : (c : tie.After-touch) → (c .touch .result .host < hostLimit) × (c .touch .result .chunk < chunkLimit) × (c .touch .result .block < blockLimit)
 below c =
     let k = c .before in
     let s = k .before .before .before .before .before .before .before in
-    parts-inside (s .args .t1) (s .args .e) (formed (k .before .before .before .before .before)) (inside (k .before .before)) (facts k) _ (c .touch .ensures)
+    parts-inside (s .args .t1) (s .args .e) (formed (k .before .before .before .before .before)) (inside (k .before .before)) _ (c .touch .ensures)
 
 refuse-requires-3 : tie.Need-refuse-requires-3
 refuse-requires-3 c κs = search needs
@@ -82,7 +84,7 @@ returns-5 c =
     let k = d .before in
     let s = k .before .before .before .before .before .before .before in
     c .refuse3 .ensures
-    ∙ touch-refused (s .args .t1) (s .args .e) (formed (k .before .before .before .before .before)) (inside (k .before .before)) (facts k) _ (d .touch .ensures) (c .before .if5 .taken)
+    ∙ touch-refused (s .args .t1) (s .args .e) (formed (k .before .before .before .before .before)) (inside (k .before .before)) _ (d .touch .ensures) (facts k) (c .before .if5 .taken)
 
 mul-host : tie.Need-mul-host
 mul-host c = let k = below (c .before .before .before .before .before .before .before) in search needs
@@ -117,7 +119,7 @@ returns-6 c =
     let k = d .before in
     let s = k .before .before .before .before .before .before .before in
     c .grant .ensures
-    ∙ touch-granted (s .args .t1) (s .args .e) (formed (k .before .before .before .before .before)) (inside (k .before .before)) (facts k) _ (d .touch .ensures)
+    ∙ touch-granted (s .args .t1) (s .args .e) (formed (k .before .before .before .before .before)) (inside (k .before .before)) _ (d .touch .ensures) (facts k)
     (c .before .before .before .before .before .if5 .left)
 
 pub step-spec : {M : Type 1} → statement M

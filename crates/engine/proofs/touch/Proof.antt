@@ -3,24 +3,21 @@ use Prim.Native.Nat.{_<_}
 use native.Mathlib.Omega.{arith}
 use borrow.Author.Needs.{needs}
 use Rattle.rules.specs.Limits.{hostLimit, chunkLimit, blockLimit, placeLimit}
-use Rattle.engine.proofs.PartLaws.{Acts, acts, place-inside, host-inside, chunk-inside, block-inside, touched-is}
+use Rattle.engine.proofs.PartLaws.{place-inside, host-inside, chunk-inside, block-inside, touched-is}
 use Rattle.engine.proofs.touch.Statement.{statement}
 use Rattle.engine.proofs.touch.Tie as tie
 
 -- its parts are places of the arrays
-facts : (s : tie.Start) → Acts (s .args .t1) (s .args .e)
-facts s = acts (s .args .t1) (s .args .e) (s .pre .0) (s .pre .1) (s .pre .2) (s .pre .3)
-
 place-below : (c : tie.After-place-at) → c .place-at .result < placeLimit
-place-below c = let s = c .before .before .before .before in place-inside (s .args .t1) (s .args .e) (s .pre .0) (s .pre .1) (facts s) _ (c .place-at .ensures)
+place-below c = let s = c .before .before .before .before in place-inside (s .args .t1) (s .args .e) (s .pre .0) (s .pre .1) _ (c .place-at .ensures)
 
 -- the host and the chunk
 parties : (c : tie.After-chunk-at) → (c .before .host-at .result < hostLimit) × (c .chunk-at .result < chunkLimit)
 parties c =
     let p = c .before .before .before in
     let s = p .before .before .before .before in (
-      host-inside (s .args .t1) (s .args .e) (s .pre .0) (s .pre .1) (facts s) _ (p .place-at .ensures) _ _ (c .before .host-at .ensures) (c .chunk-at .ensures),
-      chunk-inside (s .args .t1) (s .args .e) (s .pre .0) (s .pre .1) (facts s) _ (p .place-at .ensures) _ _ (c .before .host-at .ensures) (c .chunk-at .ensures),
+      host-inside (s .args .t1) (s .args .e) (s .pre .0) (s .pre .1) _ (p .place-at .ensures) _ _ (c .before .host-at .ensures) (c .chunk-at .ensures),
+      chunk-inside (s .args .t1) (s .args .e) (s .pre .0) (s .pre .1) _ (p .place-at .ensures) _ _ (c .before .host-at .ensures) (c .chunk-at .ensures),
     )
 
 -- .. and the block
@@ -29,7 +26,7 @@ block-below c =
     let k = c .before .before in
     let p = k .before .before .before in
     let s = p .before .before .before .before in
-    block-inside (s .args .t1) (s .args .e) (s .pre .0) (s .pre .1) (facts s) _ (p .place-at .ensures) _ _ (k .before .host-at .ensures) (k .chunk-at .ensures) _ (c .block-at .ensures)
+    block-inside (s .args .t1) (s .args .e) (s .pre .0) (s .pre .1) _ (p .place-at .ensures) _ _ (k .before .host-at .ensures) (k .chunk-at .ensures) _ (c .block-at .ensures)
 
 place-at-requires : tie.Need-place-at-requires
 place-at-requires c κs = search needs
@@ -88,7 +85,7 @@ returns c =
     let k = b .before .before in
     let p = k .before .before .before in
     let s = p .before .before .before .before in
-    touched-is (s .args .t1) (s .args .e) (s .pre .0) (s .pre .1) (facts s) _ (p .place-at .ensures) _ _ (k .before .host-at .ensures) (k .chunk-at .ensures) _ (b .block-at .ensures)
+    touched-is (s .args .t1) (s .args .e) (s .pre .0) (s .pre .1) _ (p .place-at .ensures) _ _ (k .before .host-at .ensures) (k .chunk-at .ensures) _ (b .block-at .ensures)
     _ (c .act .ensures)
 
 pub touch-spec : {M : Type 1} → statement M

@@ -7,6 +7,9 @@ use Rattle.parts.proofs.deliver.Tie as tie
 enum-told : tie.Need-enum-told
 enum-told c = search needs
 
+drop-requires : tie.Need-drop-requires
+drop-requires c κs = search needs
+
 enum-known-s : tie.Need-enum-known-s
 enum-known-s c = search needs
 
@@ -20,7 +23,7 @@ at-host-requires : tie.Need-at-host-requires
 at-host-requires c κs = search needs
 
 returns : tie.Need-returns
-returns c = rw (c .enum-told .given .1) refl
+returns c = rw (c .before .enum-told .given .1) (c .drop .ensures)
 
 returns-2 : tie.Need-returns-2
 returns-2 c = rw (c .before .before .before .before .before .s .given .1, sym (c .before .before .before .is-for-chunk .ensures) ∙ c .before .before .if1 .taken, c .before .arrive .ensures) refl
@@ -33,6 +36,7 @@ deliver-spec =
     tie.close
     (tie.spec
     enum-told
+    drop-requires
     enum-known-s
     is-for-chunk-requires
     arrive-requires
