@@ -10,7 +10,7 @@ use Rattle.rules.specs.declared.Outcome.{Outcome}
 use Rattle.rules.specs.declared.Place.{Place}
 use Rattle.rules.specs.Codes.{Row, codeOf}
 use Rattle.rules.specs.Hosts.{front, startRefusals, openingTo, opening, finishRefusals, closingTo, closing, finishOutcome, finished}
-use Rattle.rules.specs.Kinds.{headed}
+use Rattle.rules.specs.Messages.{headed, asking}
 use Rattle.rules.specs.Network.{freePlaces, howMany, sentToEach}
 use Rattle.attempts.specs.declared.Sent.{Sent}
 use Rattle.attempts.specs.Moves.{begun, sentOr, starts, finishes}
@@ -37,7 +37,7 @@ module _ (number clock copy : ℕ) (holders : Set) (h : Host) (places : List Pla
 
   pub start-granted : code ≡ 0 → (new : Host) (after : List Place)
       → new ≡ begun number clock h to
-      → after ≡ sentToEach places to (λ chunk. opening (headed number chunk (o .block) (new .attempt .timestamp)) (h .epoch) (o .action))
+      → after ≡ sentToEach places to (λ chunk. asking (headed number chunk (o .block) (new .attempt .timestamp)) (h .epoch) (opening (o .action)))
       → _≡_ {A = Sent} (record { code = 0; host = new; places = after; outcome = Outcome.None }) (starts number clock copy holders h places)
   unfolding starts
   start-granted k new after new-is after-is = rw (after-is, new-is, to-is, o-is) (sends _ _ _ _ _ _ code start-code k)
@@ -55,7 +55,7 @@ module _ (number : ℕ) (holders : Set) (h : Host) (places : List Place) (o : Op
 
   pub finish-granted : code ≡ 0 → (new : Host) (after : List Place) (x : Outcome)
       → new ≡ finished h
-      → after ≡ sentToEach places to (λ chunk. closing (h .attempt .okay) (headed number chunk (o .block) (h .attempt .timestamp)) (h .epoch))
+      → after ≡ sentToEach places to (λ chunk. asking (headed number chunk (o .block) (h .attempt .timestamp)) (h .epoch) (closing (h .attempt .okay)))
       → x ≡ finishOutcome number h
       → _≡_ {A = Sent} (record { code = 0; host = new; places = after; outcome = x }) (finishes number holders h places)
   unfolding finishes

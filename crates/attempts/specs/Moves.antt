@@ -8,7 +8,7 @@ use Rattle.rules.specs.declared.Outcome.{Outcome}
 use Rattle.rules.specs.declared.Place.{Place}
 use Rattle.rules.specs.Codes.{Row, codeOf}
 use Rattle.rules.specs.Hosts.{front, startRefusals, openingTo, opening, started, finishRefusals, closingTo, closing, finishOutcome, finished}
-use Rattle.rules.specs.Kinds.{headed}
+use Rattle.rules.specs.Messages.{headed, asking}
 use Rattle.rules.specs.Network.{freePlaces, howMany, sentToEach}
 use Rattle.rules.specs.Words.{if_then_else_}
 use Rattle.keeper.specs.Keeper.{drawn}
@@ -36,7 +36,7 @@ starts number clock copy holders h places =
     let to = openingTo (o .action) copy holders in
     let new = begun number clock h to in
     sentOr (startRefusals h clock copy holders (freePlaces places) (howMany to)) h new
-    places (sentToEach places to (λ chunk. opening (headed number chunk (o .block) (new .attempt .timestamp)) (h .epoch) (o .action))) Outcome.None
+    places (sentToEach places to (λ chunk. asking (headed number chunk (o .block) (new .attempt .timestamp)) (h .epoch) (opening (o .action)))) Outcome.None
 
 -- "6 finish (host)"
 unfoldable pub finishes : (number : ℕ) → Set → Host → List Place → Sent
@@ -44,4 +44,4 @@ finishes number holders h places =
     let o = front h in
     let to = closingTo (o .action) holders in
     sentOr (finishRefusals h (freePlaces places) (howMany to)) h (finished h)
-    places (sentToEach places to (λ chunk. closing (h .attempt .okay) (headed number chunk (o .block) (h .attempt .timestamp)) (h .epoch))) (finishOutcome number h)
+    places (sentToEach places to (λ chunk. asking (headed number chunk (o .block) (h .attempt .timestamp)) (h .epoch) (closing (h .attempt .okay)))) (finishOutcome number h)
