@@ -18,13 +18,13 @@ use Rattle.rules.specs.declared.Place.{Place}
 use Rattle.rules.specs.declared.Table.{Table}
 use Rattle.rules.specs.declared.Event.{Event}
 use Rattle.rules.specs.declared.Operand.{Operand}
-use Rattle.rules.specs.Chunks.{silent, atChunk}
+use Rattle.rules.specs.Chunks.{arrives}
 use Rattle.rules.specs.Codes.{Row, codeOf}
-use Rattle.rules.specs.Events.{EventKind, quietly, done, refused, chunkTakes, hostTakes, takes, startRule, finishRule, kindOf, ranges, ruleOf, step}
+use Rattle.rules.specs.Events.{EventKind, quietly, done, refused, chunkTakes, hostTakes, takes, finishRule, kindOf, ranges, ruleOf, step}
 use Rattle.rules.specs.Formed.{slotFormed, wellFormed}
-use Rattle.rules.specs.Hosts.{front, atHost}
-use Rattle.rules.specs.Kinds.{isNormal, headerOf, isForChunk}
+use Rattle.rules.specs.Hosts.{front, hears}
 use Rattle.rules.specs.Limits.{hostLimit, chunkLimit, blockLimit, placeLimit, greatestClock, oneTo}
+use Rattle.rules.specs.Messages.{headerOf, sortOf, isForChunk}
 use Rattle.rules.specs.Network.{removed, replied, placeRefusals}
 use Rattle.rules.specs.Operands.{allInRange}
 use Rattle.rules.specs.Tables.{isHost, isChunk, setOf, hostOf, chunkOf, at, recordOf, slotOf, withHost, withChunk, withRecord, withPlaces}
@@ -151,24 +151,11 @@ module _ (t : Table) where
       chunk-took : let a = arrives (k .blocks) (chunkOf t (to .chunk)) old m in
           withPlaces (withRecord (withChunk (withHost t (to .host) (hostOf t (to .host))) (to .chunk) (chunkOf t (to .chunk))) (to .chunk) (to .block) (a .block)) (replied left (a .reply))
           ≡ chunkTakes (withPlaces t left) to m
-      unfolding replied
-      chunk-took = go (isNormal (chunkOf t (to .chunk) .state))
-        where
-          go : (n : Bool) → let a = atChunk (k .blocks) (chunkOf t (to .chunk) .epoch) old m in let r = cond n a (silent old) in
-              withPlaces (withRecord (withChunk (withHost t (to .host) (hostOf t (to .host))) (to .chunk) (chunkOf t (to .chunk))) (to .chunk) (to .block) (r .block)) (replied left (r .reply))
-              ≡ cond n (withPlaces (withRecord (withPlaces t left) (to .chunk) (to .block) (a .block)) (replied left (a .reply))) (withPlaces t left)
-          go true = record-alone t (to .host) (to .chunk) (to .block) _ _
-          go false = places-alone t (to .host) (to .chunk) (to .block) left
+      chunk-took = record-alone t (to .host) (to .chunk) (to .block) _ _
 
       host-took : withPlaces (withRecord (withChunk (withHost t (to .host) (hears (hostOf t (to .host)) m)) (to .chunk) (chunkOf t (to .chunk))) (to .chunk) (to .block) old) left
           ≡ hostTakes (withPlaces t left) to m
-      host-took = go (hostOf t (to .host) .working)
-        where
-          go : (w : Bool) → let h = hostOf t (to .host) in
-              withPlaces (withRecord (withChunk (withHost t (to .host) (cond w (atHost h m) h)) (to .chunk) (chunkOf t (to .chunk))) (to .chunk) (to .block) old) left
-              ≡ cond w (withHost (withPlaces t left) (to .host) (atHost h m)) (withPlaces t left)
-          go true = host-alone t (to .host) (to .chunk) (to .block) _ left
-          go false = places-alone t (to .host) (to .chunk) (to .block) left
+      host-took = host-alone t (to .host) (to .chunk) (to .block) _ left
 
     taken-is : (s : Slot) → let to = addressOf s in
         let d = delivered (k .blocks) (hostOf t (to .host)) (chunkOf t (to .chunk)) (recordOf t (to .chunk) (to .block)) s in
@@ -176,7 +163,7 @@ module _ (t : Table) where
         ≡ takes (withPlaces t left) s
     unfolding replied
     taken-is Slot.Empty = places-alone t 0 0 0 left
-    taken-is (Slot.Full m) = go (isForChunk m)
+    taken-is (Slot.Full m) = go (isForChunk (sortOf m))
       where
         go : (f : Bool) → let to = headerOf m in
             let d = cond f (toChunk (k .blocks) (hostOf t (to .host)) (chunkOf t (to .chunk)) (recordOf t (to .chunk) (to .block)) m)

@@ -10,8 +10,8 @@ use Rattle.rules.specs.declared.Operand.{Operand}
 use Rattle.rules.specs.declared.Operands.{Operands}
 use Rattle.rules.specs.Events.{kindOf}
 use Rattle.rules.specs.Hosts.{front}
-use Rattle.rules.specs.Kinds.{headerOf, headed}
 use Rattle.rules.specs.Timestamps.{never}
+use Rattle.rules.specs.Messages.{headerOf, headed}
 use Rattle.rules.specs.Words.{if_then_else_}
 
 -- ---- the sorts of operands, told apart by a number each
