@@ -1,14 +1,15 @@
 // An attempt of a host's front operation: it starts with a timestamp that the clock keeper drew, and it finishes.
 ghost use mathlib.Core.Path.{_≡_};
-ghost use mathlib.Core.Bool.{_&&_, not};
-ghost use lib.Dec.{ltb};
+ghost use mathlib.Core.Bool.{_&&_, _||_, not};
+ghost use lib.Dec.{eqb, ltb};
 ghost use Rattle.rules.specs.Codes.{codeOf};
-ghost use Rattle.rules.specs.Hosts.{front, hasCurrent, only, startRefusals, openingTo};
+ghost use Rattle.rules.specs.Hosts.{hasCurrent, only, openingTo, started};
 ghost use Rattle.rules.specs.Hosts.{finishRefusals, closingTo, doneAs, failedAs, finishOutcome, finished};
 ghost use Rattle.rules.specs.Kinds.{isReading};
 ghost use Rattle.rules.specs.Network.{freePlaces, howMany};
 ghost use Rattle.rules.specs.Zero.{_among_};
-ghost use Rattle.attempts.specs.Moves.{begun, starts, finishes};
+ghost use Rattle.attempts.specs.Moves.{refused, starts, finishes};
+use keeper::Drawn;
 use keeper::Keeper;
 use rules::Action;
 use rules::Attempt;
@@ -40,7 +41,26 @@ fn lacks_room(places: [Place; rules::PLACES], to: Set) -> bool
     network::free_places(places) < sets::how_many(to)
 }
 
+// "same table, zeros".
+fn refuse(code: u64, h: Host, places: [Place; rules::PLACES]) -> Sent
+    ensures { λ r. ⌜ r ≡ refused code h places ⌝ }
+{
+    Sent {
+        code: code,
+        host: h,
+        places: places,
+        outcome: Outcome::None,
+    }
+}
+
 // ---- start
+
+// "Needs working, no current operation, one waiting, map current": the host lacks one of these.
+fn unready(h: Host) -> bool
+    ensures { λ r. ⌜ r ≡ (not (h .working) || hasCurrent h || eqb (h .queue .count) 0 || not (h .mapped)) ⌝ }
+{
+    !h.working | has_current(h) | (h.queue.count == 0) | !h.mapped
+}
 
 // The set of one chunk; empty where the number is no chunk's.
 fn only(chunk: u64) -> Set
@@ -64,44 +84,6 @@ fn lacks_copy(action: Action, copy: u64, holders: Set) -> bool
     }
 }
 
-// "Needs working, no current operation, one waiting, map current (2); .. a read's copy must be in the set (1); clock (3);
-// room (5)".
-fn start_code(
-    h: Host,
-    clock: u64,
-    copy: u64,
-    holders: Set,
-    places: [Place; rules::PLACES],
-    to: Set,
-) -> u64
-    ensures { λ r. ⌜ r ≡ codeOf (startRefusals h clock copy holders (freePlaces places) (howMany to)) ⌝ }
-{
-    if !h.working {
-        return 2;
-    }
-    if has_current(h) {
-        return 2;
-    }
-    if h.queue.count == 0 {
-        return 2;
-    }
-    if !h.mapped {
-        return 2;
-    }
-    let o = operations::front(h);
-    let a = o.action;
-    if lacks_copy(a, copy, holders) {
-        return 1;
-    }
-    if clock <= h.clock {
-        return 3;
-    }
-    if lacks_room(places, to) {
-        return 5;
-    }
-    0
-}
-
 // "A read sends one read to the copy; a write sends a prewrite to each chunk of the set".
 fn opening_to(action: Action, copy: u64, holders: Set) -> Set
     ensures { λ r. ⌜ r ≡ openingTo action copy holders ⌝ }
@@ -112,15 +94,11 @@ fn opening_to(action: Action, copy: u64, holders: Set) -> Set
     }
 }
 
-// "Okay and restart become true, the result value 0 .. Those are outstanding", at the timestamp that the keeper draws.
-fn begin(number: u64, clock: u64, h: Host, to: Set) -> Host
-    ensures { λ r. ⌜ r ≡ begun number clock h to ⌝ }
+// "Okay and restart become true, the result value 0 .. Those are outstanding", at the timestamp that the keeper handed out; the
+// host keeps its clock.
+fn begin(h: Host, d: Drawn, to: Set) -> Host
+    ensures { λ r. ⌜ r ≡ started h (d .timestamp) (d .keeper .last) to ⌝ }
 {
-    let k = Keeper {
-        host: number,
-        last: h.clock,
-    };
-    let d = keeper::draw_from(k, clock);
     let now = d.timestamp;
     let a = Attempt {
         timestamp: now,
@@ -135,7 +113,8 @@ fn begin(number: u64, clock: u64, h: Host, to: Set) -> Host
     out
 }
 
-// "3 start (host, clock from 1, copy)", with the clock that the host's keeper hands out.
+// "3 start (host, clock from 1, copy)": what it needs (2), the copy (1), the clock (3), which the host's keeper hands out or
+// refuses, and room (5). What the keeper remembers is stored only when the start is granted.
 pub fn start(
     number: u64,
     clock: u64,
@@ -146,22 +125,30 @@ pub fn start(
 ) -> Sent
     ensures { λ r. ⌜ r ≡ starts number clock copy holders h places ⌝ }
 {
+    if unready(h) {
+        return refuse(2, h, places);
+    }
     let o = operations::front(h);
     let action = o.action;
-    let to = opening_to(action, copy, holders);
-    let code = start_code(h, clock, copy, holders, places, to);
-    if code != 0 {
-        return Sent {
-            code: code,
-            host: h,
-            places: places,
-            outcome: Outcome::None,
-        };
+    if lacks_copy(action, copy, holders) {
+        return refuse(1, h, places);
     }
-    let new = begin(number, clock, h, to);
-    let now = new.attempt.timestamp;
+    let k = Keeper {
+        host: number,
+        last: h.clock,
+    };
+    let d = keeper::draw_from(k, clock);
+    if d.code != 0 {
+        return refuse(d.code, h, places);
+    }
+    let to = opening_to(action, copy, holders);
+    if lacks_room(places, to) {
+        return refuse(5, h, places);
+    }
+    let now = d.timestamp;
     let epoch = h.epoch;
     let after = requests::open(places, to, number, o.block, now, epoch, action);
+    let new = begin(h, d, to);
     Sent {
         code: 0,
         host: new,
@@ -275,12 +262,7 @@ pub fn finish(number: u64, holders: Set, h: Host, places: [Place; rules::PLACES]
     let to = closing_to(action, holders);
     let code = finish_code(h, places, to);
     if code != 0 {
-        return Sent {
-            code: code,
-            host: h,
-            places: places,
-            outcome: Outcome::None,
-        };
+        return refuse(code, h, places);
     }
     let now = h.attempt.timestamp;
     let epoch = h.epoch;

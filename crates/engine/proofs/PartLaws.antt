@@ -6,7 +6,7 @@ use mathlib.Core.List.{List}
 use native.Mathlib.Omega.{arith}
 use lib.Dec.{eqb}
 use lib.Seq.{set-getD}
-use borrow.Author.Tests.{ltb-true, lt-leb, le-ltb, eqb-true}
+use borrow.Author.Tests.{ltb-true, eqb-true}
 use Rattle.rules.specs.declared.Creation.{Creation}
 use Rattle.rules.specs.declared.Record.{Record}
 use Rattle.rules.specs.declared.Chunk.{Chunk}
@@ -26,18 +26,15 @@ use Rattle.rules.specs.Kinds.{isNormal, headerOf, isForChunk}
 use Rattle.rules.specs.Limits.{hostLimit, chunkLimit, blockLimit, placeLimit, greatestClock, oneTo, upTo}
 use Rattle.rules.specs.Network.{removed, replied, placeRefusals}
 use Rattle.rules.specs.Tables.{isHost, isChunk, isBlock, setOf, hostOf, chunkOf, at, recordOf, slotOf, withHost, withChunk, withRecord, withPlaces}
-use Rattle.rules.specs.Timestamps.{stamp}
-use Rattle.rules.specs.Words.{every}
 use Rattle.rules.specs.Zero.{noHost, noChunk, noRecord}
 use Rattle.rules.proofs.Events.{by-number, ill-formed, out-of-range, refused-own, granted-own}
 use Rattle.rules.proofs.Formed.{one-to, formed, message-facts, host-place, chunk-place, block-place, front-block, queue-of}
 use Rattle.rules.proofs.Lists.{three}
-use Rattle.rules.proofs.Refusals.{granted-exactly}
 use Rattle.arrival.specs.Arrivals.{arrives}
 use Rattle.chunk.specs.declared.Changed.{Changed}
-use Rattle.keeper.specs.Keeper.{drawn}
 use Rattle.host.specs.declared.Moved.{Moved}
-use Rattle.attempts.specs.Moves.{starts, finishes}
+use Rattle.attempts.specs.Moves.{finishes}
+use Rattle.attempts.proofs.Laws.{start-ruled}
 use Rattle.replies.specs.Replies.{hears}
 use Rattle.parts.specs.declared.Parts.{Parts}
 use Rattle.parts.specs.declared.Acted.{Acted}
@@ -174,27 +171,20 @@ module _ (t : Table) (ok : wellFormed t ≡ true) where
 
   -- ---- start and finish
 
-  -- the keeper hands out the clock of a granted start
-  start-drawn : (a b c : ℕ) → startRule t a b c .ranges ≡ true → codeOf (startRule t a b c .refusals) ≡ 0
-      → drawn (record { host = a; last = hostOf t a .clock }) b ≡ record { keeper = record { host = a; last = b }; code = 0; timestamp = stamp b a }
-  unfolding startRule every codeOf drawn
-  start-drawn a b c r granted =
-      let operands = three (isHost k a) (oneTo greatestClock b) (isChunk k c) r in
-      let clock = one-to greatestClock b (operands .1) .1 in
-      let above = granted-exactly (startRule t a b c .refusals) refl .0 granted 5 (omega arith) in
-      rw (lt-leb hostLimit a (host-below a (operands .0)), le-ltb greatestClock b clock, above) refl
-
+  -- the event's numbers are in their ranges, so the start is as the rule says it
   start-acts : (a b c : ℕ) → startRule t a b c .ranges ≡ true → Acts t (event 3 a b c)
-  unfolding acted starts ruleOf startRule
+  unfolding acted ruleOf startRule
   start-acts a b c r =
-      let host = three (isHost k a) (oneTo greatestClock b) (isChunk k c) r .0 in
+      let operands = three (isHost k a) (oneTo greatestClock b) (isChunk k c) r in
+      let host = operands .0 in
+      let ruled = start-ruled a b c (setOf k (front (hostOf t a) .block)) (hostOf t a) (t .places) (host-below a host) (one-to greatestClock b (operands .1) .1) in
       record {
         place = omega arith;
         host = host-below a host;
         chunk = omega arith;
         block = front-below a host;
-        code = refl;
-        effect = λ z. rw (z, start-drawn a b c r z) (ap quietly (host-alone t a 0 (front (hostOf t a) .block) _ _));
+        code = rw ruled refl;
+        effect = λ z. rw (ruled, rw ruled at z) (ap quietly (host-alone t a 0 (front (hostOf t a) .block) _ _));
       }
 
   finish-acts : (a b c : ℕ) → finishRule t a b c .ranges ≡ true → Acts t (event 6 a b c)

@@ -23,11 +23,13 @@ abbrev pub refused : Keeper → (code : ℕ) → Drawn
 refused k code = record { keeper = k; code = code; timestamp = never }
 
 -- a granted one hands out the timestamp and remembers the clock
+abbrev pub remembered : Keeper → (clock : ℕ) → Drawn
+remembered k clock = record { keeper = record { host = k .host; last = clock }; code = 0; timestamp = stamp clock (k .host) }
+
 unfoldable pub drawn : Keeper → (clock : ℕ) → Drawn
 drawn k clock =
     let code = codeOf (drawRefusals k clock) in
-    if eqb code 0 then record { keeper = record { host = k .host; last = clock }; code = 0; timestamp = stamp clock (k .host) } else
-    refused k code
+    if eqb code 0 then remembered k clock else refused k code
 
 -- what it hands out
 abbrev pub handed : Keeper → (clock : ℕ) → Handed

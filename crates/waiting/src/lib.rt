@@ -42,15 +42,17 @@ pub fn find(w: Waiting, t: Timestamp) -> u64
 {
     let n = used(w);
     let mut i: u64 = 0;
-    while i < n {
-        let at = i as usize;
-        let e = w.entries[at];
+    let at = loop {
+        if i == n {
+            break n;
+        }
+        let e = w.entries[i as usize];
         if e.timestamp.0 == t.0 {
-            break;
+            break i;
         }
         i = i + 1;
-    }
-    i
+    };
+    at
 }
 
 // The place "after its equals": that of the first entry with a greater timestamp, or the count.

@@ -1,4 +1,5 @@
 -- `attempts::finish` meets its contract
+use mathlib.Core.Path.{_∙_}
 use borrow.Author.Needs.{needs}
 use Rattle.attempts.proofs.Laws.{finish-refused, finish-granted}
 use Rattle.attempts.proofs.finish.Statement.{statement}
@@ -13,10 +14,13 @@ closing-to-requires c κs = search needs
 finish-code-requires : tie.Need-finish-code-requires
 finish-code-requires c κs = search needs
 
+refuse-requires : tie.Need-refuse-requires
+refuse-requires c κs = search needs
+
 returns : tie.Need-returns
 returns c =
-    let k = c .before in
-    finish-refused _ _ _ _ _ _ _ (k .before .before .front .ensures) (k .before .closing-to .ensures) (k .finish-code .ensures) (c .if1 .taken)
+    let k = c .before .before in
+    c .refuse .ensures ∙ finish-refused _ _ _ _ _ _ _ (k .before .before .front .ensures) (k .before .closing-to .ensures) (k .finish-code .ensures) (c .before .if1 .taken)
 
 end-requires : tie.Need-end-requires
 end-requires c κs = search needs
@@ -41,6 +45,7 @@ finish-spec =
     front-requires
     closing-to-requires
     finish-code-requires
+    refuse-requires
     returns
     end-requires
     close-requires

@@ -41,7 +41,7 @@ loop-again : tie.Need-loop-again Inv-loop μ-loop
 loop-again c =
     let l = c .before .before .before .before .before in
     let a = l .before .before .args in
-    omega (arith, search-on (stamped (a .t)) (a .t1) (l .loop .i) (omega arith) (ne-eqb _ _ (c .if1 .left)))
+    omega (arith, search-on (stamped (a .t)) (a .t1) (l .loop .i) (omega arith) (ne-eqb _ _ (c .if2 .left)))
 
 returns : tie.Need-returns Inv-loop μ-loop
 unfolding firstWith
@@ -55,7 +55,7 @@ unfolding firstWith
 returns-2 c =
     let l = c .before .before .before .before .before in
     let a = l .before .before .args in
-    omega (arith, search-ends (stamped (a .t)) (a .t1) (l .loop .i) (omega arith) (eq-eqb _ _ (c .if1 .taken)))
+    omega (arith, search-ends (stamped (a .t)) (a .t1) (l .loop .i) (omega arith) (eq-eqb _ _ (c .if2 .taken)))
 
 pub find-spec : {M : Type 1} → statement M
 find-spec =
