@@ -6,7 +6,7 @@ use mathlib.Core.List.{List}
 use native.Mathlib.Omega.{arith}
 use lib.Dec.{eqb}
 use lib.Seq.{set-getD}
-use borrow.Author.Tests.{ltb-true, eqb-true}
+use borrow.Author.Tests.{ltb-true, lt-ltb, eqb-true}
 use Rattle.rules.specs.declared.Creation.{Creation}
 use Rattle.rules.specs.declared.Record.{Record}
 use Rattle.rules.specs.declared.Chunk.{Chunk}
@@ -33,12 +33,10 @@ use Rattle.rules.specs.Zero.{noHost, noChunk, noRecord}
 use Rattle.rules.proofs.Events.{by-kind, refused-own, granted-own}
 use Rattle.rules.proofs.Formed.{one-to, creation-facts, formed, message-facts, host-place, chunk-place, block-place, front-block, queue-of}
 use Rattle.rules.proofs.Lists.{_&_, end, three, walk}
-use Rattle.arrival.specs.Arrivals.{arrives}
 use Rattle.chunk.specs.Changes.{changed}
 use Rattle.host.specs.Moves.{moved}
 use Rattle.attempts.specs.Moves.{finishes}
 use Rattle.attempts.proofs.Laws.{start-ruled}
-use Rattle.replies.specs.Replies.{hears}
 use Rattle.parts.specs.declared.Parts.{Parts}
 use Rattle.parts.specs.declared.Acted.{Acted}
 use Rattle.operands.specs.Address.{hasA, addressOf, placeAt, hostAt, chunkAt, blockAt}

@@ -16,7 +16,6 @@ use Rattle.rules.specs.Hosts.{intakeRefusals, appended, hears, timeoutRefusals,
 use Rattle.rules.specs.Messages.{sortOf, isForChunk}
 use Rattle.rules.specs.Network.{freePlaces, removed, replied, placeRefusals}
 use Rattle.rules.specs.Words.{if_then_else_, Numbered, _⇒_⨾_, under}
-use Rattle.arrival.specs.Arrivals.{arrives}
 use Rattle.chunk.specs.declared.Changed.{Changed}
 use Rattle.chunk.specs.Changes.{changed}
 use Rattle.head.specs.declared.Ran.{Ran}
