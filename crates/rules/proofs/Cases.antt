@@ -5,14 +5,14 @@ use mathlib.Core.Bool.{Bool, true, false}
 use mathlib.Core.List.{List, [], _∷_}
 use lib.ListN.{drop, replicate}
 use lib.Dec.{eqb}
-use Rattle.rules.specs.Types.{Timestamp, Set, Kind, Entry, Record, State, Action, Header, Message, Slot, Table, Event, Answer}
+use Rattle.rules.specs.Types.{Timestamp, Set, Kind, Entry, Record, State, Action, Message, Request, Refusal, Sort, Slot, Table, Event, Answer}
 use Rattle.rules.specs.Chunks.{atChunk, arrived}
 use Rattle.rules.specs.Codes.{codeOf}
 use Rattle.rules.specs.Creation.{fresh, firstEpoch, isCreation}
 use Rattle.rules.specs.Events.{step, answered, rows, ruleOf, startRule, deliverRule, epochRule, overdueRule}
 use Rattle.rules.specs.Formed.{wellFormed}
 use Rattle.rules.specs.Hosts.{appended, refreshed, withClock, queueOf}
-use Rattle.rules.specs.Kinds.{headed}
+use Rattle.rules.specs.Messages.{headed, messageOf, asking}
 use Rattle.rules.specs.Network.{sent, freePlaces, howMany, sentToEach, replied}
 use Rattle.rules.specs.Settlement.{W, besideW, agreed, committed, writes, commits, latest, writtenWith, settledRecord, settled, allLost}
 use Rattle.rules.specs.Tables.{hostOf, recordOf, slotOf, withHost, withChunk, withRecord, withPlaces}
@@ -84,16 +84,16 @@ value v write w read r = copies (copy v r w []) (copy v r w [])
 
 -- what host 0 sends of block 0 to A under timestamp 40, and the replies
 abbrev read40 : Message
-read40 = Message.Read (headed 0 0 0 (stamped 40)) firstEpoch
+read40 = asking (headed 0 0 0 (stamped 40)) firstEpoch Request.Read
 
 abbrev prewrite40 : Message
-prewrite40 = Message.Prewrite (headed 0 0 0 (stamped 40)) firstEpoch 7
+prewrite40 = asking (headed 0 0 0 (stamped 40)) firstEpoch (Request.Prewrite 7)
 
 abbrev waits : (waiting : ℕ) → Seen
 waits n = arrival n Slot.Empty
 
-abbrev replies : (waiting : ℕ) → (Header → Message) → Seen
-replies n reply = arrival n (Slot.Full (reply (headed 0 0 0 (stamped 40))))
+abbrev replies : (waiting : ℕ) → Sort → Seen
+replies n s = arrival n (Slot.Full (messageOf (headed 0 0 0 (stamped 40)) s))
 
 -- ---- the rows
 
@@ -153,13 +153,13 @@ cases =
     settling lost 0 and lost 0 gives code 6 ⨾
     {- P8 -}
     read40 arriving-at copy 0 0 40 [] gives waits 1 ⨾
-    read40 arriving-at copy 0 0 41 [] gives replies 0 Message.OutOfOrder ⨾
+    read40 arriving-at copy 0 0 41 [] gives replies 0 (Sort.Refusal Refusal.OutOfOrder) ⨾
     {- P9 -}
-    prewrite40 arriving-at copy 0 41 0 [] gives replies 0 Message.OutOfOrder ⨾
-    prewrite40 arriving-at copy 0 39 0 [] gives replies 1 Message.PrewriteReply ⨾
+    prewrite40 arriving-at copy 0 41 0 [] gives replies 0 (Sort.Refusal Refusal.OutOfOrder) ⨾
+    prewrite40 arriving-at copy 0 39 0 [] gives replies 1 Sort.PrewriteReply ⨾
     {- P10 -}
-    prewrite40 arriving-at copy 0 0 0 eight gives replies 8 Message.Busy ⨾
-    prewrite40 arriving-at copy 0 0 0 (drop 1 eight) gives replies 8 Message.PrewriteReply ⨾
+    prewrite40 arriving-at copy 0 0 0 eight gives replies 8 (Sort.Refusal Refusal.Busy) ⨾
+    prewrite40 arriving-at copy 0 0 0 (drop 1 eight) gives replies 8 Sort.PrewriteReply ⨾
     {- P11 -}
     overdue-at 105 gives code 2 ⨾
     overdue-at 106 gives code 0 ⨾

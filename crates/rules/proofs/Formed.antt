@@ -8,18 +8,19 @@ use lib.ListN.{length, getD}
 use lib.Dec.{eqb, ltb, leb}
 use lib.Seq.{getD-take}
 use borrow.Author.Tests.{ltb-true, ltb-false, leb-true, le-leb, le-ltb, eqb-true, not-true}
-use Rattle.rules.specs.Types.{Timestamp, Epoch, Set, Creation, Entry, Waiting, Record, Chunk, Operation, Queue, Attempt, Host, Header, Message, Place, Table}
+use Rattle.rules.specs.Types.{Timestamp, Epoch, Set, Creation, Entry, Waiting, Record, Chunk, Operation, Queue, Attempt, Host, Header, Message, Sort, Place, Table}
 use Rattle.rules.specs.Creation.{isCreation, ofStore, isSetOf}
-use Rattle.rules.specs.Formed.{operationFormed, operationAt, queueFormed, attemptFormed, hostFormed, chunkFormed, entryFormed, entryAt, waitingFormed, recordFormed, messageFormed, slotFormed, hostAt, chunkAt, recordAt, recordsAt, placeAt, wellFormed}
+use Rattle.rules.specs.Formed.{operationFormed, operationAt, queueFormed, attemptFormed, hostFormed, chunkFormed, entryFormed, entryAt, waitingFormed, recordFormed, sortFormed, messageFormed, slotFormed, hostAt, chunkAt, recordAt, recordsAt, placeAt, wellFormed}
 use Rattle.rules.specs.Hosts.{operationsOf, queueOf, front}
-use Rattle.rules.specs.Kinds.{headerOf, epochOf}
 use Rattle.rules.specs.Limits.{hostLimit, chunkLimit, blockLimit, operationLimit, waitingLimit, placeLimit, greatestClock, greatestTimestamp, upTo, oneTo}
+use Rattle.rules.specs.Messages.{headerOf, sortOf, messageOf}
 use Rattle.rules.specs.Tables.{isHost, isChunk, isBlock, setOf, hostOf, chunkOf, recordOf, slotOf}
 use Rattle.rules.specs.Timestamps.{never, _is_, _above_, _same_, isTimestamp, isEpoch}
 use Rattle.rules.specs.Waiting.{inOrder, holding, head}
 use Rattle.rules.specs.Words.{every, some, numbers, filled}
 use Rattle.rules.specs.Zero.{_among_, isEmpty, zeroEntry, isZeroEntry, isZeroRecord, zeroOperation, isZeroOperation}
 use Rattle.rules.proofs.Lists.{both, three, four, five, implied, implies, every-at, every-number, every-numbers, none-number, used-at, used-of, take-short, every-take, filled-any, filled-past}
+use Rattle.rules.proofs.Messages.{made}
 use Rattle.rules.proofs.Order.{Ordered, ascends-ordered, ordered-ascends}
 
 -- a number from 1 to the greatest
@@ -342,19 +343,19 @@ module _ (k : Creation) where
 
   pub record FormedMessage (m : Message) : Type 0 where
     pub header : FormedHeader (headerOf m)
-    pub epoch : isEpoch (epochOf m) ≡ true
+    pub sort : sortFormed (sortOf m) ≡ true
 
   -- what the test of a message says
   pub message-facts : (m : Message) → messageFormed k m ≡ true → FormedMessage m
   message-facts m f =
       let h = headerOf m in
       let r = five (isHost k (h .host)) (isChunk k (h .chunk)) (ltb (h .block) blockLimit) (isTimestamp (h .timestamp))
-      (isEpoch (epochOf m)) f in
-      record { header = record { host = r .0; chunk = r .1; block = r .2; timestamp = r .3 }; epoch = r .4 }
+      (sortFormed (sortOf m)) f in
+      record { header = record { host = r .0; chunk = r .1; block = r .2; timestamp = r .3 }; sort = r .4 }
 
   -- the way back
-  pub message-formed : (m : Message) → FormedHeader (headerOf m) → isEpoch (epochOf m) ≡ true → messageFormed k m ≡ true
-  message-formed m f e = rw (f .host, f .chunk, f .block, f .timestamp, e) refl
+  pub message-formed : (h : Header) (s : Sort) → FormedHeader h → sortFormed s ≡ true → messageFormed k (messageOf h s) ≡ true
+  message-formed h s f e = rw (made h s .0, made h s .1, f .host, f .chunk, f .block, f .timestamp, e) refl
 
   -- each place is empty or has a formed message
   abbrev pub FormedPlaces : List Place → Type 0

@@ -1,21 +1,22 @@
 -- The events of chunks and of the network keep well-formedness: deliver, drop, run, fail, recover, take lease, give lease, overdue
 use Prim.Native.Nat.{ℕ, _<_}
 use mathlib.Core.Path.{_≡_, refl, sym, _∙_}
-use mathlib.Core.Bool.{Bool, true, false, cond, not, _&&_, true≢false}
+use mathlib.Core.Bool.{Bool, true, false, cond, _&&_, true≢false}
 use mathlib.Core.List.{List}
 use native.Mathlib.Omega.{arith}
 use lib.ListN.{getD, drop, length-drop, length-set, getD-replicate}
-use lib.Dec.{eqb, ltb, leb}
-use borrow.Author.Tests.{ltb-true, lt-ltb, leb-false, not-false}
-use Rattle.rules.specs.Types.{Timestamp, Epoch, Creation, Kind, Entry, Waiting, Record, State, Chunk, Header, Message, Slot, Table, Arrived}
-use Rattle.rules.specs.Chunks.{withState, withValue, withRead, withWrite, withWaiting, answering, silent, isOutOfOrder, entryOf, arrived, decides, atChunk, runs, ran, failed, emptied, recoverRefusals, takeLeaseRefusals, giveLeaseRefusals, overdue}
+use lib.Dec.{eqb}
+use borrow.Author.Tests.{ltb-true, lt-ltb}
+use Rattle.rules.specs.Types.{Timestamp, Epoch, Creation, Kind, Entry, Waiting, Record, State, Chunk, Header, Message, Request, Refusal, Sort, Slot, Table, Arrived}
+use Rattle.rules.specs.Chunks.{withState, withValue, withRead, withWrite, withWaiting, answering, silent, entryOf, arrived, decides, atChunk, arrives, runs, ran, failed, emptied, recoverRefusals, takeLeaseRefusals, giveLeaseRefusals, overdue}
 use Rattle.rules.specs.Codes.{Row}
 use Rattle.rules.specs.Creation.{isCreation}
 use Rattle.rules.specs.Events.{unused, isPlace, chunkTakes, hostTakes, takes, deliverRule, dropRule, runRule, chunkRule, failRule, recoverRule, takeLeaseRule, giveLeaseRule, overdueRule}
-use Rattle.rules.specs.Formed.{chunkFormed, entryFormed, waitingFormed, recordFormed, messageFormed, slotFormed}
-use Rattle.rules.specs.Hosts.{atHost}
-use Rattle.rules.specs.Kinds.{isWrite, isNormal, headed, headerOf, epochOf, isForChunk}
+use Rattle.rules.specs.Formed.{chunkFormed, entryFormed, waitingFormed, recordFormed, sortFormed, messageFormed, slotFormed}
+use Rattle.rules.specs.Hosts.{hears}
+use Rattle.rules.specs.Kinds.{isWrite, isNormal}
 use Rattle.rules.specs.Limits.{blockLimit, waitingLimit, placeLimit, greatestClock, upTo}
+use Rattle.rules.specs.Messages.{headed, headerOf, sortOf, isForChunk}
 use Rattle.rules.specs.Tables.{isHost, isChunk, isBlock, hostOf, chunkOf, recordOf, slotOf, withChunk, withRecord, withPlaces}
 use Rattle.rules.specs.Network.{removed, freePlaces}
 use Rattle.rules.specs.Timestamps.{never, _is_, _above_, _below_, later, isTimestamp, _same_, isEpoch}
@@ -24,10 +25,11 @@ use Rattle.rules.specs.Words.{every, from, numbers}
 use Rattle.rules.specs.Zero.{noBlocks, zeroEntry, isZeroEntry, zeroWaiting, isZeroRecord}
 use Rattle.rules.proofs.Lists.{three, five, walk, every-drop, every-change, set-all, take-short}
 use Rattle.rules.proofs.Order.{insert-length, insert-every, insert-ordered, tail-ordered, mark-ordered}
+use Rattle.rules.proofs.Messages.{arrived-walk, decides-walk}
 use Rattle.rules.proofs.Formed.{Formed, chunk-place, block-place, chunk-facts, chunk-formed, waiting-facts, entries-length, entries-formed, entries-ordered, waiting-formed, head-formed, FormedRecord, record-facts, record-formed, FormedHeader, message-facts, message-formed, host-of, chunk-of, record-of}
 use Rattle.rules.proofs.Relies.{run-head}
 use Rattle.rules.proofs.KeepsParts.{Keeps, keeps, RecordAt, host-kept, chunk-kept, record-kept, records-kept, removed-kept, replied-kept}
-use Rattle.rules.proofs.KeepsHosts.{at-host-formed}
+use Rattle.rules.proofs.KeepsHosts.{hears-formed}
 
 -- the later of two timestamps is one
 pub later-formed : (t u : Timestamp) → isTimestamp t ≡ true → isTimestamp u ≡ true → isTimestamp (later t u) ≡ true
@@ -43,11 +45,10 @@ module _ (k : Creation) where
 
   -- one waits more, in a list with room
   inserted-formed : (w : Waiting) (e : Entry) → waitingFormed k w ≡ true → entryFormed k e ≡ true
-      → leb waitingLimit (w .count) ≡ false → waitingFormed k (inserted w e) ≡ true
+      → w .count < waitingLimit → waitingFormed k (inserted w e) ≡ true
   unfolding inserted
-  inserted-formed w e h g c =
+  inserted-formed w e h g n =
       let f = waiting-facts k w h in
-      let n = leb-false waitingLimit (w .count) c in
       let l = inOrder w in
       waiting-formed k (insert e l) (omega (arith, insert-length e l, take-short (w .count) (w .entries)))
       (insert-every (entryFormed k) e l g (entries-formed k w f)) (insert-ordered 0 e l (omega arith) (entries-ordered k w f))
@@ -108,9 +109,9 @@ module _ (k : Creation) where
 
   module _ (c b : ℕ) where
     -- a formed reply
-    answers : (r : Record) (m : Message) → RecordAt k c b r → FormedHeader k (headerOf m) → isEpoch (epochOf m) ≡ true
-        → Arrives c b (answering r m)
-    answers r m h f e = record { block = h; reply = message-formed k m f e }
+    answers : (r : Record) (header : Header) (s : Sort) → RecordAt k c b r → FormedHeader k header → sortFormed s ≡ true
+        → Arrives c b (answering r header s)
+    answers r header s h f e = record { block = h; reply = message-formed k header s f e }
 
     -- no reply
     is-silent : (r : Record) → RecordAt k c b r → Arrives c b (silent r)
@@ -125,54 +126,51 @@ module _ (k : Creation) where
     b = header .block
 
     -- the record of a block of the store's, with another waiting list
-    waits-at : isBlock k b ≡ true → (w : Waiting) → (waitingFormed k (r .waiting) ≡ true → waitingFormed k w ≡ true)
+    waits-at : b < k .blocks → (w : Waiting) → (waitingFormed k (r .waiting) ≡ true → waitingFormed k w ≡ true)
         → RecordAt k c b (withWaiting r w)
-    waits-at e w g =
+    waits-at l w g =
+        let e = lt-ltb b (k .blocks) l in
         let now : recordFormed k r ≡ true = rw (f .chunk, e) at h in
         rw (f .chunk, e) (rewaited r w now (g (record-facts k r now .waiting)))
 
     -- a read or a prewrite
     arrived-at : (current epoch : Epoch) (kind : Kind) → isEpoch epoch ≡ true
         → Arrives c b (arrived (k .blocks) current r header epoch kind)
-    unfolding arrived
     arrived-at current epoch kind e =
         let x = entryOf header epoch kind in
         let now = withWaiting r (inserted (r .waiting) x) in
         let formed : entryFormed k x ≡ true = rw (f .timestamp, f .host, e) refl in
-        walk (Arrives c b) (not (epoch same current)) _ _ (λ _. answers c b r (Message.Mismatch header) h f refl) (λ _.
-        walk (Arrives c b) (not (ltb b (k .blocks))) _ _ (λ _. answers c b r (Message.Error header) h f refl) (λ inside.
-        walk (Arrives c b) (isOutOfOrder kind (header .timestamp) r) _ _ (λ _. answers c b r (Message.OutOfOrder header) h f refl) (λ _.
-        walk (Arrives c b) (leb waitingLimit (r .waiting .count)) _ _ (λ _. answers c b r (Message.Busy header) h f refl) (λ room.
-        let z = waits-at (not-false (isBlock k b) inside) (inserted (r .waiting) x) (λ w. inserted-formed (r .waiting) x w formed room) in
-        walk (Arrives c b) (isWrite kind) _ _ (λ _. answers c b now (Message.PrewriteReply header) z f refl) (λ _. is-silent c b now z)))))
+        arrived-walk (Arrives c b) (k .blocks) current r header epoch kind (λ why. answers c b r header (Sort.Refusal why) h f refl) (λ p.
+        let z = waits-at (p .block) (inserted (r .waiting) x) (λ w. inserted-formed (r .waiting) x w formed (p .room)) in
+        walk (Arrives c b) (isWrite kind) _ _ (λ _. answers c b now header Sort.PrewriteReply z f refl) (λ _. is-silent c b now z))
 
     -- a commit or an abort
     decides-at : (commit : Bool) → Arrives c b (decides (k .blocks) r header commit)
-    unfolding decides
     decides-at commit =
         let w = marked commit (header .timestamp) (r .waiting) in
-        walk (Arrives c b) (ltb b (k .blocks)) _ _
+        decides-walk (Arrives c b) (k .blocks) r header commit
         (λ inside. is-silent c b (withWaiting r w) (waits-at inside w (marked-formed commit (header .timestamp) (r .waiting))))
-        (λ _. is-silent c b r h)
+        (is-silent c b r h)
 
-  -- any message
-  at-chunk : (current : Epoch) (r : Record) (m : Message) → RecordAt k (headerOf m .chunk) (headerOf m .block) r → messageFormed k m ≡ true
-      → Arrives (headerOf m .chunk) (headerOf m .block) (atChunk (k .blocks) current r m)
-  unfolding atChunk
-  at-chunk current r (Message.Read header epoch) h g =
-      let f = message-facts k (Message.Read header epoch) g in
-      arrived-at r header h (f .header) current epoch Kind.Read (f .epoch)
-  at-chunk current r (Message.Prewrite header epoch v) h g =
-      let f = message-facts k (Message.Prewrite header epoch v) g in
-      arrived-at r header h (f .header) current epoch (Kind.Undecided v) (f .epoch)
-  at-chunk current r (Message.Commit header epoch) h g = decides-at r header h (message-facts k (Message.Commit header epoch) g .header) true
-  at-chunk current r (Message.Abort header epoch) h g = decides-at r header h (message-facts k (Message.Abort header epoch) g .header) false
-  at-chunk current r (Message.Mismatch header) h g = is-silent (header .chunk) (header .block) r h
-  at-chunk current r (Message.Error header) h g = is-silent (header .chunk) (header .block) r h
-  at-chunk current r (Message.OutOfOrder header) h g = is-silent (header .chunk) (header .block) r h
-  at-chunk current r (Message.Busy header) h g = is-silent (header .chunk) (header .block) r h
-  at-chunk current r (Message.ReadReply header v) h g = is-silent (header .chunk) (header .block) r h
-  at-chunk current r (Message.PrewriteReply header) h g = is-silent (header .chunk) (header .block) r h
+    -- any sort
+    at-chunk : (current : Epoch) (s : Sort) → sortFormed s ≡ true → Arrives c b (atChunk (k .blocks) current r header s)
+    unfolding atChunk
+    at-chunk current (Sort.Request epoch Request.Read) g = arrived-at current epoch Kind.Read g
+    at-chunk current (Sort.Request epoch (Request.Prewrite v)) g = arrived-at current epoch (Kind.Undecided v) g
+    at-chunk current (Sort.Request epoch Request.Commit) g = decides-at true
+    at-chunk current (Sort.Request epoch Request.Abort) g = decides-at false
+    at-chunk current (Sort.Refusal x) g = is-silent c b r h
+    at-chunk current (Sort.ReadReply v) g = is-silent c b r h
+    at-chunk current Sort.PrewriteReply g = is-silent c b r h
+
+  -- any message, at a chunk in any state
+  arrives-at : (x : Chunk) (r : Record) (m : Message) → RecordAt k (headerOf m .chunk) (headerOf m .block) r → messageFormed k m ≡ true
+      → Arrives (headerOf m .chunk) (headerOf m .block) (arrives (k .blocks) x r m)
+  arrives-at x r m h g =
+      let f = message-facts k m g in
+      walk (Arrives (headerOf m .chunk) (headerOf m .block)) (isNormal (x .state)) _ _
+      (λ _. at-chunk r (headerOf m) h (f .header) (x .epoch) (sortOf m) (f .sort))
+      (λ _. is-silent (headerOf m .chunk) (headerOf m .block) r h)
 
   -- a run at the record of a chunk and block of the store's
   module _ (w : isCreation k ≡ true) (c b : ℕ) (d : isChunk k c ≡ true) (e : isBlock k b ≡ true) where
@@ -197,8 +195,9 @@ module _ (k : Creation) where
         let fits : FormedHeader k header = record { host = t .1; chunk = d; block = l; timestamp = t .0 } in
         let up = later-formed (r .read) (x .timestamp) (f .read) (t .0) in
         let raised = stands now (record { read = up; write = f .write; waiting = f .waiting }) in
-        walk (Arrives c b) (x .timestamp below r .write) _ _ (λ _. answers c b r (Message.OutOfOrder header) (stands r f) fits refl)
-        (λ _. answers c b now (Message.ReadReply header (r .value)) raised fits refl)
+        walk (Arrives c b) (x .timestamp below r .write) _ _
+        (λ _. answers c b r header (Sort.Refusal Refusal.OutOfOrder) (stands r f) fits refl)
+        (λ _. answers c b now header (Sort.ReadReply (r .value)) raised fits refl)
 
     -- the head
     ran-at : (r : Record) → recordFormed k r ≡ true → 0 < r .waiting .count → Arrives c b (ran c b r)
@@ -239,26 +238,22 @@ module _ (t : Table) (f : Formed t) where
       let h = message-facts (t .creation) m g .header in
       let l = ltb-true b blockLimit (h .block) in
       let old = f .records c b (chunk-place (t .creation) c (h .chunk) (f .creation)) l in
-      let r = at-chunk (t .creation) (chunkOf t c .epoch) (recordOf t c b) m old g in
-      let a = atChunk (t .creation .blocks) (chunkOf t c .epoch) (recordOf t c b) m in
-      walk Formed (isNormal (chunkOf t c .state)) _ _
-      (λ _. replied-kept (withRecord t c b (a .block)) (record-kept t f c b (a .block) l (r .block)) (a .reply) (r .reply))
-      (λ _. f)
+      let r = arrives-at (t .creation) (chunkOf t c) (recordOf t c b) m old g in
+      let a = arrives (t .creation .blocks) (chunkOf t c) (recordOf t c b) m in
+      replied-kept (withRecord t c b (a .block)) (record-kept t f c b (a .block) l (r .block)) (a .reply) (r .reply)
 
   -- a reply at its host
   host-takes : (m : Message) → messageFormed (t .creation) m ≡ true → Formed (hostTakes t (headerOf m) m)
   host-takes m g =
       let h = headerOf m .host in
       let e = message-facts (t .creation) m g .header .host in
-      walk Formed (hostOf t h .working) _ _
-      (λ _. host-kept t f h (atHost (hostOf t h) m) e (at-host-formed (t .creation) (hostOf t h) m (f .creation) (host-of t f h e) g))
-      (λ _. f)
+      host-kept t f h (hears (hostOf t h) m) e (hears-formed (t .creation) (hostOf t h) m (f .creation) (host-of t f h e) g)
 
   -- what a place holds, at its party
   taken : (s : Slot) → slotFormed (t .creation) s ≡ true → Formed (takes t s)
   taken Slot.Empty g = f
   taken (Slot.Full m) g =
-      walk Formed (isForChunk m) (chunkTakes t (headerOf m) m) (hostTakes t (headerOf m) m) (λ _. chunk-takes m g) (λ _. host-takes m g)
+      walk Formed (isForChunk (sortOf m)) (chunkTakes t (headerOf m) m) (hostTakes t (headerOf m) m) (λ _. chunk-takes m g) (λ _. host-takes m g)
 
 module _ (t : Table) where
   abbrev creation : Creation

@@ -7,20 +7,22 @@ use native.Mathlib.Omega.{arith}
 use lib.ListN.{length, drop, length-append, length-drop}
 use lib.Dec.{eqb}
 use borrow.Author.Tests.{le-leb, lt-ltb, eqb-true, not-true}
-use Rattle.rules.specs.Types.{Timestamp, Epoch, Set, Creation, Action, Operation, Attempt, Host, Header, Message, Table}
+use Rattle.rules.specs.Types.{Timestamp, Set, Creation, Action, Operation, Attempt, Host, Message, Sort, Table}
 use Rattle.rules.specs.Codes.{Row, codeOf}
 use Rattle.rules.specs.Creation.{isCreation, ofStore}
 use Rattle.rules.specs.Events.{unused, holdersOf, intakeRule, readRule, writeRule, startRule, finishRule, hostRule, timeoutRule, refreshRule, stopRule}
 use Rattle.rules.specs.Formed.{operationFormed, attemptFormed, hostFormed, messageFormed}
-use Rattle.rules.specs.Hosts.{withQueue, withAttempt, withOkay, withRestart, withResult, operationsOf, queueOf, front, appended, only, openingTo, opening, started, suits, counts, answeredBy, heard, atHost, closingTo, closing, goesBack, ended, finished, timeoutRefusals, timedOut, workingRefusals, refreshed, stopped}
-use Rattle.rules.specs.Kinds.{isReading, headerOf, headed}
+use Rattle.rules.specs.Hosts.{withQueue, withAttempt, withResult, operationsOf, queueOf, front, appended, only, openingTo, opening, started, suits, counts, answeredBy, heard, atHost, hears, closingTo, closing, goesBack, ended, finished, timeoutRefusals, timedOut, workingRefusals, refreshed, stopped}
+use Rattle.rules.specs.Kinds.{isReading}
 use Rattle.rules.specs.Limits.{chunkLimit, blockLimit, operationLimit, greatestClock, greatestTimestamp, oneTo}
+use Rattle.rules.specs.Messages.{headed, headerOf, sortOf}
 use Rattle.rules.specs.Network.{freePlaces, howMany}
 use Rattle.rules.specs.Tables.{isHost, isChunk, isBlock, hostOf, withHost}
-use Rattle.rules.specs.Timestamps.{stamp, never, _is_, _above_, isTimestamp, isEpoch}
+use Rattle.rules.specs.Timestamps.{stamp, never, _is_, _above_, isTimestamp}
 use Rattle.rules.specs.Words.{every, some, from}
 use Rattle.rules.specs.Zero.{_among_, isEmpty, zeroSet, zeroAttempt, isZeroAttempt}
 use Rattle.rules.proofs.Lists.{three, and-true, walk, every-one, every-append, every-drop, each-number, set-all, take-short}
+use Rattle.rules.proofs.Messages.{heard-refusal}
 use Rattle.rules.proofs.Formed.{one-to, Formed, host-place, chunk-place, block-place, member-some, of-store, is-of-store, set-of-store, queue-facts, operations-length, operations-formed, queue-formed, front-block, FormedAttempt, attempt-facts, attempt-formed, outstanding-current, host-facts, host-formed, FormedHeader, message-facts, message-formed, host-of, queue-of}
 use Rattle.rules.proofs.KeepsParts.{Keeps, keeps, host-kept, sent-to-each-kept}
 use Rattle.rules.proofs.Relies.{intake-place, start-front, finish-current, timeout-outstanding}
@@ -142,38 +144,40 @@ module _ (k : Creation) where
   -- ---- a reply at a host
 
   -- a reply that counts
-  heard-formed : (h : Host) (a : Attempt) (m : Message) → hostFormed k h ≡ true → a .timestamp above never ≡ true
-      → FormedAttempt k (h .queue .count) (a .timestamp) (a .outstanding) → hostFormed k (heard h a m) ≡ true
-  heard-formed h a (Message.Mismatch header) f e r = current h (withOkay a false) f e r
-  heard-formed h a (Message.OutOfOrder header) f e r = current h (withOkay a false) f e r
-  heard-formed h a (Message.Busy header) f e r = current h (withOkay a false) f e r
-  heard-formed h a (Message.Error header) f e r = current h (withRestart (withOkay a false) false) f e r
-  heard-formed h a (Message.ReadReply header v) f e r = current h (withResult a v) f e r
-  heard-formed h a (Message.PrewriteReply header) f e r = current h a f e r
-  heard-formed h a (Message.Read header epoch) f e r = f
-  heard-formed h a (Message.Prewrite header epoch v) f e r = f
-  heard-formed h a (Message.Commit header epoch) f e r = f
-  heard-formed h a (Message.Abort header epoch) f e r = f
+  heard-formed : (h : Host) (a : Attempt) (s : Sort) → hostFormed k h ≡ true → a .timestamp above never ≡ true
+      → FormedAttempt k (h .queue .count) (a .timestamp) (a .outstanding) → hostFormed k (heard h a s) ≡ true
+  heard-formed h a (Sort.Refusal x) f e r =
+      let now = heard h a (Sort.Refusal x) in
+      let q = heard-refusal h a x in
+      let g : hostFormed k (withAttempt h (now .attempt)) ≡ true = current h (now .attempt) f (rw (q .timestamp) e) (rw (q .timestamp, q .outstanding) r) in
+      rw (q .queue, q .epoch, q .clock) g
+  heard-formed h a (Sort.ReadReply v) f e r = current h (withResult a v) f e r
+  heard-formed h a Sort.PrewriteReply f e r = current h a f e r
+  heard-formed h a (Sort.Request epoch q) f e r = f
 
   -- any message: one that counts finds its chunk outstanding, so there is a current operation
-  pub at-host-formed : (h : Host) (m : Message) → isCreation k ≡ true → hostFormed k h ≡ true → messageFormed k m ≡ true
+  at-host-formed : (h : Host) (m : Message) → isCreation k ≡ true → hostFormed k h ≡ true → messageFormed k m ≡ true
       → hostFormed k (atHost h m) ≡ true
   unfolding atHost
   at-host-formed h m w f g =
       let a = h .attempt in
       let c = headerOf m .chunk in
-      walk (λ (x : Host). hostFormed k x ≡ true) (counts h m) (heard h (answeredBy a c) m) h (λ e.
-      let member = three (headerOf m .timestamp is a .timestamp) (c among a .outstanding) (suits (isReading (front h .action)) m) e .1 in
+      walk (λ (x : Host). hostFormed k x ≡ true) (counts h m) (heard h (answeredBy a c) (sortOf m)) h (λ e.
+      let member = three (headerOf m .timestamp is a .timestamp) (c among a .outstanding) (suits (isReading (front h .action)) (sortOf m)) e .1 in
       let l = chunk-place k c (message-facts k m g .header .chunk) w in
       let now = outstanding-current k (h .queue .count) a (host-facts k h f .attempt) (member-some (a .outstanding) c l member) in
       let r = attempt-facts k (h .queue .count) a (host-facts k h f .attempt) now in
       let left = answered-of-store a c (r .outstanding) in
-      heard-formed h (answeredBy a c) m f now (record { one = r .one; timestamp = r .timestamp; outstanding = left }))
+      heard-formed h (answeredBy a c) (sortOf m) f now (record { one = r .one; timestamp = r .timestamp; outstanding = left }))
       (λ _. f)
 
-  -- ---- the messages of start and finish
+  -- .. a host that is stopped too
+  pub hears-formed : (h : Host) (m : Message) → isCreation k ≡ true → hostFormed k h ≡ true → messageFormed k m ≡ true
+      → hostFormed k (hears h m) ≡ true
+  hears-formed h m w f g = walk (λ (x : Host). hostFormed k x ≡ true) (h .working) _ _ (λ _. at-host-formed h m w f g) (λ _. f)
 
-  -- they go to the store's chunks
+  -- ---- the messages of start and finish go to the store's chunks
+
   opening-of-store : (a : Action) (copy : ℕ) (holders : Set) → isChunk k copy ≡ true → ofStore k holders ≡ true
       → ofStore k (openingTo a copy holders) ≡ true
   opening-of-store Action.Read copy holders h g = only-of-store copy h
@@ -182,17 +186,6 @@ module _ (k : Creation) where
   closing-of-store : (a : Action) (holders : Set) → ofStore k holders ≡ true → ofStore k (closingTo a holders) ≡ true
   closing-of-store Action.Read holders g = nobody-of-store
   closing-of-store (Action.Write v) holders g = g
-
-  -- and are formed where their header is
-  opening-formed : (header : Header) (epoch : Epoch) (a : Action) → FormedHeader k header → isEpoch epoch ≡ true
-      → messageFormed k (opening header epoch a) ≡ true
-  opening-formed header epoch Action.Read f e = message-formed k (Message.Read header epoch) f e
-  opening-formed header epoch (Action.Write v) f e = message-formed k (Message.Prewrite header epoch v) f e
-
-  closing-formed : (okay : Bool) (header : Header) (epoch : Epoch) → FormedHeader k header → isEpoch epoch ≡ true
-      → messageFormed k (closing okay header epoch) ≡ true
-  closing-formed true header epoch f e = message-formed k (Message.Commit header epoch) f e
-  closing-formed false header epoch f e = message-formed k (Message.Abort header epoch) f e
 
 -- ---- the events
 
@@ -250,7 +243,7 @@ module _ (t : Table) where
       let ours = opening-of-store creation (o .action) copy (holdersOf t h) (r .2) (holders-of f host (r .0) one) in
       sent-to-each-kept (withHost t host (started h now clock to))
       (host-kept t f host (started h now clock to) (r .0) (started-formed creation h clock host to g s (r .1) one ours)) to _ ours
-      (λ c q. opening-formed creation (headed host c (o .block) now) (h .epoch) (o .action)
+      (λ c q. message-formed creation (headed host c (o .block) now) (Sort.Request (h .epoch) (opening (o .action)))
       (header-of f host (r .0) one now s c q) (host-facts creation h g .epoch)))
 
   -- 6 finish
@@ -268,7 +261,7 @@ module _ (t : Table) where
       let a = attempt-facts creation (h .queue .count) (h .attempt) (host-facts creation h g .attempt) has in
       sent-to-each-kept (withHost t host (finished h)) (host-kept t f host (finished h) (r .0) (finished-formed creation h g)) to _
       (closing-of-store creation (o .action) (holdersOf t h) (holders-of f host (r .0) (a .one)))
-      (λ c q. closing-formed creation (h .attempt .okay) (headed host c (o .block) now) (h .epoch)
+      (λ c q. message-formed creation (headed host c (o .block) now) (Sort.Request (h .epoch) (closing (h .attempt .okay)))
       (header-of f host (r .0) (a .one) now (a .timestamp) c q) (host-facts creation h g .epoch)))
 
   -- an event of one host alone

@@ -7,6 +7,7 @@ pub mod Order
 pub mod Relies
 pub mod Errors
 pub mod Cases
+pub mod Messages
 pub mod Formed
 pub mod Begun
 pub mod KeepsParts

@@ -6,10 +6,11 @@ use lib.ListN.{set}
 use lib.Dec.{eqb, ltb, leb}
 use lib.IntN.{pos, _-ℤ_}
 use lib.Signed.{ltZ}
-use Rattle.rules.specs.Types.{Timestamp, Epoch, Kind, Entry, Waiting, Record, State, Chunk, Header, Message, Slot, Arrived}
+use Rattle.rules.specs.Types.{Timestamp, Epoch, Kind, Entry, Waiting, Record, State, Chunk, Header, Message, Request, Refusal, Sort, Slot, Arrived}
 use Rattle.rules.specs.Codes.{Row, _gives_⨾_, granted}
-use Rattle.rules.specs.Kinds.{isRead, isUndecided, isWrite, isNormal, isNolease, isFailed, headed}
+use Rattle.rules.specs.Kinds.{isRead, isUndecided, isWrite, isNormal, isNolease, isFailed}
 use Rattle.rules.specs.Limits.{waitingLimit}
+use Rattle.rules.specs.Messages.{headed, headerOf, sortOf, messageOf}
 use Rattle.rules.specs.Timestamps.{clockOf, _below_, _same_, later}
 use Rattle.rules.specs.Waiting.{head, inserted, headRemoved, marked}
 use Rattle.rules.specs.Words.{if_then_else_}
@@ -35,9 +36,12 @@ withWrite r x = record { value = r .value; read = r .read; write = x; waiting = 
 abbrev pub withWaiting : Record → Waiting → Record
 withWaiting r x = record { value = r .value; read = r .read; write = r .write; waiting = x }
 
--- the record, with a reply or with none
-abbrev pub answering : Record → Message → Arrived
-answering r m = record { block = r; reply = Slot.Full m }
+-- the record, with a reply or with none. A reply has its request's header
+abbrev pub answering : Record → Header → Sort → Arrived
+answering r header s = record { block = r; reply = Slot.Full (messageOf header s) }
+
+abbrev pub refusing : Record → Header → Refusal → Arrived
+refusing r header x = answering r header (Sort.Refusal x)
 
 abbrev pub silent : Record → Arrived
 silent r = record { block = r; reply = Slot.Empty }
@@ -56,17 +60,17 @@ entryOf header epoch kind = record { timestamp = header .timestamp; sender = hea
 abbrev pub waits : Record → Header → Epoch → Kind → Arrived
 waits r header epoch kind =
     let now = withWaiting r (inserted (r .waiting) (entryOf header epoch kind)) in
-    if isWrite kind then answering now (Message.PrewriteReply header) else silent now
+    if isWrite kind then answering now header Sort.PrewriteReply else silent now
 
 unfoldable pub arrived : (blocks : ℕ) → Epoch → Record → Header → Epoch → Kind → Arrived
 arrived blocks current r header epoch kind =
     -- "epoch differs, version mismatch"
-    if not (epoch same current) then answering r (Message.Mismatch header) else
+    if not (epoch same current) then refusing r header Refusal.Mismatch else
     -- "block outside 0 to blocks-1, error"
-    if not (ltb (header .block) blocks) then answering r (Message.Error header) else
-    if isOutOfOrder kind (header .timestamp) r then answering r (Message.OutOfOrder header) else
+    if not (ltb (header .block) blocks) then refusing r header Refusal.Error else
+    if isOutOfOrder kind (header .timestamp) r then refusing r header Refusal.OutOfOrder else
     -- "8 waiting, busy"
-    if leb waitingLimit (r .waiting .count) then answering r (Message.Busy header) else
+    if leb waitingLimit (r .waiting .count) then refusing r header Refusal.Busy else
     waits r header epoch kind
 
 -- "Commit and abort ignore the epoch and act on the first entry in waiting order with that timestamp ..; otherwise, or for a
@@ -77,17 +81,18 @@ decides blocks r header commit =
     silent r
 
 -- a message at a chunk of the given epoch, with its record of the message's block. (Replies go to hosts.)
-unfoldable pub atChunk : (blocks : ℕ) → Epoch → Record → Message → Arrived
-atChunk blocks current r (Message.Read header epoch) = arrived blocks current r header epoch Kind.Read
-atChunk blocks current r (Message.Prewrite header epoch v) = arrived blocks current r header epoch (Kind.Undecided v)
-atChunk blocks current r (Message.Commit header epoch) = decides blocks r header true
-atChunk blocks current r (Message.Abort header epoch) = decides blocks r header false
-atChunk blocks current r (Message.Mismatch header) = silent r
-atChunk blocks current r (Message.Error header) = silent r
-atChunk blocks current r (Message.OutOfOrder header) = silent r
-atChunk blocks current r (Message.Busy header) = silent r
-atChunk blocks current r (Message.ReadReply header v) = silent r
-atChunk blocks current r (Message.PrewriteReply header) = silent r
+unfoldable pub atChunk : (blocks : ℕ) → Epoch → Record → Header → Sort → Arrived
+atChunk blocks current r header (Sort.Request epoch Request.Read) = arrived blocks current r header epoch Kind.Read
+atChunk blocks current r header (Sort.Request epoch (Request.Prewrite v)) = arrived blocks current r header epoch (Kind.Undecided v)
+atChunk blocks current r header (Sort.Request epoch Request.Commit) = decides blocks r header true
+atChunk blocks current r header (Sort.Request epoch Request.Abort) = decides blocks r header false
+atChunk blocks current r header (Sort.Refusal x) = silent r
+atChunk blocks current r header (Sort.ReadReply v) = silent r
+atChunk blocks current r header Sort.PrewriteReply = silent r
+
+-- "A failed or nolease chunk .. take no notice"
+abbrev pub arrives : (blocks : ℕ) → Chunk → Record → Message → Arrived
+arrives blocks c r m = if isNormal (c .state) then atChunk blocks (c .epoch) r (headerOf m) (sortOf m) else silent r
 
 -- ---- "9 run (chunk, block): normal, head exists and isn't undecided (2); room if the head is a read (5)"
 
@@ -106,8 +111,8 @@ runs chunk block r e (Kind.Aborted v) = silent r
 runs chunk block r e (Kind.Committed v) = silent (withWrite (withValue r v) (later (r .write) (e .timestamp)))
 runs chunk block r e Kind.Read =
     let header = headed (e .sender) chunk block (e .timestamp) in
-    if e .timestamp below r .write then answering r (Message.OutOfOrder header) else
-    answering (withRead r (later (r .read) (e .timestamp))) (Message.ReadReply header (r .value))
+    if e .timestamp below r .write then refusing r header Refusal.OutOfOrder else
+    answering (withRead r (later (r .read) (e .timestamp))) header (Sort.ReadReply (r .value))
 -- (never: an undecided head is refused)
 runs chunk block r e (Kind.Undecided v) = silent r
 

@@ -5,12 +5,13 @@ use mathlib.Core.List.{List}
 use lib.ListN.{getD}
 use lib.Dec.{eqb, ltb}
 use Rattle.rules.specs.Types.{Set, State, Chunk, Action, Operation, Host, Header, Message, Slot, Table, Copy, Event, Outcome, Answer}
-use Rattle.rules.specs.Chunks.{atChunk, runRefusals, ran, failRefusals, failed, emptied, recoverRefusals, recovered, takeLeaseRefusals, leaseTaken, giveLeaseRefusals, leaseGiven, overdueRefusals, overdue}
+use Rattle.rules.specs.Chunks.{arrives, runRefusals, ran, failRefusals, failed, emptied, recoverRefusals, recovered, takeLeaseRefusals, leaseTaken, giveLeaseRefusals, leaseGiven, overdueRefusals, overdue}
 use Rattle.rules.specs.Codes.{Row, _gives_⨾_, granted, codeOf}
 use Rattle.rules.specs.Formed.{wellFormed}
-use Rattle.rules.specs.Hosts.{front, intakeRefusals, appended, startRefusals, openingTo, opening, started, atHost, finishRefusals, closingTo, closing, finishOutcome, finished, timeoutRefusals, timedOut, workingRefusals, refreshed, stopped}
-use Rattle.rules.specs.Kinds.{isNormal, isFailed, headerOf, isForChunk, headed}
+use Rattle.rules.specs.Hosts.{front, intakeRefusals, appended, startRefusals, openingTo, opening, started, hears, finishRefusals, closingTo, closing, finishOutcome, finished, timeoutRefusals, timedOut, workingRefusals, refreshed, stopped}
+use Rattle.rules.specs.Kinds.{isFailed}
 use Rattle.rules.specs.Limits.{chunkLimit, blockLimit, placeLimit, greatestClock, upTo, oneTo}
+use Rattle.rules.specs.Messages.{headed, headerOf, sortOf, asking, isForChunk}
 use Rattle.rules.specs.Network.{freePlaces, removed, howMany, sentToEach, replied, placeRefusals}
 use Rattle.rules.specs.Settlement.{settled, allLost}
 use Rattle.rules.specs.Tables.{isHost, isChunk, isBlock, setOf, hostOf, chunkOf, recordOf, recordsBy, slotOf, withEpoch, withChunks, withRecords, withPlaces, withHost, withChunk, withRecord}
@@ -81,7 +82,7 @@ module _ (t : Table) where
         ranges = isHost (t .creation) host && oneTo greatestClock clock && isChunk (t .creation) copy;
         refusals = startRefusals h clock copy (holdersOf h) (freePlaces (t .places)) (howMany to);
         effect = quietly (withPlaces (withHost t host (started h now clock to))
-            (sentToEach (t .places) to (λ chunk. opening (headed host chunk (o .block) now) (h .epoch) (o .action))));
+            (sentToEach (t .places) to (λ chunk. asking (headed host chunk (o .block) now) (h .epoch) (opening (o .action)))));
       }
 
   -- "6 finish (host)"
@@ -95,7 +96,7 @@ module _ (t : Table) where
         refusals = finishRefusals h (freePlaces (t .places)) (howMany to);
         effect = record {
           table = withPlaces (withHost t host (finished h))
-              (sentToEach (t .places) to (λ chunk. closing (h .attempt .okay) (headed host chunk (o .block) (h .attempt .timestamp)) (h .epoch)));
+              (sentToEach (t .places) to (λ chunk. asking (headed host chunk (o .block) (h .attempt .timestamp)) (h .epoch) (closing (h .attempt .okay))));
           outcome = finishOutcome host h;
         };
       }
@@ -123,25 +124,20 @@ module _ (t : Table) where
 
   -- ---- the network
 
-  -- "A failed or nolease chunk .. take no notice"
+  -- "Its reply, if any, takes the lowest free place"
   abbrev pub chunkTakes : Header → Message → Table
   chunkTakes header m =
       let c = header .chunk in
       let b = header .block in
-      let a = atChunk (t .creation .blocks) (chunkOf t c .epoch) (recordOf t c b) m in
-      if isNormal (chunkOf t c .state) then withPlaces (withRecord t c b (a .block)) (replied (t .places) (a .reply)) else
-      t
+      let a = arrives (t .creation .blocks) (chunkOf t c) (recordOf t c b) m in
+      withPlaces (withRecord t c b (a .block)) (replied (t .places) (a .reply))
 
-  -- ".. and a stopped host take no notice"
   abbrev pub hostTakes : Header → Message → Table
-  hostTakes header m =
-      let h = header .host in
-      if hostOf t h .working then withHost t h (atHost (hostOf t h) m) else
-      t
+  hostTakes header m = withHost t (header .host) (hears (hostOf t (header .host)) m)
 
   abbrev pub takes : Slot → Table
   takes Slot.Empty = t
-  takes (Slot.Full m) = if isForChunk m then chunkTakes (headerOf m) m else hostTakes (headerOf m) m
+  takes (Slot.Full m) = if isForChunk (sortOf m) then chunkTakes (headerOf m) m else hostTakes (headerOf m) m
 
 module _ (t : Table) where
   abbrev pub placeRule : (place b c : ℕ) → Table → Rule

@@ -4,14 +4,21 @@ use Prim.Native.Nat.{ℕ, _-_}
 use mathlib.Core.Bool.{Bool, true, false, not, _&&_, _||_}
 use lib.ListN.{getD}
 use lib.Dec.{ltb, leb}
-use Rattle.rules.specs.Types.{Epoch, Creation, Entry, Waiting, Record, Chunk, Operation, Queue, Attempt, Host, Message, Slot, Table}
+use Rattle.rules.specs.Types.{Epoch, Creation, Entry, Waiting, Record, Chunk, Operation, Queue, Attempt, Host, Header, Message, Sort, Slot, Table}
 use Rattle.rules.specs.Creation.{isCreation, ofStore}
-use Rattle.rules.specs.Kinds.{headerOf, epochOf}
 use Rattle.rules.specs.Limits.{hostLimit, chunkLimit, blockLimit, operationLimit, waitingLimit, placeLimit, greatestClock, upTo}
+use Rattle.rules.specs.Messages.{headerOf, sortOf}
 use Rattle.rules.specs.Tables.{isHost, isChunk, isBlock, hostOf, chunkOf, recordOf, slotOf}
 use Rattle.rules.specs.Timestamps.{_above_, _same_, never, isTimestamp, isEpoch}
 use Rattle.rules.specs.Words.{if_then_else_, every, numbers}
 use Rattle.rules.specs.Zero.{zeroEntry, isZeroEntry, isZeroRecord, isZeroChunk, zeroOperation, isZeroOperation, isZeroAttempt, isZeroHost}
+
+-- of a message's own numbers the epoch has a range: "the first four also the epoch the host knows"
+abbrev pub sortFormed : Sort → Bool
+sortFormed (Sort.Request epoch q) = isEpoch epoch
+sortFormed (Sort.Refusal x) = true
+sortFormed (Sort.ReadReply v) = true
+sortFormed Sort.PrewriteReply = true
 
 module _ (k : Creation) where
   -- ---- a host: "up to 8 operations, counting the current one; .. epoch known; .. last clock drawn"
@@ -64,10 +71,11 @@ module _ (k : Creation) where
 
   -- ---- a message: "a message's block may be 0 to 15 and a timestamp anything up to 34,359,738,367"
 
+  abbrev pub headerFormed : Header → Bool
+  headerFormed h = isHost k (h .host) && isChunk k (h .chunk) && ltb (h .block) blockLimit && isTimestamp (h .timestamp)
+
   abbrev pub messageFormed : Message → Bool
-  messageFormed m =
-      let h = headerOf m in
-      isHost k (h .host) && isChunk k (h .chunk) && ltb (h .block) blockLimit && isTimestamp (h .timestamp) && isEpoch (epochOf m)
+  messageFormed m = headerFormed (headerOf m) && sortFormed (sortOf m)
 
   abbrev pub slotFormed : Slot → Bool
   slotFormed Slot.Empty = true

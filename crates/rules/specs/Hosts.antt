@@ -4,10 +4,11 @@ use mathlib.Core.Bool.{Bool, true, false, not, _&&_}
 use mathlib.Core.List.{List, [], _∷_, _++_}
 use lib.ListN.{getD, set, take, drop, length}
 use lib.Dec.{eqb, ltb, leb}
-use Rattle.rules.specs.Types.{Timestamp, Epoch, Set, Action, Operation, Queue, Attempt, Host, Header, Message, Outcome}
+use Rattle.rules.specs.Types.{Timestamp, Epoch, Set, Action, Operation, Queue, Attempt, Host, Message, Request, Refusal, Sort, Outcome}
 use Rattle.rules.specs.Codes.{Row, _gives_⨾_, granted}
-use Rattle.rules.specs.Kinds.{isReading, headerOf}
+use Rattle.rules.specs.Kinds.{isReading}
 use Rattle.rules.specs.Limits.{chunkLimit, operationLimit}
+use Rattle.rules.specs.Messages.{headerOf, sortOf}
 use Rattle.rules.specs.Timestamps.{never, _is_, _above_}
 use Rattle.rules.specs.Words.{if_then_else_, each, numbers, filled}
 use Rattle.rules.specs.Zero.{_among_, isEmpty, zeroSet, zeroOperation, zeroAttempt}
@@ -97,9 +98,9 @@ abbrev pub openingTo : Action → (copy : ℕ) → (holders : Set) → Set
 openingTo Action.Read copy holders = only copy
 openingTo (Action.Write v) copy holders = holders
 
-abbrev pub opening : Header → Epoch → Action → Message
-opening header epoch Action.Read = Message.Read header epoch
-opening header epoch (Action.Write v) = Message.Prewrite header epoch v
+abbrev pub opening : Action → Request
+opening Action.Read = Request.Read
+opening (Action.Write v) = Request.Prewrite v
 
 -- "The front waiting operation becomes the current one. Okay and restart become true, the result value 0. .. Those are
 -- outstanding. For drawing, each host's clock keeper hands out a number and remembers it"
@@ -110,24 +111,18 @@ started h t clock to =
 -- ---- a reply at a host
 
 -- "a read or prewrite reply suits the operation"
-abbrev pub suits : (reading : Bool) → Message → Bool
-suits reading (Message.ReadReply header v) = reading
-suits reading (Message.PrewriteReply header) = not reading
-suits reading (Message.Mismatch header) = true
-suits reading (Message.Error header) = true
-suits reading (Message.OutOfOrder header) = true
-suits reading (Message.Busy header) = true
-suits reading (Message.Read header epoch) = true
-suits reading (Message.Prewrite header epoch v) = true
-suits reading (Message.Commit header epoch) = true
-suits reading (Message.Abort header epoch) = true
+abbrev pub suits : (reading : Bool) → Sort → Bool
+suits reading (Sort.ReadReply v) = reading
+suits reading Sort.PrewriteReply = not reading
+suits reading (Sort.Refusal x) = true
+suits reading (Sort.Request epoch q) = true
 
 -- "a reply counts only if its timestamp is the current one, its chunk is outstanding, and a read or prewrite reply suits the
 -- operation"
 abbrev pub counts : Host → Message → Bool
 counts h m =
     headerOf m .timestamp is h .attempt .timestamp && headerOf m .chunk among h .attempt .outstanding
-    && suits (isReading (front h .action)) m
+    && suits (isReading (front h .action)) (sortOf m)
 
 -- "The chunk is then no longer outstanding"
 abbrev pub answeredBy : Attempt → (chunk : ℕ) → Attempt
@@ -135,20 +130,21 @@ answeredBy a c = withOutstanding a (record { chunks = set (a .outstanding .chunk
 
 -- "Mismatch, out of order, busy and error clear okay; mismatch also makes the map not current; error clears restart. A read
 -- reply sets the result value." (Requests go to chunks.)
-abbrev pub heard : Host → Attempt → Message → Host
-heard h a (Message.Mismatch header) = withMapped (withAttempt h (withOkay a false)) false
-heard h a (Message.OutOfOrder header) = withAttempt h (withOkay a false)
-heard h a (Message.Busy header) = withAttempt h (withOkay a false)
-heard h a (Message.Error header) = withAttempt h (withRestart (withOkay a false) false)
-heard h a (Message.ReadReply header v) = withAttempt h (withResult a v)
-heard h a (Message.PrewriteReply header) = withAttempt h a
-heard h a (Message.Read header epoch) = h
-heard h a (Message.Prewrite header epoch v) = h
-heard h a (Message.Commit header epoch) = h
-heard h a (Message.Abort header epoch) = h
+abbrev pub heard : Host → Attempt → Sort → Host
+heard h a (Sort.Refusal Refusal.Mismatch) = withMapped (withAttempt h (withOkay a false)) false
+heard h a (Sort.Refusal Refusal.OutOfOrder) = withAttempt h (withOkay a false)
+heard h a (Sort.Refusal Refusal.Busy) = withAttempt h (withOkay a false)
+heard h a (Sort.Refusal Refusal.Error) = withAttempt h (withRestart (withOkay a false) false)
+heard h a (Sort.ReadReply v) = withAttempt h (withResult a v)
+heard h a Sort.PrewriteReply = withAttempt h a
+heard h a (Sort.Request epoch q) = h
 
 unfoldable pub atHost : Host → Message → Host
-atHost h m = if counts h m then heard h (answeredBy (h .attempt) (headerOf m .chunk)) m else h
+atHost h m = if counts h m then heard h (answeredBy (h .attempt) (headerOf m .chunk)) (sortOf m) else h
+
+-- ".. and a stopped host take no notice"
+abbrev pub hears : Host → Message → Host
+hears h m = if h .working then atHost h m else h
 
 -- ---- "6 finish (host). Needs working, a current operation, nothing outstanding (2); room for a write's messages (5)"
 
@@ -166,8 +162,8 @@ closingTo Action.Read holders = zeroSet
 closingTo (Action.Write v) holders = holders
 
 -- "Okay write: commit to each chunk of the set .. Not okay: abort to each"
-abbrev pub closing : (okay : Bool) → Header → Epoch → Message
-closing okay header epoch = if okay then Message.Commit header epoch else Message.Abort header epoch
+abbrev pub closing : (okay : Bool) → Request
+closing okay = if okay then Request.Commit else Request.Abort
 
 -- "Okay write: .. write done .. Okay read: read done"
 abbrev pub doneAs : (host : ℕ) → Operation → Action → (result : ℕ) → Outcome

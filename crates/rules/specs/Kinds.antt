@@ -1,8 +1,7 @@
 -- The enums, case by case
 use Prim.Native.Nat.{ℕ}
 use mathlib.Core.Bool.{Bool, true, false, not}
-use Rattle.rules.specs.Types.{Timestamp, Epoch, Kind, State, Action, Header, Message, Slot}
-use Rattle.rules.specs.Timestamps.{noEpoch}
+use Rattle.rules.specs.Types.{Kind, State, Action, Slot}
 
 -- ---- an entry: "a read, an undecided write, a committed write or an aborted write; a write has its value"
 
@@ -55,48 +54,6 @@ isFailed State.Failed = true
 abbrev pub isReading : Action → Bool
 isReading Action.Read = true
 isReading (Action.Write v) = false
-
--- ---- a message: "Each has host, chunk, block and timestamp; the first four also the epoch the host knows"
-
-abbrev pub headerOf : Message → Header
-headerOf (Message.Read h e) = h
-headerOf (Message.Prewrite h e v) = h
-headerOf (Message.Commit h e) = h
-headerOf (Message.Abort h e) = h
-headerOf (Message.Mismatch h) = h
-headerOf (Message.Error h) = h
-headerOf (Message.OutOfOrder h) = h
-headerOf (Message.Busy h) = h
-headerOf (Message.ReadReply h v) = h
-headerOf (Message.PrewriteReply h) = h
-
-abbrev pub epochOf : Message → Epoch
-epochOf (Message.Read h e) = e
-epochOf (Message.Prewrite h e v) = e
-epochOf (Message.Commit h e) = e
-epochOf (Message.Abort h e) = e
-epochOf (Message.Mismatch h) = noEpoch
-epochOf (Message.Error h) = noEpoch
-epochOf (Message.OutOfOrder h) = noEpoch
-epochOf (Message.Busy h) = noEpoch
-epochOf (Message.ReadReply h v) = noEpoch
-epochOf (Message.PrewriteReply h) = noEpoch
-
--- read, prewrite, commit and abort go to the chunk, the others to the host
-abbrev pub isForChunk : Message → Bool
-isForChunk (Message.Read h e) = true
-isForChunk (Message.Prewrite h e v) = true
-isForChunk (Message.Commit h e) = true
-isForChunk (Message.Abort h e) = true
-isForChunk (Message.Mismatch h) = false
-isForChunk (Message.Error h) = false
-isForChunk (Message.OutOfOrder h) = false
-isForChunk (Message.Busy h) = false
-isForChunk (Message.ReadReply h v) = false
-isForChunk (Message.PrewriteReply h) = false
-
-abbrev pub headed : (host chunk block : ℕ) → Timestamp → Header
-headed host chunk block t = record { host = host; chunk = chunk; block = block; timestamp = t }
 
 -- ---- a place of the network
 

@@ -3,6 +3,7 @@ pub mod Types
 pub mod Limits
 pub mod Timestamps
 pub mod Kinds
+pub mod Messages
 pub mod Zero
 pub mod Tables
 pub mod Codes

@@ -16,6 +16,9 @@ pub use Rattle.rules.specs.declared.Attempt.{Attempt}
 pub use Rattle.rules.specs.declared.Host.{Host}
 pub use Rattle.rules.specs.declared.Header.{Header}
 pub use Rattle.rules.specs.declared.Message.{Message}
+pub use Rattle.rules.specs.declared.Request.{Request}
+pub use Rattle.rules.specs.declared.Refusal.{Refusal}
+pub use Rattle.rules.specs.declared.Sort.{Sort}
 pub use Rattle.rules.specs.declared.Slot.{Slot}
 pub use Rattle.rules.specs.declared.Place.{Place}
 pub use Rattle.rules.specs.declared.Table.{Table}

@@ -129,41 +129,96 @@ pub struct Header {
 // A message carries only its own kind's numbers; epoch is the one that the host knows.
 pub enum Message {
     Read {
-        header: Header,
+        host: u64,
+        chunk: u64,
+        block: u64,
+        timestamp: Timestamp,
         epoch: Epoch,
     },
     Prewrite {
-        header: Header,
+        host: u64,
+        chunk: u64,
+        block: u64,
+        timestamp: Timestamp,
         epoch: Epoch,
         value: u64,
     },
     Commit {
-        header: Header,
+        host: u64,
+        chunk: u64,
+        block: u64,
+        timestamp: Timestamp,
         epoch: Epoch,
     },
     Abort {
-        header: Header,
+        host: u64,
+        chunk: u64,
+        block: u64,
+        timestamp: Timestamp,
         epoch: Epoch,
     },
     Mismatch {
-        header: Header,
+        host: u64,
+        chunk: u64,
+        block: u64,
+        timestamp: Timestamp,
     },
     Error {
-        header: Header,
+        host: u64,
+        chunk: u64,
+        block: u64,
+        timestamp: Timestamp,
     },
     OutOfOrder {
-        header: Header,
+        host: u64,
+        chunk: u64,
+        block: u64,
+        timestamp: Timestamp,
     },
     Busy {
-        header: Header,
+        host: u64,
+        chunk: u64,
+        block: u64,
+        timestamp: Timestamp,
     },
     ReadReply {
-        header: Header,
+        host: u64,
+        chunk: u64,
+        block: u64,
+        timestamp: Timestamp,
         value: u64,
     },
     PrewriteReply {
-        header: Header,
+        host: u64,
+        chunk: u64,
+        block: u64,
+        timestamp: Timestamp,
     },
+}
+
+// What a host asks of a chunk.
+pub enum Request {
+    Read,
+    Prewrite(u64),
+    Commit,
+    Abort,
+}
+
+// Why a chunk does not take a read or a prewrite, or cannot answer a read.
+pub enum Refusal {
+    Mismatch,
+    Error,
+    OutOfOrder,
+    Busy,
+}
+
+// Of which sort a message is, with the numbers that it has beside its header: a request, a plain refusal, a read reply or a
+// prewrite reply.
+pub enum Sort {
+    Request(Epoch, Request),
+    Refusal(Refusal),
+    ReadReply(u64),
+    PrewriteReply,
 }
 
 pub enum Slot {
