@@ -1,41 +1,207 @@
-// A message: whom it names, and whether it goes to its chunk or to its host.
+// A message: its header, of which sort it is, and the message of a sort with a header.
 ghost use mathlib.Core.Path.{_≡_};
-ghost use Rattle.rules.specs.Kinds.{headerOf, isForChunk};
+ghost use Rattle.rules.specs.Messages.{headed, headerOf, sortOf, messageOf, isForChunk};
 use rules::Header;
 use rules::Message;
+use rules::Refusal;
+use rules::Request;
+use rules::Sort;
+use rules::Timestamp;
+
+// What a message has in front.
+fn headed(host: u64, chunk: u64, block: u64, timestamp: Timestamp) -> Header
+    ensures { λ r. ⌜ r ≡ headed host chunk block timestamp ⌝ }
+{
+    Header {
+        host: host,
+        chunk: chunk,
+        block: block,
+        timestamp: timestamp,
+    }
+}
 
 // "Each has host, chunk, block and timestamp".
 pub fn header_of(m: Message) -> Header
     ensures { λ r. ⌜ r ≡ headerOf m ⌝ }
 {
     match m {
-        Message::Read { header, .. } => header,
-        Message::Prewrite { header, .. } => header,
-        Message::Commit { header, .. } => header,
-        Message::Abort { header, .. } => header,
-        Message::Mismatch { header } => header,
-        Message::Error { header } => header,
-        Message::OutOfOrder { header } => header,
-        Message::Busy { header } => header,
-        Message::ReadReply { header, .. } => header,
-        Message::PrewriteReply { header } => header,
+        Message::Read {
+            host,
+            chunk,
+            block,
+            timestamp,
+            ..
+        } => headed(host, chunk, block, timestamp),
+        Message::Prewrite {
+            host,
+            chunk,
+            block,
+            timestamp,
+            ..
+        } => headed(host, chunk, block, timestamp),
+        Message::Commit {
+            host,
+            chunk,
+            block,
+            timestamp,
+            ..
+        } => headed(host, chunk, block, timestamp),
+        Message::Abort {
+            host,
+            chunk,
+            block,
+            timestamp,
+            ..
+        } => headed(host, chunk, block, timestamp),
+        Message::Mismatch {
+            host,
+            chunk,
+            block,
+            timestamp,
+        } => headed(host, chunk, block, timestamp),
+        Message::Error {
+            host,
+            chunk,
+            block,
+            timestamp,
+        } => headed(host, chunk, block, timestamp),
+        Message::OutOfOrder {
+            host,
+            chunk,
+            block,
+            timestamp,
+        } => headed(host, chunk, block, timestamp),
+        Message::Busy {
+            host,
+            chunk,
+            block,
+            timestamp,
+        } => headed(host, chunk, block, timestamp),
+        Message::ReadReply {
+            host,
+            chunk,
+            block,
+            timestamp,
+            ..
+        } => headed(host, chunk, block, timestamp),
+        Message::PrewriteReply {
+            host,
+            chunk,
+            block,
+            timestamp,
+        } => headed(host, chunk, block, timestamp),
+    }
+}
+
+// "the first four also the epoch the host knows; a prewrite and a read reply a value".
+pub fn sort_of(m: Message) -> Sort
+    ensures { λ r. ⌜ r ≡ sortOf m ⌝ }
+{
+    match m {
+        Message::Read { epoch, .. } => Sort::Request(epoch, Request::Read),
+        Message::Prewrite { epoch, value, .. } => Sort::Request(epoch, Request::Prewrite(value)),
+        Message::Commit { epoch, .. } => Sort::Request(epoch, Request::Commit),
+        Message::Abort { epoch, .. } => Sort::Request(epoch, Request::Abort),
+        Message::Mismatch { .. } => Sort::Refusal(Refusal::Mismatch),
+        Message::Error { .. } => Sort::Refusal(Refusal::Error),
+        Message::OutOfOrder { .. } => Sort::Refusal(Refusal::OutOfOrder),
+        Message::Busy { .. } => Sort::Refusal(Refusal::Busy),
+        Message::ReadReply { value, .. } => Sort::ReadReply(value),
+        Message::PrewriteReply { .. } => Sort::PrewriteReply,
+    }
+}
+
+// The message of a sort with a header.
+pub fn message_of(header: Header, sort: Sort) -> Message
+    ensures { λ r. ⌜ r ≡ messageOf header sort ⌝ }
+{
+    let host = header.host;
+    let chunk = header.chunk;
+    let block = header.block;
+    let timestamp = header.timestamp;
+    match sort {
+        Sort::Request(epoch, request) => match request {
+            Request::Read => Message::Read {
+                host,
+                chunk,
+                block,
+                timestamp,
+                epoch,
+            },
+            Request::Prewrite(value) => Message::Prewrite {
+                host,
+                chunk,
+                block,
+                timestamp,
+                epoch,
+                value,
+            },
+            Request::Commit => Message::Commit {
+                host,
+                chunk,
+                block,
+                timestamp,
+                epoch,
+            },
+            Request::Abort => Message::Abort {
+                host,
+                chunk,
+                block,
+                timestamp,
+                epoch,
+            },
+        },
+        Sort::Refusal(why) => match why {
+            Refusal::Mismatch => Message::Mismatch {
+                host,
+                chunk,
+                block,
+                timestamp,
+            },
+            Refusal::Error => Message::Error {
+                host,
+                chunk,
+                block,
+                timestamp,
+            },
+            Refusal::OutOfOrder => Message::OutOfOrder {
+                host,
+                chunk,
+                block,
+                timestamp,
+            },
+            Refusal::Busy => Message::Busy {
+                host,
+                chunk,
+                block,
+                timestamp,
+            },
+        },
+        Sort::ReadReply(value) => Message::ReadReply {
+            host,
+            chunk,
+            block,
+            timestamp,
+            value,
+        },
+        Sort::PrewriteReply => Message::PrewriteReply {
+            host,
+            chunk,
+            block,
+            timestamp,
+        },
     }
 }
 
 // Requests go to the chunk, replies to the host.
 pub fn is_for_chunk(m: Message) -> bool
-    ensures { λ r. ⌜ r ≡ isForChunk m ⌝ }
+    ensures { λ r. ⌜ r ≡ isForChunk (sortOf m) ⌝ }
 {
-    match m {
-        Message::Read { .. } => true,
-        Message::Prewrite { .. } => true,
-        Message::Commit { .. } => true,
-        Message::Abort { .. } => true,
-        Message::Mismatch { .. } => false,
-        Message::Error { .. } => false,
-        Message::OutOfOrder { .. } => false,
-        Message::Busy { .. } => false,
-        Message::ReadReply { .. } => false,
-        Message::PrewriteReply { .. } => false,
+    let sort = sort_of(m);
+    match sort {
+        Sort::Request(_, _) => true,
+        Sort::Refusal(_) => false,
+        Sort::ReadReply(_) => false,
+        Sort::PrewriteReply => false,
     }
 }
