@@ -10,30 +10,32 @@ use Rattle.rules.specs.declared.Record.{Record}
 use Rattle.rules.specs.declared.Chunk.{Chunk}
 use Rattle.rules.specs.declared.Header.{Header}
 use Rattle.rules.specs.declared.Message.{Message}
-use Rattle.rules.specs.Chunks.{withWaiting, answering, silent, isOutOfOrder, waits, arrived, decides, entryOf, atChunk}
+use Rattle.rules.specs.declared.Refusal.{Refusal}
+use Rattle.rules.specs.declared.Sort.{Sort}
+use Rattle.rules.specs.Chunks.{withWaiting, answering, refusing, silent, isOutOfOrder, waits, arrived, decides, entryOf, atChunk, arrives}
 use Rattle.rules.specs.Kinds.{isRead, isNormal}
+use Rattle.rules.specs.Messages.{headerOf, sortOf}
 use Rattle.rules.specs.Waiting.{inserted, marked}
-use Rattle.arrival.specs.Arrivals.{arrives}
 
 -- ---- "Read or prewrite at a chunk, in this order"
 
 module _ (blocks : ℕ) (current : Epoch) (r : Record) (header : Header) (epoch : Epoch) (kind : Kind) where
-  pub mismatch : (epoch .0 ≡ current .0 → ⊥) → answering r (Message.Mismatch header) ≡ arrived blocks current r header epoch kind
+  pub mismatch : (epoch .0 ≡ current .0 → ⊥) → refusing r header Refusal.Mismatch ≡ arrived blocks current r header epoch kind
   unfolding arrived
   mismatch h = rw (ne-eqb _ _ h) refl
 
   module _ (known : epoch .0 ≡ current .0) where
-    pub outside : blocks ≤ header .block → answering r (Message.Error header) ≡ arrived blocks current r header epoch kind
+    pub outside : blocks ≤ header .block → refusing r header Refusal.Error ≡ arrived blocks current r header epoch kind
     unfolding arrived
     outside h = rw (eq-eqb _ _ known, le-ltb _ _ h) refl
 
     module _ (inside : header .block < blocks) where
-      pub disorder : isOutOfOrder kind (header .timestamp) r ≡ true → answering r (Message.OutOfOrder header) ≡ arrived blocks current r header epoch kind
+      pub disorder : isOutOfOrder kind (header .timestamp) r ≡ true → refusing r header Refusal.OutOfOrder ≡ arrived blocks current r header epoch kind
       unfolding arrived
       disorder h = rw (eq-eqb _ _ known, lt-ltb _ _ inside, h) refl
 
       module _ (order : isOutOfOrder kind (header .timestamp) r ≡ false) where
-        pub full : 8 ≤ r .waiting .count → answering r (Message.Busy header) ≡ arrived blocks current r header epoch kind
+        pub full : 8 ≤ r .waiting .count → refusing r header Refusal.Busy ≡ arrived blocks current r header epoch kind
         unfolding arrived
         full h = rw (eq-eqb _ _ known, lt-ltb _ _ inside, order, le-leb _ _ h) refl
 
@@ -45,7 +47,7 @@ module _ (r : Record) (header : Header) (epoch : Epoch) (kind : Kind) (w : Waiti
   pub read-waits : isRead kind ≡ true → silent (withWaiting r w) ≡ waits r header epoch kind
   read-waits h = rw (h, put) refl
 
-  pub prewrite-waits : isRead kind ≡ false → answering (withWaiting r w) (Message.PrewriteReply header) ≡ waits r header epoch kind
+  pub prewrite-waits : isRead kind ≡ false → answering (withWaiting r w) header Sort.PrewriteReply ≡ waits r header epoch kind
   prewrite-waits h = rw (h, put) refl
 
 -- ---- "Commit and abort"
@@ -62,7 +64,7 @@ module _ (blocks : ℕ) (r : Record) (header : Header) (commit : Bool) where
 -- ---- a message at a chunk, by its state
 
 module _ (blocks : ℕ) (c : Chunk) (r : Record) (m : Message) where
-  pub noticed : isNormal (c .state) ≡ true → atChunk blocks (c .epoch) r m ≡ arrives blocks c r m
+  pub noticed : isNormal (c .state) ≡ true → atChunk blocks (c .epoch) r (headerOf m) (sortOf m) ≡ arrives blocks c r m
   noticed h = rw h refl
 
   pub unnoticed : isNormal (c .state) ≡ false → silent r ≡ arrives blocks c r m

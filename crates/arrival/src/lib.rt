@@ -1,7 +1,7 @@
 // A message arrives at a chunk: what it makes of the chunk's record of its block, and the reply.
 ghost use mathlib.Core.Path.{_≡_};
-ghost use Rattle.rules.specs.Chunks.{answering, silent, isOutOfOrder, waits, arrived, decides, atChunk};
-ghost use Rattle.arrival.specs.Arrivals.{arrives};
+ghost use Rattle.rules.specs.Chunks.{answering, refusing, silent, isOutOfOrder, waits, arrived, decides, atChunk, arrives};
+ghost use Rattle.rules.specs.Messages.{headerOf, sortOf};
 use rules::Arrived;
 use rules::Chunk;
 use rules::Entry;
@@ -10,17 +10,27 @@ use rules::Header;
 use rules::Kind;
 use rules::Message;
 use rules::Record;
+use rules::Refusal;
 use rules::Slot;
+use rules::Sort;
 use rules::Timestamp;
 
 // The record, with a reply.
-fn answering(r: Record, m: Message) -> Arrived
-    ensures { λ a. ⌜ a ≡ answering r m ⌝ }
+fn answering(r: Record, header: Header, sort: Sort) -> Arrived
+    ensures { λ a. ⌜ a ≡ answering r header sort ⌝ }
 {
+    let m = messages::message_of(header, sort);
     Arrived {
         block: r,
         reply: Slot::Full(m),
     }
+}
+
+// The record as it was, and the sender hears why.
+fn refusing(r: Record, header: Header, why: Refusal) -> Arrived
+    ensures { λ a. ⌜ a ≡ refusing r header why ⌝ }
+{
+    answering(r, header, Sort::Refusal(why))
 }
 
 // The record, with no reply.
@@ -58,7 +68,7 @@ fn waits(r: Record, header: Header, epoch: Epoch, kind: Kind) -> Arrived
     if kinds::is_read(kind) {
         return silent(out);
     }
-    answering(out, Message::PrewriteReply { header: header })
+    answering(out, header, Sort::PrewriteReply)
 }
 
 // "Read or prewrite at a chunk, in this order": version mismatch, error, out of order, busy; else it waits.
@@ -73,18 +83,18 @@ fn read_or_prewrite(
     ensures { λ a. ⌜ a ≡ arrived blocks current r header epoch kind ⌝ }
 {
     if epoch.0 != current.0 {
-        return answering(r, Message::Mismatch { header: header });
+        return refusing(r, header, Refusal::Mismatch);
     }
     if blocks <= header.block {
-        return answering(r, Message::Error { header: header });
+        return refusing(r, header, Refusal::Error);
     }
     let t = header.timestamp;
     if is_out_of_order(kind, t, r) {
-        return answering(r, Message::OutOfOrder { header: header });
+        return refusing(r, header, Refusal::OutOfOrder);
     }
     let w = r.waiting;
     if rules::WAITING as u64 <= w.count {
-        return answering(r, Message::Busy { header: header });
+        return refusing(r, header, Refusal::Busy);
     }
     waits(r, header, epoch, kind)
 }
@@ -106,10 +116,11 @@ fn commit_or_abort(blocks: u64, r: Record, header: Header, commit: bool) -> Arri
 
 // A message at a chunk of the given epoch, with its record of the message's block. (Replies go to hosts.)
 fn at_chunk(blocks: u64, current: Epoch, r: Record, m: Message) -> Arrived
-    ensures { λ a. ⌜ a ≡ atChunk blocks current r m ⌝ }
+    ensures { λ a. ⌜ a ≡ atChunk blocks current r (headerOf m) (sortOf m) ⌝ }
 {
+    let header = messages::header_of(m);
     match m {
-        Message::Read { header, epoch } => read_or_prewrite(
+        Message::Read { epoch, .. } => read_or_prewrite(
             blocks,
             current,
             r,
@@ -117,13 +128,16 @@ fn at_chunk(blocks: u64, current: Epoch, r: Record, m: Message) -> Arrived
             epoch,
             Kind::Read,
         ),
-        Message::Prewrite {
+        Message::Prewrite { epoch, value, .. } => read_or_prewrite(
+            blocks,
+            current,
+            r,
             header,
             epoch,
-            value,
-        } => read_or_prewrite(blocks, current, r, header, epoch, Kind::Undecided(value)),
-        Message::Commit { header, epoch: _ } => commit_or_abort(blocks, r, header, true),
-        Message::Abort { header, epoch: _ } => commit_or_abort(blocks, r, header, false),
+            Kind::Undecided(value),
+        ),
+        Message::Commit { .. } => commit_or_abort(blocks, r, header, true),
+        Message::Abort { .. } => commit_or_abort(blocks, r, header, false),
         Message::Mismatch { .. } => silent(r),
         Message::Error { .. } => silent(r),
         Message::OutOfOrder { .. } => silent(r),

@@ -2,12 +2,13 @@
 ghost use mathlib.Core.Path.{_≡_};
 ghost use mathlib.Core.Bool.{false};
 ghost use lib.ListN.{set};
-ghost use Rattle.rules.specs.Hosts.{suits, counts, answeredBy, heard};
-ghost use Rattle.replies.specs.Replies.{hears};
+ghost use Rattle.rules.specs.Hosts.{suits, counts, answeredBy, heard, hears};
+ghost use Rattle.rules.specs.Messages.{sortOf};
 use rules::Attempt;
 use rules::Host;
 use rules::Message;
 use rules::Set;
+use rules::Sort;
 
 // The set with one chunk taken out.
 fn without(s: Set, chunk: u64) -> Set
@@ -22,20 +23,14 @@ fn without(s: Set, chunk: u64) -> Set
 }
 
 // "a read or prewrite reply suits the operation".
-fn suits(reading: bool, m: Message) -> bool
-    ensures { λ r. ⌜ r ≡ suits reading m ⌝ }
+fn suits(reading: bool, sort: Sort) -> bool
+    ensures { λ r. ⌜ r ≡ suits reading sort ⌝ }
 {
-    match m {
-        Message::ReadReply { .. } => reading,
-        Message::PrewriteReply { .. } => !reading,
-        Message::Mismatch { .. } => true,
-        Message::Error { .. } => true,
-        Message::OutOfOrder { .. } => true,
-        Message::Busy { .. } => true,
-        Message::Read { .. } => true,
-        Message::Prewrite { .. } => true,
-        Message::Commit { .. } => true,
-        Message::Abort { .. } => true,
+    match sort {
+        Sort::ReadReply(_) => reading,
+        Sort::PrewriteReply => !reading,
+        Sort::Refusal(_) => true,
+        Sort::Request(_, _) => true,
     }
 }
 
@@ -44,12 +39,13 @@ fn counts(h: Host, m: Message) -> bool
     ensures { λ r. ⌜ r ≡ counts h m ⌝ }
 {
     let header = messages::header_of(m);
+    let sort = messages::sort_of(m);
     let attempt = h.attempt;
     let o = operations::front(h);
     let a = o.action;
     (header.timestamp.0 == attempt.timestamp.0)
         & sets::among(header.chunk, attempt.outstanding)
-        & suits(kinds::is_reading(a), m)
+        & suits(kinds::is_reading(a), sort)
 }
 
 // "The chunk is then no longer outstanding".
@@ -64,9 +60,9 @@ fn answered_by(a: Attempt, chunk: u64) -> Attempt
 }
 
 // "Mismatch, out of order, busy and error clear okay; mismatch also makes the map not current; error clears restart. A
-// read reply sets the result value."
+// read reply sets the result value." (Requests go to chunks.)
 fn heard(h: Host, a: Attempt, m: Message) -> Host
-    ensures { λ r. ⌜ r ≡ heard h a m ⌝ }
+    ensures { λ r. ⌜ r ≡ heard h a (sortOf m) ⌝ }
 {
     let mut b = a;
     let mut out = h;
@@ -85,7 +81,7 @@ fn heard(h: Host, a: Attempt, m: Message) -> Host
             b.okay = false;
             b.restart = false;
         }
-        Message::ReadReply { header: _, value } => {
+        Message::ReadReply { value, .. } => {
             b.result = value;
         }
         Message::PrewriteReply { .. } => {}

@@ -5,40 +5,40 @@ use Rattle.arrival.proofs.Laws.{mismatch, outside, disorder, full, room
 use Rattle.arrival.proofs.read_or_prewrite.Statement.{statement}
 use Rattle.arrival.proofs.read_or_prewrite.Tie as tie
 
-answering-requires : tie.Need-answering-requires
-answering-requires c κs = search needs
+refusing-requires : tie.Need-refusing-requires
+refusing-requires c κs = search needs
 
 returns : tie.Need-returns
-returns c = c .answering .ensures ∙ mismatch _ _ _ _ _ _ (c .before .if1 .taken)
+returns c = c .refusing .ensures ∙ mismatch _ _ _ _ _ _ (c .before .if1 .taken)
 
-answering-requires-2 : tie.Need-answering-requires-2
-answering-requires-2 c κs = search needs
+refusing-requires-2 : tie.Need-refusing-requires-2
+refusing-requires-2 c κs = search needs
 
 returns-2 : tie.Need-returns-2
 returns-2 c =
     let u = c .before in
-    c .answering2 .ensures ∙ outside _ _ _ _ _ _ (u .before .before .if1 .left) (u .if2 .taken)
+    c .refusing2 .ensures ∙ outside _ _ _ _ _ _ (u .before .before .if1 .left) (u .if2 .taken)
 
 is-out-of-order-requires : tie.Need-is-out-of-order-requires
 is-out-of-order-requires c κs = search needs
 
-answering-requires-3 : tie.Need-answering-requires-3
-answering-requires-3 c κs = search needs
+refusing-requires-3 : tie.Need-refusing-requires-3
+refusing-requires-3 c κs = search needs
 
 returns-3 : tie.Need-returns-3
 returns-3 c =
     let u = c .before in
     let v = u .before .before .before in
-    c .answering3 .ensures ∙ disorder _ _ _ _ _ _ (v .before .before .if1 .left) (v .if2 .left) (sym (u .before .is-out-of-order .ensures) ∙ u .if3 .taken)
+    c .refusing3 .ensures ∙ disorder _ _ _ _ _ _ (v .before .before .if1 .left) (v .if2 .left) (sym (u .before .is-out-of-order .ensures) ∙ u .if3 .taken)
 
-answering-requires-4 : tie.Need-answering-requires-4
-answering-requires-4 c κs = search needs
+refusing-requires-4 : tie.Need-refusing-requires-4
+refusing-requires-4 c κs = search needs
 
 returns-4 : tie.Need-returns-4
 returns-4 c =
     let u = c .before .before .before .before in
     let v = u .before .before .before in
-    c .answering4 .ensures ∙ full _ _ _ _ _ _ (v .before .before .if1 .left) (v .if2 .left) (sym (u .before .is-out-of-order .ensures) ∙ u .if3 .left) (c .before .if4 .taken)
+    c .refusing4 .ensures ∙ full _ _ _ _ _ _ (v .before .before .if1 .left) (v .if2 .left) (sym (u .before .is-out-of-order .ensures) ∙ u .if3 .left) (c .before .if4 .taken)
 
 waits-requires : tie.Need-waits-requires
 waits-requires c κs = search needs
@@ -53,14 +53,14 @@ pub read-or-prewrite-spec : {M : Type 1} → statement M
 read-or-prewrite-spec =
     tie.close
     (tie.spec
-    answering-requires
+    refusing-requires
     returns
-    answering-requires-2
+    refusing-requires-2
     returns-2
     is-out-of-order-requires
-    answering-requires-3
+    refusing-requires-3
     returns-3
-    answering-requires-4
+    refusing-requires-4
     returns-4
     waits-requires
     returns-5)

@@ -7,6 +7,9 @@ use Rattle.replies.proofs.counts.Tie as tie
 header-of-requires : tie.Need-header-of-requires
 header-of-requires c κs = search needs
 
+sort-of-requires : tie.Need-sort-of-requires
+sort-of-requires c κs = search needs
+
 front-requires : tie.Need-front-requires
 front-requires c κs = search needs
 
@@ -24,12 +27,14 @@ returns c =
     let i = c .before in
     let m = i .before in
     let f = m .before .before .before in
+    let s = f .before .before in
     rw (
       c .suits .ensures,
       i .is-reading .ensures,
       m .among .ensures,
       f .front .ensures,
-      f .before .before .header-of .ensures,
+      s .sort-of .ensures,
+      s .before .header-of .ensures,
     ) refl
 
 pub counts-spec : {M : Type 1} → statement M
@@ -37,6 +42,7 @@ counts-spec =
     tie.close
     (tie.spec
     header-of-requires
+    sort-of-requires
     front-requires
     among-requires
     is-reading-requires
