@@ -16,9 +16,10 @@ use rules::Chunk;
 use rules::Entry;
 use rules::Header;
 use rules::Kind;
-use rules::Message;
 use rules::Record;
+use rules::Refusal;
 use rules::Slot;
+use rules::Sort;
 use rules::State;
 use rules::Timestamp;
 use rules::Waiting;
@@ -90,7 +91,7 @@ fn run_read(chunk: u64, block: u64, r: Record, e: Entry) -> Arrived
         timestamp: t,
     };
     if t.0 < r.write.0 {
-        let refusal = Message::OutOfOrder { header: header };
+        let refusal = messages::message_of(header, Sort::Refusal(Refusal::OutOfOrder));
         return Arrived {
             block: r,
             reply: Slot::Full(refusal),
@@ -99,10 +100,7 @@ fn run_read(chunk: u64, block: u64, r: Record, e: Entry) -> Arrived
     let read = later(r.read, t);
     let mut out = r;
     out.read = read;
-    let answer = Message::ReadReply {
-        header: header,
-        value: r.value,
-    };
+    let answer = messages::message_of(header, Sort::ReadReply(r.value));
     Arrived {
         block: out,
         reply: Slot::Full(answer),

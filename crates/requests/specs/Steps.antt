@@ -4,24 +4,17 @@ use mathlib.Core.List.{List}
 use Rattle.rules.specs.declared.Timestamp.{Timestamp}
 use Rattle.rules.specs.declared.Epoch.{Epoch}
 use Rattle.rules.specs.declared.Set.{Set}
-use Rattle.rules.specs.declared.Header.{Header}
 use Rattle.rules.specs.declared.Message.{Message}
+use Rattle.rules.specs.declared.Request.{Request}
 use Rattle.rules.specs.declared.Place.{Place}
-use Rattle.rules.specs.Hosts.{opening, closing}
-use Rattle.rules.specs.Kinds.{headed}
+use Rattle.rules.specs.Messages.{headed, asking}
 use Rattle.rules.specs.Network.{sent}
 use Rattle.rules.specs.Words.{if_then_else_}
 use Rattle.rules.specs.Zero.{_among_}
-use Rattle.requests.specs.declared.Request.{Request}
 
--- the message of a start or a finish
-abbrev pub messageOf : Request → Header → Epoch → Message
-messageOf (Request.Open action) header epoch = opening header epoch action
-messageOf (Request.Close okay) header epoch = closing okay header epoch
-
--- .. to chunk c
+-- what a host asks of chunk c
 abbrev pub requestTo : Request → (host block : ℕ) → Timestamp → Epoch → (chunk : ℕ) → Message
-requestTo r host block now epoch chunk = messageOf r (headed host chunk block now) epoch
+requestTo q host block now epoch chunk = asking (headed host chunk block now) epoch q
 
 -- message m c goes to chunk c, if that is in the set
 abbrev pub sentTo : Set → ((chunk : ℕ) → Message) → List Place → (chunk : ℕ) → List Place

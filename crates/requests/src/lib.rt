@@ -1,67 +1,50 @@
 // What a host asks of each chunk of a set: a start opens its operation there, a finish closes it.
 ghost use mathlib.Core.Path.{_≡_};
 ghost use Rattle.rules.specs.Hosts.{opening, closing};
-ghost use Rattle.rules.specs.Kinds.{headed};
+ghost use Rattle.rules.specs.Messages.{headed, asking};
 ghost use Rattle.rules.specs.Network.{sentToEach};
-ghost use Rattle.requests.specs.Steps.{messageOf, requestTo};
+ghost use Rattle.requests.specs.Steps.{requestTo};
 use rules::Action;
 use rules::Epoch;
 use rules::Header;
-use rules::Message;
 use rules::Place;
+use rules::Request;
 use rules::Set;
 use rules::Slot;
+use rules::Sort;
 use rules::Timestamp;
 
-// One of the two.
-enum Request {
-    Open(Action),
-    Close(bool),
+// "A read sends one read ..; a write sends a prewrite".
+fn opening(action: Action) -> Request
+    ensures { λ r. ⌜ r ≡ opening action ⌝ }
+{
+    match action {
+        Action::Read => Request::Read,
+        Action::Write(v) => Request::Prewrite(v),
+    }
 }
 
-// The message that asks it.
-fn message_of(r: Request, header: Header, epoch: Epoch) -> Message
-    ensures { λ m. ⌜ m ≡ messageOf r header epoch ⌝ }
+// "Okay write: commit .. Not okay: abort".
+fn closing(okay: bool) -> Request
+    ensures { λ r. ⌜ r ≡ closing okay ⌝ }
 {
-    match r {
-        Request::Open(action) => match action {
-            Action::Read => Message::Read {
-                header: header,
-                epoch: epoch,
-            },
-            Action::Write(v) => Message::Prewrite {
-                header: header,
-                epoch: epoch,
-                value: v,
-            },
-        },
-        Request::Close(okay) => {
-            if okay {
-                Message::Commit {
-                    header: header,
-                    epoch: epoch,
-                }
-            } else {
-                Message::Abort {
-                    header: header,
-                    epoch: epoch,
-                }
-            }
-        }
+    if okay {
+        return Request::Commit;
     }
+    Request::Abort
 }
 
 // ".. by ascending chunk".
 fn send_to_each(
     places: [Place; rules::PLACES],
     to: Set,
-    r: Request,
+    request: Request,
     host: u64,
     block: u64,
     now: Timestamp,
     epoch: Epoch,
 ) -> [Place; rules::PLACES]
-    ensures { λ n. ⌜ n ≡ sentToEach places to (requestTo r host block now epoch) ⌝ }
+    ensures { λ n. ⌜ n ≡ sentToEach places to (requestTo request host block now epoch) ⌝ }
 {
     let mut out = places;
     let mut c: usize = 0;
@@ -73,7 +56,7 @@ fn send_to_each(
                 block: block,
                 timestamp: now,
             };
-            let m = message_of(r, header, epoch);
+            let m = messages::message_of(header, Sort::Request(epoch, request));
             let next = network::reply(out, Slot::Full(m)); // a request takes its place as a reply does
             out = next;
         }
@@ -92,9 +75,9 @@ pub fn open(
     epoch: Epoch,
     action: Action,
 ) -> [Place; rules::PLACES]
-    ensures { λ r. ⌜ r ≡ sentToEach places to (λ chunk. opening (headed host chunk block now) epoch action) ⌝ }
+    ensures { λ r. ⌜ r ≡ sentToEach places to (λ chunk. asking (headed host chunk block now) epoch (opening action)) ⌝ }
 {
-    send_to_each(places, to, Request::Open(action), host, block, now, epoch)
+    send_to_each(places, to, opening(action), host, block, now, epoch)
 }
 
 // "Okay write: commit to each chunk of the set .. Not okay: abort to each".
@@ -107,7 +90,7 @@ pub fn close(
     epoch: Epoch,
     okay: bool,
 ) -> [Place; rules::PLACES]
-    ensures { λ r. ⌜ r ≡ sentToEach places to (λ chunk. closing okay (headed host chunk block now) epoch) ⌝ }
+    ensures { λ r. ⌜ r ≡ sentToEach places to (λ chunk. asking (headed host chunk block now) epoch (closing okay)) ⌝ }
 {
-    send_to_each(places, to, Request::Close(okay), host, block, now, epoch)
+    send_to_each(places, to, closing(okay), host, block, now, epoch)
 }

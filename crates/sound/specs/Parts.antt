@@ -1,19 +1,17 @@
 -- What the functions on parts of the table are given
 use Prim.Native.Nat.{ℕ, _/_, _%_}
-use mathlib.Core.Bool.{Bool, false, not, _&&_, _||_}
+use mathlib.Core.Bool.{Bool, false, not, _||_}
 use mathlib.Core.List.{List, []}
 use lib.Dec.{ltb}
 use lib.ListN.{getD}
 use Rattle.rules.specs.declared.Chunk.{Chunk}
 use Rattle.rules.specs.declared.Creation.{Creation}
-use Rattle.rules.specs.declared.Epoch.{Epoch}
-use Rattle.rules.specs.declared.Header.{Header}
 use Rattle.rules.specs.declared.Record.{Record}
 use Rattle.rules.specs.declared.Table.{Table}
 use Rattle.rules.specs.Formed.{recordAt}
 use Rattle.rules.specs.Limits.{blockLimit}
-use Rattle.rules.specs.Tables.{isHost, isChunk, withRecords}
-use Rattle.rules.specs.Timestamps.{noEpoch, isTimestamp, isEpoch}
+use Rattle.rules.specs.Tables.{withRecords}
+use Rattle.rules.specs.Timestamps.{noEpoch}
 use Rattle.sound.specs.declared.Counts.{Counts}
 
 -- a creation of these counts: the rules about a store's parts look at no more of it
@@ -23,10 +21,6 @@ counted n = record { hosts = n .hosts; chunks = n .chunks; blocks = n .blocks; a
 -- a table of these counts, into which one array is put: the rules about that array look at no more of it
 abbrev pub bare : Counts → Table
 bare n = record { creation = counted n; epoch = noEpoch; hosts = []; chunks = []; records = []; places = [] }
-
--- what a message's header and epoch are held to; a reply has no epoch, which is 0
-abbrev pub headerFormed : Counts → Header → Epoch → Bool
-headerFormed n h e = isHost (counted n) (h .host) && isChunk (counted n) (h .chunk) && ltb (h .block) blockLimit && isTimestamp (h .timestamp) && isEpoch e
 
 -- the record at i: that of chunk i / 16 and block i % 16
 abbrev pub recordInPlace : Counts → List Record → ℕ → Bool

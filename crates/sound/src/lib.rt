@@ -3,13 +3,13 @@ ghost use Prim.Native.Nat.{_-_};
 ghost use mathlib.Core.Path.{_≡_};
 ghost use mathlib.Core.Bool.{_&&_, not};
 ghost use Rattle.rules.specs.Creation.{isCreation, ofStore, isSetOf};
-ghost use Rattle.rules.specs.Formed.{operationFormed, operationAt, queueFormed, attemptFormed, hostFormed, chunkFormed, entryFormed, entryAt, waitingFormed, recordFormed, messageFormed, slotFormed, hostAt, chunkAt, recordsAt, placeAt, wellFormed};
+ghost use Rattle.rules.specs.Formed.{operationFormed, operationAt, queueFormed, attemptFormed, hostFormed, chunkFormed, entryFormed, entryAt, waitingFormed, recordFormed, headerFormed, sortFormed, messageFormed, slotFormed, hostAt, chunkAt, recordsAt, placeAt, wellFormed};
 ghost use Rattle.rules.specs.Limits.{hostLimit, chunkLimit, blockLimit, operationLimit, waitingLimit, placeLimit};
 ghost use Rattle.rules.specs.Tables.{withEpoch, withHosts, withChunks, withRecords, withPlaces};
 ghost use Rattle.rules.specs.Timestamps.{_above_};
 ghost use Rattle.rules.specs.Words.{if_then_else_, every, numbers};
 ghost use Rattle.rules.specs.Zero.{isEmpty, isZeroEntry, isZeroRecord, isZeroChunk, isZeroOperation, isZeroAttempt, isZeroHost};
-ghost use Rattle.sound.specs.Parts.{counted, bare, headerFormed, ofBlocks};
+ghost use Rattle.sound.specs.Parts.{counted, bare, ofBlocks};
 use rules::Attempt;
 use rules::Chunk;
 use rules::Creation;
@@ -24,6 +24,7 @@ use rules::Queue;
 use rules::Record;
 use rules::Set;
 use rules::Slot;
+use rules::Sort;
 use rules::Table;
 use rules::Timestamp;
 use rules::Waiting;
@@ -364,32 +365,33 @@ fn records_formed(n: Counts, records: [Record; rules::RECORDS]) -> bool
 // ---- a message
 
 // "a message's block may be 0 to 15 and a timestamp anything up to 34,359,738,367"
-fn header_formed(n: Counts, h: Header, epoch: Epoch) -> bool
-    ensures { λ r. ⌜ r ≡ headerFormed n h epoch ⌝ }
+fn header_formed(n: Counts, h: Header) -> bool
+    ensures { λ r. ⌜ r ≡ headerFormed (counted n) h ⌝ }
 {
     (h.host < n.hosts)
         & (h.chunk < n.chunks)
         & (h.block < rules::BLOCKS as u64)
         & (h.timestamp.0 <= rules::GREATEST_TIMESTAMP)
-        & (epoch.0 <= rules::GREATEST_CLOCK)
 }
 
 // "the first four also the epoch the host knows"
+fn sort_formed(s: Sort) -> bool
+    ensures { λ r. ⌜ r ≡ sortFormed s ⌝ }
+{
+    match s {
+        Sort::Request(epoch, _) => epoch.0 <= rules::GREATEST_CLOCK,
+        Sort::Refusal(_) => true,
+        Sort::ReadReply(_) => true,
+        Sort::PrewriteReply => true,
+    }
+}
+
 fn message_formed(n: Counts, m: Message) -> bool
     ensures { λ r. ⌜ r ≡ messageFormed (counted n) m ⌝ }
 {
-    match m {
-        Message::Read { header, epoch } => header_formed(n, header, epoch),
-        Message::Prewrite { header, epoch, .. } => header_formed(n, header, epoch),
-        Message::Commit { header, epoch } => header_formed(n, header, epoch),
-        Message::Abort { header, epoch } => header_formed(n, header, epoch),
-        Message::Mismatch { header } => header_formed(n, header, Epoch(0)),
-        Message::Error { header } => header_formed(n, header, Epoch(0)),
-        Message::OutOfOrder { header } => header_formed(n, header, Epoch(0)),
-        Message::Busy { header } => header_formed(n, header, Epoch(0)),
-        Message::ReadReply { header, .. } => header_formed(n, header, Epoch(0)),
-        Message::PrewriteReply { header } => header_formed(n, header, Epoch(0)),
-    }
+    let header = messages::header_of(m);
+    let sort = messages::sort_of(m);
+    header_formed(n, header) & sort_formed(sort)
 }
 
 fn place_formed(n: Counts, p: Place) -> bool

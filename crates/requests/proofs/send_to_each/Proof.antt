@@ -13,12 +13,12 @@ use Rattle.requests.proofs.send_to_each.Statement.{statement}
 use Rattle.requests.proofs.send_to_each.Tie as tie
 
 abbrev Inv-loop : tie.InvT-loop
-Inv-loop r host block now epoch to out₀ c₀ out c =
-    let f = sentTo to (requestTo r host block now epoch) in
+Inv-loop request host block now epoch to out₀ c₀ out c =
+    let f = sentTo to (requestTo request host block now epoch) in
     (c ≤ 8) × (fold f out (drop c (numbers 8)) ≡ fold f out₀ (numbers 8))
 
 abbrev μ-loop : tie.MeasureT-loop
-μ-loop r host block now epoch to out₀ c₀ out c = 8 - c
+μ-loop request host block now epoch to out₀ c₀ out c = 8 - c
 
 loop-holds : tie.Need-loop-holds Inv-loop μ-loop
 loop-holds c = (search needs, refl)
@@ -42,7 +42,7 @@ loop-again : tie.Need-loop-again Inv-loop μ-loop
 loop-again c =
     let l = c .before .before .before in
     let a = l .before .args in
-    let m = requestTo (a .r) (a .host) (a .block) (a .now) (a .epoch) in
+    let m = requestTo (a .request) (a .host) (a .block) (a .now) (a .epoch) in
     let turn : c .if1 .out ≡ sentTo (a .t2) m (l .loop .out) (l .loop .c) =
     ⊎-elim
     (λ w. rw (w .0 .taken) (w .3 ∙ w .2 .ensures ∙ reply-sends _ _ ∙ ap (sent (l .loop .out)) (w .1 .ensures)))
@@ -54,7 +54,7 @@ returns : tie.Need-returns Inv-loop μ-loop
 returns c =
     let l = c .before in
     let a = l .before .args in
-    let m = requestTo (a .r) (a .host) (a .block) (a .now) (a .epoch) in
+    let m = requestTo (a .request) (a .host) (a .block) (a .now) (a .epoch) in
     sym (sent-end (a .t2) m (l .loop .out) (l .loop .c) (omega arith)) ∙ l .loop .inv .1 ∙ sent-all (a .t2) m (a .places)
 
 pub send-to-each-spec : {M : Type 1} → statement M

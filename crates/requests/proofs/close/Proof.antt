@@ -1,0 +1,16 @@
+-- `requests::close` meets its contract
+use borrow.Author.Needs.{needs}
+use Rattle.requests.proofs.close.Statement.{statement}
+use Rattle.requests.proofs.close.Tie as tie
+
+closing-requires : tie.Need-closing-requires
+closing-requires c κs = search needs
+
+send-to-each-requires : tie.Need-send-to-each-requires
+send-to-each-requires c κs = search needs
+
+returns : tie.Need-returns
+returns c = rw (← c .before .closing .ensures) (c .send-to-each .ensures)
+
+pub close-spec : {M : Type 1} → statement M
+close-spec = tie.close (tie.spec closing-requires send-to-each-requires returns)

@@ -1,0 +1,16 @@
+-- `requests::open` meets its contract
+use borrow.Author.Needs.{needs}
+use Rattle.requests.proofs.open.Statement.{statement}
+use Rattle.requests.proofs.open.Tie as tie
+
+opening-requires : tie.Need-opening-requires
+opening-requires c κs = search needs
+
+send-to-each-requires : tie.Need-send-to-each-requires
+send-to-each-requires c κs = search needs
+
+returns : tie.Need-returns
+returns c = rw (← c .before .opening .ensures) (c .send-to-each .ensures)
+
+pub open-spec : {M : Type 1} → statement M
+open-spec = tie.close (tie.spec opening-requires send-to-each-requires returns)
