@@ -14,8 +14,9 @@ use Rattle.rules.specs.declared.Outcome.{Outcome}
 use Rattle.rules.specs.declared.Place.{Place}
 use Rattle.rules.specs.Codes.{Row, _gives_⨾_, granted, codeOf}
 use Rattle.rules.specs.Hosts.{front, hasCurrent, startRefusals, openingTo, opening, started, finishRefusals, closingTo, closing, finishOutcome, finished}
-use Rattle.rules.specs.Kinds.{isReading, headed}
+use Rattle.rules.specs.Kinds.{isReading}
 use Rattle.rules.specs.Limits.{hostLimit, greatestClock}
+use Rattle.rules.specs.Messages.{headed, asking}
 use Rattle.rules.specs.Network.{freePlaces, howMany, sentToEach}
 use Rattle.rules.specs.Timestamps.{stamp}
 use Rattle.rules.specs.Words.{each, every}
@@ -108,7 +109,7 @@ module _ (number clock copy : ℕ) (holders : Set) (h : Host) (places : List Pla
           start-crowded k = start-refused 5 (λ z. omega arith) (past-draw 5 (refused-here _ _ _ (sym full-here ∙ k)))
 
           pub start-granted : full ≡ false → (new : Host) (after : List Place) → new ≡ started h (d .timestamp) (d .keeper .last) to
-              → after ≡ sentToEach places to (λ chunk. opening (headed number chunk (o .block) (d .timestamp)) (h .epoch) (o .action))
+              → after ≡ sentToEach places to (λ chunk. asking (headed number chunk (o .block) (d .timestamp)) (h .epoch) (opening (o .action)))
               → _≡_ {A = Sent} (record { code = 0; host = new; places = after; outcome = Outcome.None }) (starts number clock copy holders h places)
           unfolding starts
           start-granted k new after new-is after-is =
@@ -121,7 +122,7 @@ module _ (number clock copy : ℕ) (holders : Set) (h : Host) (places : List Pla
       let to = openingTo (o .action) copy holders in
       let now = stamp clock number in
       sentOr rules h (started h now clock to)
-      places (sentToEach places to (λ chunk. opening (headed number chunk (o .block) now) (h .epoch) (o .action))) Outcome.None
+      places (sentToEach places to (λ chunk. asking (headed number chunk (o .block) now) (h .epoch) (opening (o .action)))) Outcome.None
 
   pub start-ruled : number < hostLimit → clock ≤ greatestClock → starts number clock copy holders h places ≡ ruled
   unfolding starts each codeOf every
@@ -147,7 +148,7 @@ module _ (number : ℕ) (holders : Set) (h : Host) (places : List Place) (o : Op
 
   pub finish-granted : code ≡ 0 → (new : Host) (after : List Place) (x : Outcome)
       → new ≡ finished h
-      → after ≡ sentToEach places to (λ chunk. closing (h .attempt .okay) (headed number chunk (o .block) (h .attempt .timestamp)) (h .epoch))
+      → after ≡ sentToEach places to (λ chunk. asking (headed number chunk (o .block) (h .attempt .timestamp)) (h .epoch) (closing (h .attempt .okay)))
       → x ≡ finishOutcome number h
       → _≡_ {A = Sent} (record { code = 0; host = new; places = after; outcome = x }) (finishes number holders h places)
   unfolding finishes

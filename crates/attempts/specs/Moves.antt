@@ -9,7 +9,7 @@ use Rattle.rules.specs.declared.Outcome.{Outcome}
 use Rattle.rules.specs.declared.Place.{Place}
 use Rattle.rules.specs.Codes.{Row, codeOf}
 use Rattle.rules.specs.Hosts.{front, startRefusals, openingTo, opening, started, finishRefusals, closingTo, closing, finishOutcome, finished}
-use Rattle.rules.specs.Kinds.{headed}
+use Rattle.rules.specs.Messages.{headed, asking}
 use Rattle.rules.specs.Network.{freePlaces, howMany, sentToEach}
 use Rattle.rules.specs.Words.{if_then_else_, each}
 use Rattle.keeper.specs.declared.Drawn.{Drawn}
@@ -45,7 +45,7 @@ starts number clock copy holders h places =
     let to = openingTo (o .action) copy holders in
     let d = drawn (keeperOf number h) clock in
     sentOr (each (asDrawn d) (startRefusals h clock copy holders (freePlaces places) (howMany to))) h (started h (d .timestamp) (d .keeper .last) to)
-    places (sentToEach places to (λ chunk. opening (headed number chunk (o .block) (d .timestamp)) (h .epoch) (o .action))) Outcome.None
+    places (sentToEach places to (λ chunk. asking (headed number chunk (o .block) (d .timestamp)) (h .epoch) (opening (o .action)))) Outcome.None
 
 -- "6 finish (host)"
 unfoldable pub finishes : (number : ℕ) → Set → Host → List Place → Sent
@@ -53,4 +53,4 @@ finishes number holders h places =
     let o = front h in
     let to = closingTo (o .action) holders in
     sentOr (finishRefusals h (freePlaces places) (howMany to)) h (finished h)
-    places (sentToEach places to (λ chunk. closing (h .attempt .okay) (headed number chunk (o .block) (h .attempt .timestamp)) (h .epoch))) (finishOutcome number h)
+    places (sentToEach places to (λ chunk. asking (headed number chunk (o .block) (h .attempt .timestamp)) (h .epoch) (closing (h .attempt .okay)))) (finishOutcome number h)

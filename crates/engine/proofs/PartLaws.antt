@@ -17,25 +17,23 @@ use Rattle.rules.specs.declared.Slot.{Slot}
 use Rattle.rules.specs.declared.Place.{Place}
 use Rattle.rules.specs.declared.Table.{Table}
 use Rattle.rules.specs.declared.Event.{Event}
-use Rattle.rules.specs.Chunks.{silent, atChunk}
+use Rattle.rules.specs.Chunks.{arrives}
 use Rattle.rules.specs.Codes.{codeOf}
 use Rattle.rules.specs.Events.{Rule, quietly, done, refused, unused, isPlace, chunkTakes, hostTakes, takes, readRule, writeRule, startRule, deliverRule, dropRule, finishRule, timeoutRule, refreshRule, runRule, stopRule, failRule, recoverRule, takeLeaseRule, giveLeaseRule, epochRule, overdueRule, ruleOf, step}
 use Rattle.rules.specs.Formed.{slotFormed, wellFormed}
-use Rattle.rules.specs.Hosts.{front, atHost}
-use Rattle.rules.specs.Kinds.{isNormal, headerOf, isForChunk}
+use Rattle.rules.specs.Hosts.{front, hears}
 use Rattle.rules.specs.Limits.{hostLimit, chunkLimit, blockLimit, placeLimit, greatestClock, oneTo, upTo}
+use Rattle.rules.specs.Messages.{headerOf, sortOf, isForChunk}
 use Rattle.rules.specs.Network.{removed, replied, placeRefusals}
 use Rattle.rules.specs.Tables.{isHost, isChunk, isBlock, setOf, hostOf, chunkOf, at, recordOf, slotOf, withHost, withChunk, withRecord, withPlaces}
 use Rattle.rules.specs.Zero.{noHost, noChunk, noRecord}
 use Rattle.rules.proofs.Events.{by-number, ill-formed, out-of-range, refused-own, granted-own}
 use Rattle.rules.proofs.Formed.{one-to, formed, message-facts, host-place, chunk-place, block-place, front-block, queue-of}
 use Rattle.rules.proofs.Lists.{three}
-use Rattle.arrival.specs.Arrivals.{arrives}
 use Rattle.chunk.specs.declared.Changed.{Changed}
 use Rattle.host.specs.declared.Moved.{Moved}
 use Rattle.attempts.specs.Moves.{finishes}
 use Rattle.attempts.proofs.Laws.{start-ruled}
-use Rattle.replies.specs.Replies.{hears}
 use Rattle.parts.specs.declared.Parts.{Parts}
 use Rattle.parts.specs.declared.Acted.{Acted}
 use Rattle.operands.specs.Address.{rangesOf, addressOf, placeAt, hostAt, chunkAt, blockAt}
@@ -276,24 +274,11 @@ module _ (t : Table) (ok : wellFormed t ≡ true) where
       chunk-took : let a = arrives (k .blocks) (chunkOf t (to .chunk)) old m in
           withPlaces (withRecord (withChunk (withHost t (to .host) (hostOf t (to .host))) (to .chunk) (chunkOf t (to .chunk))) (to .chunk) (to .block) (a .block)) (replied left (a .reply))
           ≡ chunkTakes (withPlaces t left) to m
-      unfolding replied
-      chunk-took = go (isNormal (chunkOf t (to .chunk) .state))
-        where
-          go : (n : Bool) → let a = atChunk (k .blocks) (chunkOf t (to .chunk) .epoch) old m in let r = cond n a (silent old) in
-              withPlaces (withRecord (withChunk (withHost t (to .host) (hostOf t (to .host))) (to .chunk) (chunkOf t (to .chunk))) (to .chunk) (to .block) (r .block)) (replied left (r .reply))
-              ≡ cond n (withPlaces (withRecord (withPlaces t left) (to .chunk) (to .block) (a .block)) (replied left (a .reply))) (withPlaces t left)
-          go true = record-alone t (to .host) (to .chunk) (to .block) _ _
-          go false = places-alone t (to .host) (to .chunk) (to .block) left
+      chunk-took = record-alone t (to .host) (to .chunk) (to .block) _ _
 
       host-took : withPlaces (withRecord (withChunk (withHost t (to .host) (hears (hostOf t (to .host)) m)) (to .chunk) (chunkOf t (to .chunk))) (to .chunk) (to .block) old) left
           ≡ hostTakes (withPlaces t left) to m
-      host-took = go (hostOf t (to .host) .working)
-        where
-          go : (w : Bool) → let h = hostOf t (to .host) in
-              withPlaces (withRecord (withChunk (withHost t (to .host) (cond w (atHost h m) h)) (to .chunk) (chunkOf t (to .chunk))) (to .chunk) (to .block) old) left
-              ≡ cond w (withHost (withPlaces t left) (to .host) (atHost h m)) (withPlaces t left)
-          go true = host-alone t (to .host) (to .chunk) (to .block) _ left
-          go false = places-alone t (to .host) (to .chunk) (to .block) left
+      host-took = host-alone t (to .host) (to .chunk) (to .block) _ left
 
     taken-is : (s : Slot) → let to = addressOf s in
         let d = delivered (k .blocks) (hostOf t (to .host)) (chunkOf t (to .chunk)) (recordOf t (to .chunk) (to .block)) s in
@@ -301,7 +286,7 @@ module _ (t : Table) (ok : wellFormed t ≡ true) where
         ≡ takes (withPlaces t left) s
     unfolding replied
     taken-is Slot.Empty = places-alone t 0 0 0 left
-    taken-is (Slot.Full m) = go (isForChunk m)
+    taken-is (Slot.Full m) = go (isForChunk (sortOf m))
       where
         go : (f : Bool) → let to = headerOf m in
             let d = cond f (toChunk (k .blocks) (hostOf t (to .host)) (chunkOf t (to .chunk)) (recordOf t (to .chunk) (to .block)) m)

@@ -11,7 +11,7 @@ use Rattle.rules.specs.declared.Table.{Table}
 use Rattle.rules.specs.declared.Event.{Event}
 use Rattle.rules.specs.Events.{ruleOf}
 use Rattle.rules.specs.Hosts.{front}
-use Rattle.rules.specs.Kinds.{headerOf, headed}
+use Rattle.rules.specs.Messages.{headerOf, headed}
 use Rattle.rules.specs.Timestamps.{never, noEpoch}
 use Rattle.rules.specs.Words.{if_then_else_}
 

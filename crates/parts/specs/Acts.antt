@@ -12,13 +12,12 @@ use Rattle.rules.specs.declared.Message.{Message}
 use Rattle.rules.specs.declared.Slot.{Slot}
 use Rattle.rules.specs.declared.Event.{Event}
 use Rattle.rules.specs.declared.Outcome.{Outcome}
-use Rattle.rules.specs.Chunks.{runRefusals, ran, recoverRefusals, recovered, takeLeaseRefusals, leaseTaken, giveLeaseRefusals, leaseGiven, overdueRefusals, overdue}
+use Rattle.rules.specs.Chunks.{arrives, runRefusals, ran, recoverRefusals, recovered, takeLeaseRefusals, leaseTaken, giveLeaseRefusals, leaseGiven, overdueRefusals, overdue}
 use Rattle.rules.specs.Codes.{codeOf}
-use Rattle.rules.specs.Hosts.{intakeRefusals, appended, timeoutRefusals, timedOut, workingRefusals, refreshed, stopped}
-use Rattle.rules.specs.Kinds.{isForChunk}
+use Rattle.rules.specs.Hosts.{intakeRefusals, appended, hears, timeoutRefusals, timedOut, workingRefusals, refreshed, stopped}
+use Rattle.rules.specs.Messages.{sortOf, isForChunk}
 use Rattle.rules.specs.Network.{freePlaces, removed, replied, placeRefusals}
 use Rattle.rules.specs.Words.{if_then_else_}
-use Rattle.arrival.specs.Arrivals.{arrives}
 use Rattle.chunk.specs.declared.Changed.{Changed}
 use Rattle.chunk.specs.Changes.{changed}
 use Rattle.head.specs.declared.Ran.{Ran}
@@ -27,7 +26,6 @@ use Rattle.host.specs.declared.Moved.{Moved}
 use Rattle.host.specs.Moves.{moved}
 use Rattle.attempts.specs.declared.Sent.{Sent}
 use Rattle.attempts.specs.Moves.{starts, finishes}
-use Rattle.replies.specs.Replies.{hears}
 use Rattle.parts.specs.declared.Parts.{Parts}
 use Rattle.parts.specs.declared.Acted.{Acted}
 use Rattle.parts.specs.declared.Delivered.{Delivered}
@@ -84,7 +82,7 @@ toNobody h r = record { host = h; block = r; reply = Slot.Empty }
 
 abbrev pub delivered : (blocks : ℕ) → Host → Chunk → Record → Slot → Delivered
 delivered blocks h c r Slot.Empty = toNobody h r
-delivered blocks h c r (Slot.Full m) = if isForChunk m then toChunk blocks h c r m else toHost h r m
+delivered blocks h c r (Slot.Full m) = if isForChunk (sortOf m) then toChunk blocks h c r m else toHost h r m
 
 -- a dropped message reaches nobody
 abbrev pub taken : (kind blocks : ℕ) → Host → Chunk → Record → Slot → Delivered

@@ -17,8 +17,8 @@ use Rattle.rules.specs.Hosts.{hears}
 use Rattle.rules.specs.Kinds.{isWrite, isNormal}
 use Rattle.rules.specs.Limits.{blockLimit, waitingLimit, placeLimit, greatestClock, upTo}
 use Rattle.rules.specs.Messages.{headed, headerOf, sortOf, isForChunk}
-use Rattle.rules.specs.Tables.{isHost, isChunk, isBlock, hostOf, chunkOf, recordOf, slotOf, withChunk, withRecord, withPlaces}
 use Rattle.rules.specs.Network.{removed, freePlaces}
+use Rattle.rules.specs.Tables.{isHost, isChunk, isBlock, hostOf, chunkOf, recordOf, slotOf, withChunk, withRecord, withPlaces}
 use Rattle.rules.specs.Timestamps.{never, _is_, _above_, _below_, later, isTimestamp, _same_, isEpoch}
 use Rattle.rules.specs.Waiting.{inOrder, insert, inserted, head, headRemoved, firstWith, decided, mark, marked}
 use Rattle.rules.specs.Words.{every, from, numbers}

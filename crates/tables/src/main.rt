@@ -16,8 +16,11 @@ use rules::Operation;
 use rules::Place;
 use rules::Queue;
 use rules::Record;
+use rules::Refusal;
+use rules::Request;
 use rules::Set;
 use rules::Slot;
+use rules::Sort;
 use rules::State;
 use rules::Table;
 use rules::Timestamp;
@@ -351,58 +354,28 @@ fn header(host: u64, chunk: u64, block: u64, timestamp: u64) -> Header {
     }
 }
 
+fn request(header: Header, epoch: u64, request: Request) -> Message {
+    messages::message_of(header, Sort::Request(Epoch(epoch), request))
+}
+
 fn message_case(n: u64) -> Message {
     match n {
         // the last host and one more, the last chunk and one more
-        0 => Message::Read {
-            header: header(1, 1, 0, 8),
-            epoch: Epoch(1),
-        },
-        1 => Message::Read {
-            header: header(2, 1, 0, 8),
-            epoch: Epoch(1),
-        },
-        2 => Message::Read {
-            header: header(1, 2, 0, 8),
-            epoch: Epoch(1),
-        },
+        0 => request(header(1, 1, 0, 8), 1, Request::Read),
+        1 => request(header(2, 1, 0, 8), 1, Request::Read),
+        2 => request(header(1, 2, 0, 8), 1, Request::Read),
         // a block up to 15, also one that the store lacks
-        3 => Message::Prewrite {
-            header: header(0, 0, 15, 8),
-            epoch: Epoch(1),
-            value: 7,
-        },
-        4 => Message::Prewrite {
-            header: header(0, 0, 16, 8),
-            epoch: Epoch(1),
-            value: 7,
-        },
+        3 => request(header(0, 0, 15, 8), 1, Request::Prewrite(7)),
+        4 => request(header(0, 0, 16, 8), 1, Request::Prewrite(7)),
         // the greatest timestamp, and one more
-        5 => Message::Commit {
-            header: header(0, 0, 0, TIMESTAMP),
-            epoch: Epoch(1),
-        },
-        6 => Message::Commit {
-            header: header(0, 0, 0, TIMESTAMP + 1),
-            epoch: Epoch(1),
-        },
+        5 => request(header(0, 0, 0, TIMESTAMP), 1, Request::Commit),
+        6 => request(header(0, 0, 0, TIMESTAMP + 1), 1, Request::Commit),
         // the greatest epoch, and one more
-        7 => Message::Abort {
-            header: header(0, 0, 0, 8),
-            epoch: Epoch(CLOCK),
-        },
-        8 => Message::Abort {
-            header: header(0, 0, 0, 8),
-            epoch: Epoch(CLOCK + 1),
-        },
+        7 => request(header(0, 0, 0, 8), CLOCK, Request::Abort),
+        8 => request(header(0, 0, 0, 8), CLOCK + 1, Request::Abort),
         // replies
-        9 => Message::ReadReply {
-            header: header(1, 1, 15, 0),
-            value: 18446744073709551615,
-        },
-        _ => Message::Busy {
-            header: header(1, 2, 0, 8),
-        },
+        9 => messages::message_of(header(1, 1, 15, 0), Sort::ReadReply(18446744073709551615)),
+        _ => messages::message_of(header(1, 2, 0, 8), Sort::Refusal(Refusal::Busy)),
     }
 }
 
