@@ -5,9 +5,10 @@ use mathlib.Core.Logic.{_⊎_, inl, inr}
 use mathlib.Core.Bool.{Bool, true, false, false≢true}
 use mathlib.Core.List.{List, [], _∷_}
 use native.Mathlib.Omega.{arith}
-use Rattle.one_copy.specs.Types.{Timestamp, Epoch, Kind, Entry, State, Header, Message, Place}
+use Rattle.one_copy.specs.Types.{Timestamp, Epoch, Kind, Entry, State, Header, Message, Sort, Place}
 use Rattle.rules.specs.Chunks.{entryOf}
-use Rattle.rules.specs.Kinds.{isNormal, headed}
+use Rattle.rules.specs.Kinds.{isNormal}
+use Rattle.rules.specs.Messages.{headed, messageOf}
 use Rattle.rules.specs.Waiting.{insert, mark}
 use Rattle.one_copy.proofs.Tests.{at, at-all, at-map}
 use Rattle.one_copy.proofs.Abs.{Mark, cmt, abt, CellOk, Inv}
@@ -127,7 +128,7 @@ module _ (S : ℕ → Type 0) (b : ℕ) (h : Hist) (ep : ℕ) (hs : ℕ → Seat
 
     -- a prewrite of the chunk's epoch arrives, waits and is answered
     pub takes-write : (hd : Header) (k : Epoch) (v : ℕ) (n′ : List Place) → hd .chunk ≡ c
-        → ((P : Message → Type 0) → Sent n′ P → Sent n P ⊎ P (Message.PrewriteReply hd)) → Sent n (ofPre b c (hd .timestamp .0) (k .0) v)
+        → ((P : Message → Type 0) → Sent n′ P → Sent n P ⊎ P (messageOf hd Sort.PrewriteReply)) → Sent n (ofPre b c (hd .timestamp .0) (k .0) v)
         → k .0 ≡ ep → (ps c) .wr ≤ hd .timestamp .0 → (ps c) .rd ≤ hd .timestamp .0
         → CInv S b h ep hs (at c (withQueue (ps c) (insert (entryOf hd k (Kind.Undecided v)) ((ps c) .queue))) ps) n′
     takes-write hd k v n′ hc adds msg now ow or = put-part c (withQueue (ps c) (insert e ((ps c) .queue))) n′
@@ -142,15 +143,15 @@ module _ (S : ℕ → Type 0) (b : ℕ) (h : Hist) (ep : ℕ) (hs : ℕ → Seat
             | inl q ↦ elim (adds (ofAck b u d) q) [
               | inl r ↦ inl (inl r)
               | inr r ↦
-                  inr (sym (r .1), sym (r .2) ∙ hc)
+                  inr (sym (r .2), sym (r .3) ∙ hc)
             ]
             | inr z ↦ inl (inr z)
           ];
-          pre = λ d u x y q. elim (adds (ofPre b d u x y) q) [ inl r ↦ r | inr r ↦ absurd r ];
-          rdm = λ d u q. elim (adds (ofRead b d u) q) [ inl r ↦ r | inr r ↦ absurd r ];
-          comm = λ u q. elim (adds (ofCommit b u) q) [ inl r ↦ r | inr r ↦ absurd r ];
-          abtm = λ u q. elim (adds (ofAbort b u) q) [ inl r ↦ r | inr r ↦ absurd r ];
-          seen = λ u x. elim [ inl q ↦ elim (adds (ofValue b u x) q) [ inl r ↦ inl r | inr r ↦ absurd r ] | inr z ↦ inr z ];
+          pre = λ d u x y q. elim (adds (ofPre b d u x y) q) [ inl r ↦ r | inr r ↦ absurd (r .0) ];
+          rdm = λ d u q. elim (adds (ofRead b d u) q) [ inl r ↦ r | inr r ↦ absurd (r .0) ];
+          comm = λ u q. elim (adds (ofCommit b u) q) [ inl r ↦ r | inr r ↦ absurd (r .0) ];
+          abtm = λ u q. elim (adds (ofAbort b u) q) [ inl r ↦ r | inr r ↦ absurd (r .0) ];
+          seen = λ u x. elim [ inl q ↦ elim (adds (ofValue b u x) q) [ inl r ↦ inl r | inr r ↦ absurd (r .0) ] | inr z ↦ inr z ];
         }))
         here)
         (λ _. l)
@@ -242,7 +243,7 @@ module _ (S : ℕ → Type 0) (b : ℕ) (h : Hist) (ep : ℕ) (hs : ℕ → Seat
 
       -- a read is answered, and m is the later of the last read and it
       pub runs-read : (m : ℕ) (n′ : List Place) (j : ℕ) → ((P : Message → Type 0) → Sent n′ P → Sent n P
-          ⊎ P (Message.ReadReply (headed j c b (e .timestamp)) ((ps c) .val))) → e .kind ≡ Kind.Read → (ps c) .wr ≤ e .timestamp .0
+          ⊎ P (messageOf (headed j c b (e .timestamp)) (Sort.ReadReply ((ps c) .val)))) → e .kind ≡ Kind.Read → (ps c) .wr ≤ e .timestamp .0
           → ((m ≡ e .timestamp .0) × ((ps c) .rd ≤ m)) ⊎ ((m ≡ (ps c) .rd) × (e .timestamp .0 ≤ m))
           → CInv S b h ep hs (at c (wasRead (ps c) m q) ps) n′
       runs-read m n′ j adds w ow pick = put-part c (wasRead (ps c) m q) n′
@@ -258,16 +259,16 @@ module _ (S : ℕ → Type 0) (b : ℕ) (h : Hist) (ep : ℕ) (hs : ℕ → Seat
           (flow S b h hs n′) (record {
             cur = λ u z. z;
             act = λ u z. (z, (z .0, z .1));
-            ack = λ u d. elim [ inl q ↦ elim (adds (ofAck b u d) q) [ inl r ↦ inl r | inr r ↦ absurd r ] | inr z ↦ inr z ];
-            pre = λ d u x y q. elim (adds (ofPre b d u x y) q) [ inl r ↦ r | inr r ↦ absurd r ];
-            rdm = λ d u q. elim (adds (ofRead b d u) q) [ inl r ↦ r | inr r ↦ absurd r ];
-            comm = λ u q. elim (adds (ofCommit b u) q) [ inl r ↦ r | inr r ↦ absurd r ];
-            abtm = λ u q. elim (adds (ofAbort b u) q) [ inl r ↦ r | inr r ↦ absurd r ];
+            ack = λ u d. elim [ inl q ↦ elim (adds (ofAck b u d) q) [ inl r ↦ inl r | inr r ↦ absurd (r .0) ] | inr z ↦ inr z ];
+            pre = λ d u x y q. elim (adds (ofPre b d u x y) q) [ inl r ↦ r | inr r ↦ absurd (r .0) ];
+            rdm = λ d u q. elim (adds (ofRead b d u) q) [ inl r ↦ r | inr r ↦ absurd (r .0) ];
+            comm = λ u q. elim (adds (ofCommit b u) q) [ inl r ↦ r | inr r ↦ absurd (r .0) ];
+            abtm = λ u q. elim (adds (ofAbort b u) q) [ inl r ↦ r | inr r ↦ absurd (r .0) ];
             seen = λ u x. elim [
               | inl q ↦ elim (adds (ofValue b u x) q) [
                 | inl r ↦ inl (inl r)
                 | inr r ↦
-                    inr (sym (r .1), sym (r .2))
+                    inr (sym (r .2), sym (r .0))
               ]
               | inr z ↦ inl (inr z)
             ];

@@ -8,11 +8,12 @@ use native.Mathlib.Omega.{arith}
 use lib.ListN.{length, getD, drop, length-take}
 use lib.Dec.{eqb}
 use borrow.Author.Tests.{ltb-false, not-false}
-use Rattle.one_copy.specs.Types.{Timestamp, Kind, Entry, Waiting, Record, Chunk, Header, Message, Slot, Place, Table, Arrived, Outcome}
+use Rattle.one_copy.specs.Types.{Timestamp, Kind, Entry, Waiting, Record, Chunk, Header, Message, Refusal, Sort, Slot, Place, Table, Arrived, Outcome}
 use Rattle.rules.specs.Chunks.{withWaiting, emptied, runRefusals, runs, ran, failed, leaseGiven, leaseTaken, recovered, overdue, giveLeaseRefusals}
 use Rattle.rules.specs.Codes.{codeOf}
-use Rattle.rules.specs.Kinds.{isUndecided, isNormal, headed}
+use Rattle.rules.specs.Kinds.{isUndecided, isNormal}
 use Rattle.rules.specs.Limits.{chunkLimit, blockLimit}
+use Rattle.rules.specs.Messages.{headed, messageOf}
 use Rattle.rules.specs.Network.{sent, replied}
 use Rattle.rules.specs.Tables.{isChunk, isBlock, chunkOf, recordOf, recordsBy, withPlaces, withChunk, withRecord, withRecords}
 use Rattle.rules.specs.Timestamps.{_below_, later}
@@ -27,7 +28,7 @@ use Rattle.one_copy.proofs.Tests.{at, at-pair, eq-or-ne}
 use Rattle.one_copy.proofs.Lists.{Any, getD-set}
 use Rattle.one_copy.proofs.Net.{Sent, sent-one}
 use Rattle.one_copy.proofs.Queue.{removed-order, least}
-use Rattle.one_copy.proofs.View.{Hist, Part, partWith, partOf, seatsOf, NetLe, Foreign, net-less, net-foreign, far-message, plain-order, CInv}
+use Rattle.one_copy.proofs.View.{Hist, Part, partWith, partOf, seatsOf, NetLe, Foreign, net-less, net-foreign, plain, far-message, CInv}
 use Rattle.one_copy.proofs.Chunks.{withQueue, wrote, wasRead, net-only, mode-only, falls, runs-cmt, runs-off, runs-read}
 use Rattle.one_copy.proofs.Shapes.{Shape, shape-chunk}
 use Rattle.one_copy.proofs.Good.{In, Good, good-chunk, good-record, good-records, good-far, emptied-at, Next, unnoted}
@@ -135,9 +136,9 @@ module _ (b : ℕ) (h : Hist) (t : Table) (f : Formed t) (s : Shape t) (lb : isB
     far-as far (Kind.Committed v) = run-far far _ tt
     far-as far (Kind.Undecided v) = run-far far _ tt
     far-as far Kind.Read = walk Ran (head (r .waiting) .timestamp below r .write) _ _
-        (λ _. run-far far _ (plain-order b (headed (head (r .waiting) .sender) c d (head (r .waiting) .timestamp))))
-        (λ _. run-far far _ (far-message b (Message.ReadReply (headed (head (r .waiting) .sender) c d (head (r .waiting) .timestamp))
-        (r .value)) far))
+        (λ _. run-far far _ (plain b (headed (head (r .waiting) .sender) c d (head (r .waiting) .timestamp)) Refusal.OutOfOrder))
+        (λ _. run-far far _ (far-message b (headed (head (r .waiting) .sender) c d (head (r .waiting) .timestamp))
+        (Sort.ReadReply (r .value)) far))
 
   -- at this block
   module _ (free : ℕ) (e : codeOf (runRefusals (chunkOf t c .state) (recordOf t c b .waiting) free) ≡ 0) where
@@ -175,7 +176,7 @@ module _ (b : ℕ) (h : Hist) (t : Table) (f : Formed t) (s : Shape t) (lb : isB
         (λ _. good-record b h t s c _ _ place-c place-b (put (withQueue (partOf t b c)) _
         (runs-off S b h (t .epoch .0) (seatsOf t) (partOf t b) (t .places) i c (normal b lb free e) (head w) (drop 1 (inOrder w))
         (first b lb free e) low _
-        (net-replied b (t .places) (t .places) (λ P z. z) (Slot.Full (Message.OutOfOrder hd)) (plain-order b hd))
+        (net-replied b (t .places) (t .places) (λ P z. z) (Slot.Full (messageOf hd (Sort.Refusal Refusal.OutOfOrder))) (plain b hd Refusal.OutOfOrder))
         (λ u x a z. absurd (rw ek at (z .1))))))
         (λ o. good-record b h t s c _ _ place-c place-b
         (put (wasRead (partOf t b c) (later (recordOf t c b .read) (head w .timestamp) .0)) _

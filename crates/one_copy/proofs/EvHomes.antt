@@ -1,6 +1,6 @@
 -- No event but a start mentions a new timestamp of a block
 use Prim.Native.Nat.{ℕ, _<_}
-use mathlib.Core.Path.{_≡_, refl, sym, subst, _∙_, ap}
+use mathlib.Core.Path.{_≡_, refl, subst, _∙_, ap}
 use mathlib.Core.Logic.{inl, inr}
 use mathlib.Core.Bool.{Bool, true, false, cond}
 use mathlib.Core.List.{List, [], _∷_}
@@ -8,13 +8,14 @@ use native.Mathlib.Omega.{arith}
 use lib.ListN.{length, getD, take, drop}
 use lib.Dec.{eqb}
 use borrow.Author.Tests.{ltb-true, leb-false}
-use Rattle.one_copy.specs.Types.{Timestamp, Epoch, Set, Kind, Entry, Waiting, Record, Action, Operation, Queue, Host, Header, Message, Slot, Place, Table, Arrived}
-use Rattle.rules.specs.Chunks.{withWaiting, emptied, failed, answering, silent, entryOf, waits, arrived, decides, atChunk, runs, ran}
+use Rattle.one_copy.specs.Types.{Timestamp, Epoch, Set, Kind, Entry, Waiting, Record, Operation, Queue, Host, Message, Request, Sort, Slot, Place, Table, Arrived}
+use Rattle.rules.specs.Chunks.{withWaiting, emptied, failed, answering, silent, entryOf, waits, arrived, decides, atChunk, arrives, runs, ran}
 use Rattle.rules.specs.Codes.{codeOf}
 use Rattle.rules.specs.Events.{holdersOf, hostTakes, takes}
-use Rattle.rules.specs.Hosts.{front, operationsOf, queueOf, appended, startRefusals, openingTo, opening, started, finishRefusals, closingTo, closing, goesBack, atHost, finished, ended, withQueue, timedOut, refreshed, stopped}
-use Rattle.rules.specs.Kinds.{isWrite, isNormal, headerOf, headed, isForChunk}
+use Rattle.rules.specs.Hosts.{front, operationsOf, queueOf, appended, startRefusals, openingTo, opening, started, finishRefusals, closingTo, closing, goesBack, finished, ended, withQueue, timedOut, refreshed, stopped}
+use Rattle.rules.specs.Kinds.{isWrite, isNormal}
 use Rattle.rules.specs.Limits.{hostLimit, chunkLimit, blockLimit, operationLimit, placeLimit, waitingLimit}
+use Rattle.rules.specs.Messages.{headed, headerOf, sortOf, messageOf, asking, isForChunk}
 use Rattle.rules.specs.Network.{removed, sentToEach, replied}
 use Rattle.rules.specs.Tables.{isHost, hostOf, chunkOf, recordOf, recordsBy, slotOf, withPlaces, withHost, withChunk, withRecord, withRecords}
 use Rattle.rules.specs.Timestamps.{stamp, _below_}
@@ -23,15 +24,15 @@ use Rattle.rules.specs.Words.{every}
 use Rattle.rules.specs.Zero.{zeroEntry, zeroOperation, noRecord}
 use Rattle.rules.proofs.Formed.{Formed, FormedWaiting, FormedMessage, host-place, chunk-place, waiting-of, message-facts}
 use Rattle.rules.proofs.Lists.{walk, grid-at}
+use Rattle.rules.proofs.Messages.{arrived-walk, decides-walk, hears-keeps}
 use Rattle.rules.proofs.Order.{mark-timestamps}
 use Rattle.rules.proofs.Refusals.{granted-exactly}
 use Rattle.rules.proofs.Relies.{finish-current}
 use Rattle.one_copy.proofs.Tests.{at, le-or-lt}
 use Rattle.one_copy.proofs.Lists.{Any, any-each, each-any}
-use Rattle.one_copy.proofs.Net.{ofBoth, sent-each, sent-taken, sent-at}
+use Rattle.one_copy.proofs.Net.{ofBoth, made-both, sent-each, sent-taken, sent-at}
 use Rattle.one_copy.proofs.Queue.{insert-to, inserted-order, marked-order, removed-order}
 use Rattle.one_copy.proofs.Shapes.{Shape, holding-length, queue-length, shape-host, shape-places, shape-chunk, shape-records, records-beyond, front-kept, at-front}
-use Rattle.one_copy.proofs.Arrivals.{arrived-walk, decides-walk, Hears, at-host-keeps}
 use Rattle.one_copy.proofs.Homes.{atTs, Mention, Less, NetOk, same-net, less-places, less-host, less-record, one-ok, each-ok, kept, rested, Homes, begins-home}
 
 -- ---- the waiting list
@@ -94,18 +95,15 @@ module _ (t : Table) (f : Formed t) (j : ℕ) (lj : isHost (t .creation) j ≡ t
   -- finish: the messages are under the host's own timestamp
   pub finish-less : Shape t → (free messages : ℕ) → codeOf (finishRefusals x free messages) ≡ 0
       → Less (withPlaces (withHost t j (finished x)) (sentToEach (t .places) (closingTo (front x .action) (holdersOf t x))
-      (λ c. closing (x .attempt .okay) (headed j c (front x .block) (x .attempt .timestamp)) (x .epoch)))) t
+      (λ c. asking (headed j c (front x .block) (x .attempt .timestamp)) (x .epoch) (closing (x .attempt .okay))))) t
   unfolding every finished
   finish-less s free messages e =
       let g = finished-as (goesBack (x .attempt)) s in
       let p : 0 < x .attempt .timestamp .0 = ltb-true 0 (x .attempt .timestamp .0) (finish-current x free messages e) in
       less-host t j (finished x) _ (rested t (finished x) (g .0)) (omega (arith, g .1)) (λ _. g .2)
-      (each-ok t _ _ (t .places) (same-net t) (λ a u d z. own (x .attempt .okay) a u d p z))
-    where
-      own : (o : Bool) (a u d : ℕ) → 0 < x .attempt .timestamp .0 → ofBoth d u
-          (closing o (headed j a (front x .block) (x .attempt .timestamp)) (x .epoch)) → Mention t u d
-      own true a u d p z = inl (j, record { stamp = z .1; pos = omega (arith, z .1); block = z .0 })
-      own false a u d p z = inl (j, record { stamp = z .1; pos = omega (arith, z .1); block = z .0 })
+      (each-ok t _ _ (t .places) (same-net t) (λ a u d z.
+      let w = made-both (headed j a (front x .block) (x .attempt .timestamp)) (Sort.Request (x .epoch) (closing (x .attempt .okay))) d u z in
+      inl (j, record { stamp = w .1; pos = omega (arith, w .1); block = w .0 })))
 
   -- a start: the new timestamp is the front operation's block's
   pub start-home : (blk : ℕ → ℕ) → Shape t → Homes blk t → (clock copy free messages : ℕ)
@@ -113,25 +111,20 @@ module _ (t : Table) (f : Formed t) (j : ℕ) (lj : isHost (t .creation) j ≡ t
       → Homes (at (stamp clock j .0) (front x .block) blk)
       (withPlaces (withHost t j (started x (stamp clock j) clock (openingTo (front x .action) copy (holdersOf t x))))
       (sentToEach (t .places) (openingTo (front x .action) copy (holdersOf t x))
-      (λ c. opening (headed j c (front x .block) (stamp clock j)) (x .epoch) (front x .action))))
+      (λ c. asking (headed j c (front x .block) (stamp clock j)) (x .epoch) (opening (front x .action)))))
   unfolding every
   start-home blk s hm clock copy free messages e =
       begins-home blk t s hm j clock place-j (leb-false clock (x .clock)
       (granted-exactly (startRefusals x clock copy (holdersOf t x) free messages) refl .0 e 5 (omega arith)))
       (started x (stamp clock j) clock (openingTo (front x .action) copy (holdersOf t x)))
       (sentToEach (t .places) (openingTo (front x .action) copy (holdersOf t x))
-      (λ c. opening (headed j c (front x .block) (stamp clock j)) (x .epoch) (front x .action))) (front x .block) refl refl refl
-      (λ u d z. elim (sent-each (ofBoth d u) (λ c. opening (headed j c (front x .block) (stamp clock j)) (x .epoch) (front x .action))
+      (λ c. asking (headed j c (front x .block) (stamp clock j)) (x .epoch) (opening (front x .action)))) (front x .block) refl refl refl
+      (λ u d z. elim (sent-each (ofBoth d u) (λ c. asking (headed j c (front x .block) (stamp clock j)) (x .epoch) (opening (front x .action)))
       (openingTo (front x .action) copy (holdersOf t x)) (t .places) z) [
         | inl q ↦ inl q
         | inr q ↦
-            inr (own (front x .action) (q .0) u d (q .3))
+            inr (made-both (headed j (q .0) (front x .block) (stamp clock j)) (Sort.Request (x .epoch) (opening (front x .action))) d u (q .3))
       ])
-    where
-      own : (a : Action) (c u d : ℕ) → ofBoth d u (opening (headed j c (front x .block) (stamp clock j)) (x .epoch) a)
-          → (front x .block ≡ d) × (stamp clock j .0 ≡ u)
-      own Action.Read c u d z = z
-      own (Action.Write v) c u d z = z
 
   -- a start keeps the shape
   pub start-shape : Shape t → (a : Timestamp) (clock : ℕ) (to : Set) (n : List Place)
@@ -234,15 +227,11 @@ module _ (t : Table) (f : Formed t) (p : ℕ) (lp : p < placeLimit) where
     abbrev Took : Arrived → Type 0
     Took a = Less (withPlaces (withRecord t c d (a .block)) (replied n1 (a .reply))) t
 
-    -- a reply with the message's header, the record as it was
-    answer : (q : Message) → headerOf q ≡ headerOf m → Took (answering (recordOf t c d) q)
+    -- a reply, the record as it was
+    answer : (s : Sort) → Took (answering (recordOf t c d) (headerOf m) s)
     unfolding replied
-    answer q eh = less-record t c d _ _ place-d (λ u z. inr (inr (c, place-d, z))) (λ s. s .entries c d place-c place-d)
-        (one-ok t q n1 ok1 (λ u a z. its-own u a (
-          sym (ap (λ (h : Header). h .block) eh)
-              ∙ z .0,
-          sym (ap (λ (h : Header). h .timestamp .0) eh) ∙ z .1,
-        )))
+    answer s = less-record t c d _ _ place-d (λ u z. inr (inr (c, place-d, z))) (λ s. s .entries c d place-c place-d)
+        (one-ok t (messageOf (headerOf m) s) n1 ok1 (λ u a z. its-own u a (made-both (headerOf m) s a u z)))
 
     -- what waits then waited, or is the message's
     inserts : (k : Epoch) (kind : Kind) → recordOf t c d .waiting .count < waitingLimit → (u : ℕ)
@@ -271,9 +260,7 @@ module _ (t : Table) (f : Formed t) (p : ℕ) (lp : p < placeLimit) where
     -- a read or a prewrite
     took-arrived : (blocks : ℕ) (current k : Epoch) (kind : Kind) → Took (arrived blocks current (recordOf t c d) (headerOf m) k kind)
     took-arrived blocks current k kind = arrived-walk Took blocks current (recordOf t c d) (headerOf m) k kind
-        (answer (Message.Mismatch (headerOf m)) refl) (answer (Message.Error (headerOf m)) refl)
-        (answer (Message.OutOfOrder (headerOf m)) refl) (answer (Message.Busy (headerOf m)) refl)
-        (λ z. took-waits k kind (z .room))
+        (λ x. answer (Sort.Refusal x)) (λ z. took-waits k kind (z .room))
 
     -- nothing happens
     same : Took (silent (recordOf t c d))
@@ -289,7 +276,7 @@ module _ (t : Table) (f : Formed t) (p : ℕ) (lp : p < placeLimit) where
     took-decides : (blocks : ℕ) (commit : Bool) → Took (decides blocks (recordOf t c d) (headerOf m) commit)
     unfolding replied
     took-decides blocks commit = decides-walk Took blocks (recordOf t c d) (headerOf m) commit
-        (less-record t c d _ n1 place-d
+        (λ _. less-record t c d _ n1 place-d
         (λ u z. inr (inr (
           c,
           place-d,
@@ -300,40 +287,34 @@ module _ (t : Table) (f : Formed t) (p : ℕ) (lp : p < placeLimit) where
         (λ _. marked-length commit (headerOf m .timestamp) (recordOf t c d .waiting)) ok1)
         same
 
-    -- a reply at a host
+    -- at a chunk, by its sort
+    took-at : (blocks : ℕ) (current : Epoch) (s : Sort) → Took (atChunk blocks current (recordOf t c d) (headerOf m) s)
+    unfolding atChunk
+    took-at blocks current (Sort.Request k Request.Read) = took-arrived blocks current k Kind.Read
+    took-at blocks current (Sort.Request k (Request.Prewrite v)) = took-arrived blocks current k (Kind.Undecided v)
+    took-at blocks current (Sort.Request k Request.Commit) = took-decides blocks true
+    took-at blocks current (Sort.Request k Request.Abort) = took-decides blocks false
+    took-at blocks current (Sort.Refusal x) = same
+    took-at blocks current (Sort.ReadReply v) = same
+    took-at blocks current Sort.PrewriteReply = same
+
+    -- .. in any state
+    chunk-takes : Took (arrives (t .creation .blocks) (chunkOf t c) (recordOf t c d) m)
+    chunk-takes = walk Took (isNormal (chunkOf t c .state)) _ _ (λ _. took-at (t .creation .blocks) (chunkOf t c .epoch) (sortOf m)) (λ _. same)
+
+    -- at a host
     host-takes : Less (hostTakes (withPlaces t n1) (headerOf m) m) t
-    host-takes = walk (λ (x : Table). Less x t) (hostOf t (headerOf m .host) .working) _ _
-        (λ _. go (at-host-keeps (hostOf t (headerOf m .host)) m)) (λ _. drop-less)
-      where
-        go : Hears (hostOf t (headerOf m .host)) (atHost (hostOf t (headerOf m .host)) m)
-            → Less (withPlaces (withHost t (headerOf m .host) (atHost (hostOf t (headerOf m .host)) m)) n1) t
-        go k = less-host t (headerOf m .host) _ n1 (kept t (headerOf m .host) _
-            (λ _. ap (λ (q : Queue). getD (take (q .count) (q .operations)) 0 zeroOperation) (k .queue)) (k .timestamp))
-            (let z = k .clock in omega arith)
-            (λ s. ap (λ (q : Queue). length (q .operations)) (k .queue)
-            ∙ s .queues (headerOf m .host) (host-place (t .creation) (headerOf m .host) (facts .header .host) (f .creation))) ok1
+    host-takes =
+        let k = hears-keeps (hostOf t (headerOf m .host)) m in
+        less-host t (headerOf m .host) _ n1 (kept t (headerOf m .host) _
+        (λ _. ap (λ (q : Queue). getD (take (q .count) (q .operations)) 0 zeroOperation) (k .queue)) (k .timestamp))
+        (let z = k .clock in omega arith)
+        (λ s. ap (λ (q : Queue). length (q .operations)) (k .queue)
+        ∙ s .queues (headerOf m .host) (host-place (t .creation) (headerOf m .host) (facts .header .host) (f .creation))) ok1
 
-  -- a message at a chunk, by its kind
-  took-at : (m : Message) (e : slotOf (t .places) p ≡ Slot.Full m) (blocks : ℕ) (current : Epoch)
-      → Took m e (atChunk blocks current (recordOf t (headerOf m .chunk) (headerOf m .block)) m)
-  unfolding atChunk
-  took-at (Message.Read hd k) e blocks current = took-arrived (Message.Read hd k) e blocks current k Kind.Read
-  took-at (Message.Prewrite hd k v) e blocks current = took-arrived (Message.Prewrite hd k v) e blocks current k (Kind.Undecided v)
-  took-at (Message.Commit hd k) e blocks current = took-decides (Message.Commit hd k) e blocks true
-  took-at (Message.Abort hd k) e blocks current = took-decides (Message.Abort hd k) e blocks false
-  took-at (Message.Mismatch hd) e blocks current = same (Message.Mismatch hd) e
-  took-at (Message.Error hd) e blocks current = same (Message.Error hd) e
-  took-at (Message.OutOfOrder hd) e blocks current = same (Message.OutOfOrder hd) e
-  took-at (Message.Busy hd) e blocks current = same (Message.Busy hd) e
-  took-at (Message.ReadReply hd v) e blocks current = same (Message.ReadReply hd v) e
-  took-at (Message.PrewriteReply hd) e blocks current = same (Message.PrewriteReply hd) e
-
-  -- deliver
-  pub deliver-less : (m : Message) → slotOf (t .places) p ≡ Slot.Full m → Less (takes (withPlaces t n1) (Slot.Full m)) t
-  deliver-less m e = walk (λ (x : Table). Less x t) (isForChunk m) _ _
-      (λ _. walk (λ (x : Table). Less x t) (isNormal (chunkOf t (headerOf m .chunk) .state)) _ _
-      (λ _. took-at m e (t .creation .blocks) (chunkOf t (headerOf m .chunk) .epoch)) (λ _. drop-less))
-      (λ _. host-takes m e)
+    -- deliver
+    pub deliver-less : Less (takes (withPlaces t n1) (Slot.Full m)) t
+    deliver-less = walk (λ (x : Table). Less x t) (isForChunk (sortOf m)) _ _ (λ _. chunk-takes) (λ _. host-takes)
 
 -- ---- a failure: what waits at other chunks stays
 

@@ -9,13 +9,14 @@ use lib.ListN.{drop}
 use lib.Seq.{getD-set-same}
 use lib.Dec.{eqb}
 use borrow.Author.Tests.{ltb-true, leb-false, eqb-true, eq-eqb, ne-eqb, not-false}
-use Rattle.one_copy.specs.Types.{Set, Action, Operation, Host, Message, Place, Table, Outcome}
+use Rattle.one_copy.specs.Types.{Set, Action, Operation, Host, Message, Request, Sort, Place, Table, Outcome}
 use Rattle.one_copy.specs.Listed.{Write, writeOf, byHost}
 use Rattle.rules.specs.Codes.{codeOf}
 use Rattle.rules.specs.Events.{holdersOf}
 use Rattle.rules.specs.Hosts.{operationsOf, queueOf, front, appended, startRefusals, only, openingTo, opening, started, finishRefusals, closingTo, closing, doneAs, failedAs, goesBack, finishOutcome, ended, finished, timedOut, refreshed, stopped, withQueue}
-use Rattle.rules.specs.Kinds.{isReading, headerOf, headed}
+use Rattle.rules.specs.Kinds.{isReading}
 use Rattle.rules.specs.Limits.{hostLimit, chunkLimit, operationLimit}
+use Rattle.rules.specs.Messages.{headed, asking}
 use Rattle.rules.specs.Network.{sentToEach}
 use Rattle.rules.specs.Tables.{isHost, isChunk, isBlock, setOf, hostOf, withHost, withPlaces}
 use Rattle.rules.specs.Timestamps.{stamp}
@@ -180,7 +181,7 @@ module _ (b : ℕ) (h : Hist) (t : Table) (f : Formed t) (s : Shape t) (lb : isB
     -- the table after the start
     abbrev after : Action → Table
     after a = withPlaces (withHost t j (started x (stamp clock j) clock (to a)))
-        (sentToEach (t .places) (to a) (λ c. opening (headed j c (front x .block) (stamp clock j)) (x .epoch) a))
+        (sentToEach (t .places) (to a) (λ c. asking (headed j c (front x .block) (stamp clock j)) (x .epoch) (opening a)))
 
     -- by the operation, and by its block: this one or another
     start-as : x .clock < clock → (a : Action) → front x .action ≡ a → isReading a && not (copy among holdersOf t x) ≡ false
@@ -196,8 +197,8 @@ module _ (b : ℕ) (h : Hist) (t : Table) (f : Formed t) (s : Shape t) (lb : isB
             | inl q ↦ inl q
             | inr q ↦ inr (
               q .0,
-              subst (λ d. P (Message.Prewrite (headed j (q .0) d (stamp clock j)) (x .epoch) (y .value))) eb
-                  (subst (λ u. P (Message.Prewrite (headed j (q .0) (front x .block) (stamp clock j)) (x .epoch) u))
+              subst (λ d. P (asking (headed j (q .0) d (stamp clock j)) (x .epoch) (Request.Prewrite (y .value)))) eb
+                  (subst (λ u. P (asking (headed j (q .0) (front x .block) (stamp clock j)) (x .epoch) (Request.Prewrite u)))
                   (sym (ap written ea)) (q .3)),
             )
           ])
@@ -229,7 +230,7 @@ module _ (b : ℕ) (h : Hist) (t : Table) (f : Formed t) (s : Shape t) (lb : isB
         new u false e q = inl (q, refl)
 
         m : ℕ → Message
-        m c = Message.Prewrite (headed j c (front x .block) (stamp clock j)) (x .epoch) v
+        m c = asking (headed j c (front x .block) (stamp clock j)) (x .epoch) (Request.Prewrite v)
 
         n : List Place
         n = sentToEach (t .places) (holdersOf t x) m
@@ -241,8 +242,8 @@ module _ (b : ℕ) (h : Hist) (t : Table) (f : Formed t) (s : Shape t) (lb : isB
           (λ P z. elim (sent-each P m (only copy) (t .places) z) [
             | inl q ↦ inl q
             | inr q ↦ (let e : copy ≡ q .0 = eqb-true copy (q .0) (sym (only-at copy (q .0) (q .1)) ∙ q .2) in
-                inr (subst (λ d. P (Message.Read (headed j copy d (stamp clock j)) (x .epoch))) eb
-                (subst (λ d. P (Message.Read (headed j d (front x .block) (stamp clock j)) (x .epoch))) (sym e) (q .3))))
+                inr (subst (λ d. P (asking (headed j copy d (stamp clock j)) (x .epoch) Request.Read)) eb
+                (subst (λ d. P (asking (headed j d (front x .block) (stamp clock j)) (x .epoch) Request.Read)) (sym e) (q .3))))
           ])
           (rw ea refl) (only-at copy copy (inside t f b lb copy held) ∙ eq-eqb copy copy refl) held);
       listed = refl;
@@ -260,7 +261,7 @@ module _ (b : ℕ) (h : Hist) (t : Table) (f : Formed t) (s : Shape t) (lb : isB
         y = seatOf (started x (stamp clock j) clock (only copy))
 
         m : ℕ → Message
-        m c = Message.Read (headed j c (front x .block) (stamp clock j)) (x .epoch)
+        m c = asking (headed j c (front x .block) (stamp clock j)) (x .epoch) Request.Read
 
         n : List Place
         n = sentToEach (t .places) (only copy) m
@@ -271,17 +272,13 @@ module _ (b : ℕ) (h : Hist) (t : Table) (f : Formed t) (s : Shape t) (lb : isB
         (start-other S (inside t f b lb) b h (t .epoch .0) (seatsOf t) (partOf t b) (t .places) i j clock small lt
         (seatOf (started x (stamp clock j) clock (to a))) refl refl (i .known j) n
         (net-foreign b n (t .places) ℕ m (λ P z. elim (sent-each P m (to a) (t .places) z) [ inl q ↦ inl q | inr q ↦ inr (q .0, q .3) ])
-        (λ c. far-message b (m c) (far-opening a c))) far))
+        (λ c. far-message b (headed j c (front x .block) (stamp clock j)) (Sort.Request (x .epoch) (opening a)) far)) far))
       where
         m : ℕ → Message
-        m c = opening (headed j c (front x .block) (stamp clock j)) (x .epoch) a
+        m c = asking (headed j c (front x .block) (stamp clock j)) (x .epoch) (opening a)
 
         n : List Place
         n = sentToEach (t .places) (to a) m
-
-        far-opening : (a : Action) (c : ℕ) → headerOf (opening (headed j c (front x .block) (stamp clock j)) (x .epoch) a) .block ≡ b → ⊥
-        far-opening Action.Read c = far
-        far-opening (Action.Write v) c = far
 
     -- start
     pub ev-start : (free messages : ℕ) → codeOf (startRefusals x clock copy (holdersOf t x) free messages) ≡ 0
@@ -301,8 +298,8 @@ module _ (b : ℕ) (h : Hist) (t : Table) (f : Formed t) (s : Shape t) (lb : isB
   -- the table after it
   abbrev closed : Action → Bool → Table
   closed a o = withPlaces (withHost t j (finished x))
-      (sentToEach (t .places) (closingTo a (holdersOf t x)) (λ c. closing o (headed j c (front x .block) (x .attempt .timestamp))
-      (x .epoch)))
+      (sentToEach (t .places) (closingTo a (holdersOf t x)) (λ c. asking (headed j c (front x .block) (x .attempt .timestamp))
+      (x .epoch) (closing o)))
 
   -- what it commits
   abbrev commits : Action → Bool → List Write
@@ -355,7 +352,7 @@ module _ (b : ℕ) (h : Hist) (t : Table) (f : Formed t) (s : Shape t) (lb : isB
     -- nothing of block b, or nothing that counts
     finish-other : (a : Action) (o : Bool)
         → NetLe b (sentToEach (t .places) (closingTo a (holdersOf t x))
-        (λ c. closing o (headed j c (front x .block) (x .attempt .timestamp)) (x .epoch))) (t .places)
+        (λ c. asking (headed j c (front x .block) (x .attempt .timestamp)) (x .epoch) (closing o))) (t .places)
         → Good b h (closed a o)
     finish-other a o le = good-host b h t s j (finished x) _ small
         (end-other S (inside t f b lb) b h (t .epoch .0) (seatsOf t) (partOf t b) (t .places) i j (seatOf (finished x)) (left .0)
@@ -363,24 +360,19 @@ module _ (b : ℕ) (h : Hist) (t : Table) (f : Formed t) (s : Shape t) (lb : isB
 
     -- a read sends nothing
     read-net : (o : Bool) → NetLe b
-        (sentToEach (t .places) zeroSet (λ c. closing o (headed j c (front x .block) (x .attempt .timestamp)) (x .epoch))) (t .places)
+        (sentToEach (t .places) zeroSet (λ c. asking (headed j c (front x .block) (x .attempt .timestamp)) (x .epoch) (closing o))) (t .places)
     read-net o = subst (λ (n : List Place). NetLe b n (t .places)) (sym
-        (none-sent (t .places) (λ c. closing o (headed j c (front x .block) (x .attempt .timestamp)) (x .epoch)))) (net-same b (t .places))
+        (none-sent (t .places) (λ c. asking (headed j c (front x .block) (x .attempt .timestamp)) (x .epoch) (closing o)))) (net-same b (t .places))
 
     -- a write of another block sends nothing of this one
     far-net : (to : Set) (o : Bool) → (front x .block ≡ b → ⊥) → NetLe b
-        (sentToEach (t .places) to (λ c. closing o (headed j c (front x .block) (x .attempt .timestamp)) (x .epoch))) (t .places)
+        (sentToEach (t .places) to (λ c. asking (headed j c (front x .block) (x .attempt .timestamp)) (x .epoch) (closing o))) (t .places)
     far-net to o far = net-foreign b _ (t .places) ℕ m
         (λ P z. elim (sent-each P m to (t .places) z) [ inl q ↦ inl q | inr q ↦ inr (q .0, q .3) ])
-        (λ c. far-message b (m c) (far-closing o c))
+        (λ c. far-message b (headed j c (front x .block) (x .attempt .timestamp)) (Sort.Request (x .epoch) (closing o)) far)
       where
         m : ℕ → Message
-        m c = closing o (headed j c (front x .block) (x .attempt .timestamp)) (x .epoch)
-
-        far-closing : (o : Bool) (c : ℕ)
-            → headerOf (closing o (headed j c (front x .block) (x .attempt .timestamp)) (x .epoch)) .block ≡ b → ⊥
-        far-closing true c = far
-        far-closing false c = far
+        m c = asking (headed j c (front x .block) (x .attempt .timestamp)) (x .epoch) (closing o)
 
     -- it is at a write of block b
     hasW : (v : ℕ) → front x .action ≡ Action.Write v → front x .block ≡ b → HasW b (seatsOf t j) (x .attempt .timestamp .0)
@@ -394,10 +386,10 @@ module _ (b : ℕ) (h : Hist) (t : Table) (f : Formed t) (s : Shape t) (lb : isB
       good = good-host b (lists h (mine ∷ [])) t s j (finished x) _ small
           (end-commit S (inside t f b lb) b h (t .epoch .0) (seatsOf t) (partOf t b) (t .places) i j (seatOf (finished x)) (left .0)
           (left .1) knows _ (x .attempt .timestamp) (x .epoch) (hasW v ea eb) eo out
-          (λ P z. elim (sent-each P (λ c. Message.Commit (headed j c (front x .block) (x .attempt .timestamp)) (x .epoch))
+          (λ P z. elim (sent-each P (λ c. asking (headed j c (front x .block) (x .attempt .timestamp)) (x .epoch) Request.Commit)
           (holdersOf t x) (t .places) z) [
             | inl q ↦ inl q
-            | inr q ↦ inr (q .0, subst (λ d. P (Message.Commit (headed j (q .0) d (x .attempt .timestamp)) (x .epoch))) eb (q .3))
+            | inr q ↦ inr (q .0, subst (λ d. P (asking (headed j (q .0) d (x .attempt .timestamp)) (x .epoch) Request.Commit)) eb (q .3))
           ]));
       listed = rw (eq-eqb (front x .block) b eb, ea) refl;
       kept = λ u w z. z;
@@ -411,10 +403,10 @@ module _ (b : ℕ) (h : Hist) (t : Table) (f : Formed t) (s : Shape t) (lb : isB
         (failing (x .attempt .restart) (Action.Write v)) (good-host b h t s j (finished x) _ small
         (end-abort S (inside t f b lb) b h (t .epoch .0) (seatsOf t) (partOf t b) (t .places) i j (seatOf (finished x)) (left .0)
         (left .1) knows _ (x .attempt .timestamp) (x .epoch) (hasW v ea eb) eo
-        (λ P z. elim (sent-each P (λ c. Message.Abort (headed j c (front x .block) (x .attempt .timestamp)) (x .epoch)) (holdersOf t x)
+        (λ P z. elim (sent-each P (λ c. asking (headed j c (front x .block) (x .attempt .timestamp)) (x .epoch) Request.Abort) (holdersOf t x)
         (t .places) z) [
           | inl q ↦ inl q
-          | inr q ↦ inr (q .0, subst (λ d. P (Message.Abort (headed j (q .0) d (x .attempt .timestamp)) (x .epoch))) eb (q .3))
+          | inr q ↦ inr (q .0, subst (λ d. P (asking (headed j (q .0) d (x .attempt .timestamp)) (x .epoch) Request.Abort)) eb (q .3))
         ])))
     finish-as (Action.Write v) ea true eo (inr far) = idly (outcomeOf (Action.Write v) true) _ _ (far-commits (Action.Write v) true far) (far-done (Action.Write v) far)
         (finish-other (Action.Write v) true (far-net (holdersOf t x) true far))

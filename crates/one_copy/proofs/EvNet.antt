@@ -8,12 +8,13 @@ use native.Mathlib.Omega.{arith}
 use lib.ListN.{getD, take}
 use lib.Seq.{getD-set-other}
 use borrow.Author.Tests.{ltb-true, ltb-false, eqb-true}
-use Rattle.one_copy.specs.Types.{Timestamp, Epoch, Kind, Entry, Queue, Host, Header, Message, Slot, Place, Table, Arrived, Outcome}
-use Rattle.rules.specs.Chunks.{withWaiting, silent, isOutOfOrder, entryOf, waits, arrived, decides, atChunk}
+use Rattle.one_copy.specs.Types.{Timestamp, Epoch, Kind, Entry, Queue, Host, Header, Message, Request, Refusal, Sort, Slot, Place, Table, Arrived, Outcome}
+use Rattle.rules.specs.Chunks.{withWaiting, silent, isOutOfOrder, entryOf, waits, arrived, decides, atChunk, arrives}
 use Rattle.rules.specs.Events.{hostTakes, takes}
-use Rattle.rules.specs.Hosts.{front, counts, answeredBy, heard, atHost}
-use Rattle.rules.specs.Kinds.{isNormal, isReading, headerOf, isForChunk}
+use Rattle.rules.specs.Hosts.{front, counts, answeredBy, heard, atHost, hears}
+use Rattle.rules.specs.Kinds.{isNormal, isReading}
 use Rattle.rules.specs.Limits.{chunkLimit, blockLimit, placeLimit, waitingLimit}
+use Rattle.rules.specs.Messages.{headerOf, sortOf, messageOf, isForChunk}
 use Rattle.rules.specs.Network.{removed, sent, replied}
 use Rattle.rules.specs.Tables.{isBlock, hostOf, chunkOf, recordOf, slotOf, withPlaces, withRecord}
 use Rattle.rules.specs.Timestamps.{_is_, _below_}
@@ -21,15 +22,15 @@ use Rattle.rules.specs.Waiting.{inserted, marked}
 use Rattle.rules.specs.Zero.{_among_, zeroOperation}
 use Rattle.rules.proofs.Formed.{Formed, FormedMessage, host-place, chunk-place, block-place, chunk-of, chunk-facts, waiting-of, message-facts}
 use Rattle.rules.proofs.Lists.{three, walk}
+use Rattle.rules.proofs.Messages.{Passed, arrived-walk, decides-walk, heard-refusal}
 use Rattle.one_copy.proofs.Tests.{at, at-id, eq-or-ne, not-both}
 use Rattle.one_copy.proofs.Abs.{cmt, abt}
 use Rattle.one_copy.proofs.Net.{ofRead, ofPre, ofCommit, ofAbort, ofValue, ofAck, ofBoth, Sent, sent-one, sent-taken, sent-at}
 use Rattle.one_copy.proofs.Queue.{markOf, inserted-order, marked-order}
-use Rattle.one_copy.proofs.View.{Hist, Part, partOf, seatOf, seatsOf, NetLe, net-less, far-message, plain-order, plain-mismatch, plain-error, plain-busy, CInv, Quiet, quiet}
+use Rattle.one_copy.proofs.View.{Hist, Part, partOf, seatOf, seatsOf, NetLe, net-less, plain, far-message, CInv, Quiet, quiet}
 use Rattle.one_copy.proofs.Chunks.{withQueue, net-only, takes-read, takes-write, marks}
 use Rattle.one_copy.proofs.Shapes.{Shape}
 use Rattle.one_copy.proofs.Homes.{Homes}
-use Rattle.one_copy.proofs.Arrivals.{Passed, arrived-walk, decides-walk, heard-keeps}
 use Rattle.one_copy.proofs.Good.{In, Good, good-host, good-record, good-far, Next, unnoted}
 use Rattle.one_copy.proofs.EvHost.{front-same, same-host, sour-host}
 use Rattle.one_copy.proofs.EvChunk.{Plain, net-replied}
@@ -113,7 +114,7 @@ module _ (b : ℕ) (h : Hist) (t : Table) (f : Formed t) (s : Shape t) (lb : isB
         ⊎ ((markOf commit ≡ abt) × Sent (t .places) (ofAbort b (hd .timestamp .0))))
         → Took (decides blocks (recordOf t c (hd .block)) hd commit)
     unfolding replied
-    took-decides blocks commit nm msg = decides-walk Took blocks (recordOf t c (hd .block)) hd commit (elim (eq-or-ne (hd .block) b) [
+    took-decides blocks commit nm msg = decides-walk Took blocks (recordOf t c (hd .block)) hd commit (λ _. elim (eq-or-ne (hd .block) b) [
       | inl db ↦ subst⁻¹ (λ (d : ℕ). Good b h
           (withPlaces (withRecord t c d (withWaiting (recordOf t c d) (marked commit (hd .timestamp) (recordOf t c d .waiting)))) n1)) db
           (good-record b h t s c _ n1 place-c place-b
@@ -129,8 +130,7 @@ module _ (b : ℕ) (h : Hist) (t : Table) (f : Formed t) (s : Shape t) (lb : isB
         → Took (waits (recordOf t c (hd .block)) hd k kind))
         → Took (arrived (t .creation .blocks) (chunkOf t c .epoch) (recordOf t c (hd .block)) hd k kind)
     took-arrived k kind g = arrived-walk Took (t .creation .blocks) (chunkOf t c .epoch) (recordOf t c (hd .block)) hd k kind
-        (as-was (Slot.Full (Message.Mismatch hd)) (plain-mismatch b hd)) (as-was (Slot.Full (Message.Error hd)) (plain-error b hd))
-        (as-was (Slot.Full (Message.OutOfOrder hd)) (plain-order b hd)) (as-was (Slot.Full (Message.Busy hd)) (plain-busy b hd)) g
+        (λ x. as-was (Slot.Full (messageOf hd (Sort.Refusal x))) (plain b hd x)) g
 
     -- the chunk's epoch is the store's
     one-epoch : chunkOf t c .epoch .0 ≡ t .epoch .0
@@ -163,40 +163,44 @@ module _ (b : ℕ) (h : Hist) (t : Table) (f : Formed t) (s : Shape t) (lb : isB
       | inl db ↦ subst⁻¹ (λ (d : ℕ). recordOf t c d .waiting .count < waitingLimit
           → isOutOfOrder (Kind.Undecided v) (hd .timestamp) (recordOf t c d) ≡ false
           → Good b h (withPlaces (withRecord t c d (withWaiting (recordOf t c d)
-          (inserted (recordOf t c d .waiting) (entryOf hd k (Kind.Undecided v))))) (sent n1 (Message.PrewriteReply hd)))) db
+          (inserted (recordOf t c d .waiting) (entryOf hd k (Kind.Undecided v))))) (sent n1 (messageOf hd Sort.PrewriteReply)))) db
           (λ room order. let o = or-false (hd .timestamp below recordOf t c b .write) (hd .timestamp below recordOf t c b .read) order in
           good-record b h t s c _ _ place-c place-b
           (subst⁻¹ (λ (q : List Entry). CInv S b h (t .epoch .0) (seatsOf t) (at c (withQueue (partOf t b c) q) (partOf t b))
-          (sent n1 (Message.PrewriteReply hd)))
+          (sent n1 (messageOf hd Sort.PrewriteReply)))
           (inserted-order (recordOf t c b .waiting) (entryOf hd k (Kind.Undecided v)) room)
-          (takes-write S b h (t .epoch .0) (seatsOf t) (partOf t b) (t .places) i c nm hd k v (sent n1 (Message.PrewriteReply hd)) refl
-          (λ P z. elim (sent-one P (Message.PrewriteReply hd) n1 z) [ inl q ↦ inl (taken P q) | inr q ↦ inr q ]) (msg db)
+          (takes-write S b h (t .epoch .0) (seatsOf t) (partOf t b) (t .places) i c nm hd k v (sent n1 (messageOf hd Sort.PrewriteReply)) refl
+          (λ P z. elim (sent-one P (messageOf hd Sort.PrewriteReply) n1 z) [ inl q ↦ inl (taken P q) | inr q ↦ inr q ]) (msg db)
           (ps .current ∙ one-epoch) (ltb-false (hd .timestamp .0) (recordOf t c b .write .0) (o .0))
           (ltb-false (hd .timestamp .0) (recordOf t c b .read .0) (o .1))))) (ps .room) (ps .order)
-      | inr n ↦ far (waits (recordOf t c (hd .block)) hd k (Kind.Undecided v)) (far-message b (Message.PrewriteReply hd) n) n
+      | inr n ↦ far (waits (recordOf t c (hd .block)) hd k (Kind.Undecided v)) (far-message b hd Sort.PrewriteReply n) n
     ]
 
-  -- a message at a chunk, by its kind
-  took-at : (m : Message) (e : slotOf (t .places) p ≡ Slot.Full m) → isNormal (chunkOf t (headerOf m .chunk) .state) ≡ true
+  -- a message at a chunk, by its sort
+  took-at : (m : Message) (e : slotOf (t .places) p ≡ Slot.Full m) (s : Sort) → sortOf m ≡ s
+      → isNormal (chunkOf t (headerOf m .chunk) .state) ≡ true
       → Took m e (atChunk (t .creation .blocks) (chunkOf t (headerOf m .chunk) .epoch)
-      (recordOf t (headerOf m .chunk) (headerOf m .block)) m)
+      (recordOf t (headerOf m .chunk) (headerOf m .block)) (headerOf m) s)
   unfolding atChunk
-  took-at (Message.Read hd k) e nm = took-arrived (Message.Read hd k) e k Kind.Read
-      (read-waits (Message.Read hd k) e k nm (λ db. sent-at (ofRead b (hd .chunk) (hd .timestamp .0)) (t .places) p
-      (Message.Read hd k) e (db, refl, refl)))
-  took-at (Message.Prewrite hd k v) e nm = took-arrived (Message.Prewrite hd k v) e k (Kind.Undecided v)
-      (write-waits (Message.Prewrite hd k v) e k v nm (λ db. sent-at (ofPre b (hd .chunk) (hd .timestamp .0) (k .0) v) (t .places) p
-      (Message.Prewrite hd k v) e (db, refl, refl, refl, refl)))
-  took-at (Message.Commit hd k) e nm = took-decides (Message.Commit hd k) e (t .creation .blocks) true nm
-      (λ db. inl (refl, sent-at (ofCommit b (hd .timestamp .0)) (t .places) p (Message.Commit hd k) e (db, refl)))
-  took-at (Message.Abort hd k) e nm = took-decides (Message.Abort hd k) e (t .creation .blocks) false nm
-      (λ db. inr (refl, sent-at (ofAbort b (hd .timestamp .0)) (t .places) p (Message.Abort hd k) e (db, refl)))
-  took-at (Message.Mismatch hd) e nm = as-was (Message.Mismatch hd) e Slot.Empty tt
-  took-at (Message.Error hd) e nm = as-was (Message.Error hd) e Slot.Empty tt
-  took-at (Message.OutOfOrder hd) e nm = as-was (Message.OutOfOrder hd) e Slot.Empty tt
-  took-at (Message.Busy hd) e nm = as-was (Message.Busy hd) e Slot.Empty tt
-  took-at (Message.ReadReply hd v) e nm = as-was (Message.ReadReply hd v) e Slot.Empty tt
-  took-at (Message.PrewriteReply hd) e nm = as-was (Message.PrewriteReply hd) e Slot.Empty tt
+  took-at m e (Sort.Request k Request.Read) es nm = took-arrived m e k Kind.Read
+      (read-waits m e k nm (λ db. sent-at (ofRead b (headerOf m .chunk) (headerOf m .timestamp .0)) (t .places) p m e
+      (rw es tt, db, refl, refl)))
+  took-at m e (Sort.Request k (Request.Prewrite v)) es nm = took-arrived m e k (Kind.Undecided v)
+      (write-waits m e k v nm (λ db. sent-at (ofPre b (headerOf m .chunk) (headerOf m .timestamp .0) (k .0) v) (t .places) p m e
+      (rw es (refl, refl), db, refl, refl)))
+  took-at m e (Sort.Request k Request.Commit) es nm = took-decides m e (t .creation .blocks) true nm
+      (λ db. inl (refl, sent-at (ofCommit b (headerOf m .timestamp .0)) (t .places) p m e (rw es tt, db, refl)))
+  took-at m e (Sort.Request k Request.Abort) es nm = took-decides m e (t .creation .blocks) false nm
+      (λ db. inr (refl, sent-at (ofAbort b (headerOf m .timestamp .0)) (t .places) p m e (rw es tt, db, refl)))
+  took-at m e (Sort.Refusal x) es nm = as-was m e Slot.Empty tt
+  took-at m e (Sort.ReadReply v) es nm = as-was m e Slot.Empty tt
+  took-at m e Sort.PrewriteReply es nm = as-was m e Slot.Empty tt
+
+  -- .. in any state
+  chunk-takes : (m : Message) (e : slotOf (t .places) p ≡ Slot.Full m)
+      → Took m e (arrives (t .creation .blocks) (chunkOf t (headerOf m .chunk)) (recordOf t (headerOf m .chunk) (headerOf m .block)) m)
+  chunk-takes m e = walk (Took m e) (isNormal (chunkOf t (headerOf m .chunk) .state)) _ _ (took-at m e (sortOf m) refl)
+      (λ _. as-was m e Slot.Empty tt)
 
   -- ---- at a host
 
@@ -219,56 +223,52 @@ module _ (b : ℕ) (h : Hist) (t : Table) (f : Formed t) (s : Shape t) (lb : isB
     as-before j = same-host S b (t .places) (t .epoch .0) (seatsOf t j) (seatsOf t j)
         (front-same (hostOf t j) (hostOf t j) refl) refl refl (i .known j) refl refl refl
 
-    -- an answer that clears okay
-    sour : (j : ℕ) (m : Message) → heard (hostOf t j) (answeredBy (hostOf t j .attempt) (headerOf m .chunk)) m .attempt .okay ≡ false
-        → QuietTo j (heard (hostOf t j) (answeredBy (hostOf t j .attempt) (headerOf m .chunk)) m)
-    sour j m ek =
-        let x = hostOf t j in
-        let y = heard x (answeredBy (x .attempt) (headerOf m .chunk)) m in
-        let k = heard-keeps x (headerOf m .chunk) m in
+    -- a refusal clears okay
+    sour : (j c : ℕ) (x : Refusal) → QuietTo j (heard (hostOf t j) (answeredBy (hostOf t j .attempt) c) (Sort.Refusal x))
+    sour j c x =
+        let h = hostOf t j in
+        let y = heard h (answeredBy (h .attempt) c) (Sort.Refusal x) in
+        let k = heard-refusal h (answeredBy (h .attempt) c) x in
         sour-host S b (t .places) (t .epoch .0) (seatsOf t j) (seatOf y)
-        (front-same x y (ap (λ (q : Queue). getD (take (q .count) (q .operations)) 0 zeroOperation) (k .queue)))
+        (front-same h y (ap (λ (q : Queue). getD (take (q .count) (q .operations)) 0 zeroOperation) (k .queue)))
         (ap (λ (u : Timestamp). u .0) (k .timestamp)) (k .clock)
-        (let z = i .known j in let q : y .epoch .0 ≡ x .epoch .0 = ap (λ (u : Epoch). u .0) (k .epoch) in omega arith) ek
+        (let z = i .known j in let q : y .epoch .0 ≡ h .epoch .0 = ap (λ (u : Epoch). u .0) (k .epoch) in omega arith) (k .okay)
 
-    -- a counted answer
-    hears : (j : ℕ) (m : Message) → slotOf (t .places) p ≡ Slot.Full m → counts (hostOf t j) m ≡ true
-        → QuietTo j (heard (hostOf t j) (answeredBy (hostOf t j .attempt) (headerOf m .chunk)) m)
-    hears j (Message.Mismatch hd) e k = sour j (Message.Mismatch hd) refl
-    hears j (Message.Error hd) e k = sour j (Message.Error hd) refl
-    hears j (Message.OutOfOrder hd) e k = sour j (Message.OutOfOrder hd) refl
-    hears j (Message.Busy hd) e k = sour j (Message.Busy hd) refl
-    hears j (Message.Read hd q) e k = as-before j
-    hears j (Message.Prewrite hd q v) e k = as-before j
-    hears j (Message.Commit hd q) e k = as-before j
-    hears j (Message.Abort hd q) e k = as-before j
-    hears j (Message.ReadReply hd v) e k =
+    -- a counted answer, by its sort
+    heard-quiet : (j : ℕ) (m : Message) → slotOf (t .places) p ≡ Slot.Full m → (s : Sort) → sortOf m ≡ s → counts (hostOf t j) m ≡ true
+        → QuietTo j (heard (hostOf t j) (answeredBy (hostOf t j .attempt) (headerOf m .chunk)) s)
+    heard-quiet j m e (Sort.Refusal x) es k = sour j (headerOf m .chunk) x
+    heard-quiet j m e (Sort.Request epoch q) es k = as-before j
+    heard-quiet j m e (Sort.ReadReply v) es k =
         let x = hostOf t j in
-        let r = three (hd .timestamp is x .attempt .timestamp) (hd .chunk among x .attempt .outstanding) (isReading (front x .action)) k in
+        let hd = headerOf m in
+        let r = three (hd .timestamp is x .attempt .timestamp) (hd .chunk among x .attempt .outstanding) (isReading (front x .action))
+        (rw es at k) in
         let et = eqb-true (hd .timestamp .0) (x .attempt .timestamp .0) (r .0) in
         let reads : not (isReading (front x .action)) ≡ false = ap not (r .2) in
         record {
           w = λ u z. absurd (not-both (not (isReading (front x .action))) (z .write) reads);
           okay = λ u z. absurd (not-both (not (isReading (front x .action))) (z .write) reads);
           out = λ u z. absurd (not-both (not (isReading (front x .action))) (z .write) reads);
-          r = λ u y z. inr (sent-at (ofValue b u y) (t .places) p (Message.ReadReply hd v) e
-              (sym (same-block j (Message.ReadReply hd v) e et (omega (arith, z .stamp, z .pos))) ∙ z .block, et ∙ z .stamp, z .value));
+          r = λ u y z. inr (sent-at (ofValue b u y) (t .places) p m e
+              (rw es (z .value), sym (same-block j m e et (omega (arith, z .stamp, z .pos))) ∙ z .block, et ∙ z .stamp));
           value = λ u z. refl;
           ts = inr refl;
           clock = refl;
           known = i .known j;
         }
-    hears j (Message.PrewriteReply hd) e k =
+    heard-quiet j m e Sort.PrewriteReply es k =
         let x = hostOf t j in
+        let hd = headerOf m in
         let r = three (hd .timestamp is x .attempt .timestamp) (hd .chunk among x .attempt .outstanding)
-        (not (isReading (front x .action))) k in
+        (not (isReading (front x .action))) (rw es at k) in
         let et = eqb-true (hd .timestamp .0) (x .attempt .timestamp .0) (r .0) in
         record {
           w = λ u z. record { stamp = z .stamp; pos = z .pos; write = z .write; block = z .block };
           okay = λ u z o. o;
           out = λ u z o a l. elim (eq-or-ne a (hd .chunk)) [
-            | inl ac ↦ inr (sent-at (ofAck b u a) (t .places) p (Message.PrewriteReply hd) e
-                (sym (same-block j (Message.PrewriteReply hd) e et (omega (arith, z .stamp, z .pos))) ∙ z .block, et ∙ z .stamp, sym ac))
+            | inl ac ↦ inr (sent-at (ofAck b u a) (t .places) p m e
+                (rw es tt, sym (same-block j m e et (omega (arith, z .stamp, z .pos))) ∙ z .block, et ∙ z .stamp, sym ac))
             | inr n ↦ inl (sym (getD-set-other (x .attempt .outstanding .chunks) (hd .chunk) a false false n) ∙ l)
           ];
           r = λ u y z. absurd (not-both (not (isReading (front x .action))) (r .2) (z .write));
@@ -278,23 +278,20 @@ module _ (b : ℕ) (h : Hist) (t : Table) (f : Formed t) (s : Shape t) (lb : isB
           known = i .known j;
         }
 
-    -- a reply at a host
+    -- a message at a host
     host-takes : (m : Message) → slotOf (t .places) p ≡ Slot.Full m → Good b h (hostTakes (withPlaces t n1) (headerOf m) m)
     unfolding atHost
-    host-takes m e = walk (Good b h) (hostOf t j .working) _ _
-        (λ _. good-host b h t s j (atHost (hostOf t j) m) n1 (host-place (t .creation) j (facts m e .header .host) (f .creation))
-        (quiet S b h (t .epoch .0) (seatsOf t) (partOf t b) (t .places) i j (seatOf (atHost (hostOf t j) m)) n1 less1
-        (walk (QuietTo j) (counts (hostOf t j) m) _ _ (hears j m e) (λ _. as-before j))))
-        (λ _. gone)
+    host-takes m e = good-host b h t s j (hears (hostOf t j) m) n1 (host-place (t .creation) j (facts m e .header .host) (f .creation))
+        (quiet S b h (t .epoch .0) (seatsOf t) (partOf t b) (t .places) i j (seatOf (hears (hostOf t j) m)) n1 less1
+        (walk (QuietTo j) (hostOf t j .working) _ _
+        (λ _. walk (QuietTo j) (counts (hostOf t j) m) _ _ (heard-quiet j m e (sortOf m) refl) (λ _. as-before j)) (λ _. as-before j)))
       where
         j : ℕ
         j = headerOf m .host
 
     -- deliver
     pub ev-deliver : (m : Message) → slotOf (t .places) p ≡ Slot.Full m → Next b h t [] Outcome.None (takes (withPlaces t n1) (Slot.Full m))
-    ev-deliver m e = unnoted b h t _ (walk (Good b h) (isForChunk m) _ _
-        (λ _. walk (Good b h) (isNormal (chunkOf t (headerOf m .chunk) .state)) _ _ (took-at m e) (λ _. gone))
-        (λ _. host-takes m e))
+    ev-deliver m e = unnoted b h t _ (walk (Good b h) (isForChunk (sortOf m)) _ _ (λ _. chunk-takes m e) (λ _. host-takes m e))
 
   -- drop
   pub ev-drop : Next b h t [] Outcome.None (withPlaces t n1)

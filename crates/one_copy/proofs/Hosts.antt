@@ -5,10 +5,10 @@ use mathlib.Core.Logic.{_⊎_, inl, inr}
 use mathlib.Core.Bool.{true, false}
 use mathlib.Core.List.{List, [], _∷_, _++_}
 use native.Mathlib.Omega.{arith}
-use Rattle.one_copy.specs.Types.{Timestamp, Epoch, Message, Place}
+use Rattle.one_copy.specs.Types.{Timestamp, Epoch, Message, Request, Place}
 use Rattle.one_copy.specs.Listed.{Write}
-use Rattle.rules.specs.Kinds.{headed}
 use Rattle.rules.specs.Limits.{chunkLimit}
+use Rattle.rules.specs.Messages.{headed, asking}
 use Rattle.rules.specs.Timestamps.{stamp}
 use Rattle.rules.specs.Zero.{_among_, isEmpty}
 use Rattle.rules.proofs.Formed.{empty-none}
@@ -139,7 +139,7 @@ module _ (S : ℕ → Type 0) (inside : (c : ℕ) → S c → c < chunkLimit) (b
 
       -- a write of block b starts
       pub begin-write : (n′ : List Place) (e : Epoch) → ((P : Message → Type 0) → Sent n′ P → Sent n P
-          ⊎ ((d : ℕ) × P (Message.Prewrite (headed j d b (stamp k j)) e (y .value))))
+          ⊎ ((d : ℕ) × P (asking (headed j d b (stamp k j)) e (Request.Prewrite (y .value)))))
           → e .0 ≤ ep → y .write ≡ true → y .block ≡ b → ((c : ℕ) → S c → c among y .out ≡ true) → (s : ℕ) → S s
           → CInv S b (begins h (stamp k j .0) writeK (y .value) (e .0)) ep (at j y hs) ps n′
       begin-write n′ e adds le yw yb yo s sm = record {
@@ -161,7 +161,7 @@ module _ (S : ℕ → Type 0) (inside : (c : ℕ) → S c → c < chunkLimit) (b
                 (z .0, z .1),
               );
               ack = λ t c. elim [
-                | inl q ↦ elim (adds (ofAck b t c) q) [ inl r ↦ inl r | inr r ↦ absurd (r .1) ]
+                | inl q ↦ elim (adds (ofAck b t c) q) [ inl r ↦ inl r | inr r ↦ absurd (r .1 .0) ]
                 | inr z ↦ elim (at-split (λ x. HasW b x t × (x .okay ≡ true) × (c among x .out ≡ false)) j y hs (z .0) (z .1, z .2, z .3)) [
                   | inl p ↦ absurd (not-both (c among y .out) (yo c (z .4)) (p .1 .2))
                   | inr p ↦ inr (z .0, p .1 .0, p .1 .1, p .1 .2, z .4)
@@ -170,13 +170,13 @@ module _ (S : ℕ → Type 0) (inside : (c : ℕ) → S c → c < chunkLimit) (b
               pre = λ c t e′ v q. elim (adds (ofPre b c t e′ v) q) [
                 | inl r ↦ inl r
                 | inr r ↦
-                    inr (sym (r .1 .2), sym (r .1 .3), sym (r .1 .4))
+                    inr (sym (r .1 .3), sym (r .1 .0 .0), sym (r .1 .0 .1))
               ];
-              rdm = λ c t q. elim (adds (ofRead b c t) q) [ inl r ↦ r | inr r ↦ absurd (r .1) ];
-              comm = λ t q. elim (adds (ofCommit b t) q) [ inl r ↦ r | inr r ↦ absurd (r .1) ];
-              abtm = λ t q. elim (adds (ofAbort b t) q) [ inl r ↦ r | inr r ↦ absurd (r .1) ];
+              rdm = λ c t q. elim (adds (ofRead b c t) q) [ inl r ↦ r | inr r ↦ absurd (r .1 .0) ];
+              comm = λ t q. elim (adds (ofCommit b t) q) [ inl r ↦ r | inr r ↦ absurd (r .1 .0) ];
+              abtm = λ t q. elim (adds (ofAbort b t) q) [ inl r ↦ r | inr r ↦ absurd (r .1 .0) ];
               seen = λ t x. elim [
-                | inl q ↦ elim (adds (ofValue b t x) q) [ inl r ↦ inl r | inr r ↦ absurd (r .1) ]
+                | inl q ↦ elim (adds (ofValue b t x) q) [ inl r ↦ inl r | inr r ↦ absurd (r .1 .0) ]
                 | inr z ↦ elim z [
                   | inl a ↦ elim (at-split (λ y. HasR b y t x) j y hs (a .0) (a .1)) [
                     | inl p ↦
@@ -204,7 +204,7 @@ module _ (S : ℕ → Type 0) (inside : (c : ℕ) → S c → c < chunkLimit) (b
 
       -- a read of block b starts at a copy
       pub begin-read : (n′ : List Place) (c : ℕ) (e : Epoch) (v : ℕ) → ((P : Message → Type 0) → Sent n′ P → Sent n P
-          ⊎ P (Message.Read (headed j c b (stamp k j)) e))
+          ⊎ P (asking (headed j c b (stamp k j)) e Request.Read))
           → y .write ≡ false → c among y .out ≡ true → S c
           → CInv S b (begins h (stamp k j .0) readK v (e .0)) ep (at j y hs) ps n′
       begin-read n′ c e v adds yw yo sm = record {
@@ -225,18 +225,18 @@ module _ (S : ℕ → Type 0) (inside : (c : ℕ) → S c → c < chunkLimit) (b
                 (z .0, z .1),
               );
               ack = λ t c. elim [
-                | inl q ↦ elim (adds (ofAck b t c) q) [ inl r ↦ inl r | inr r ↦ absurd r ]
+                | inl q ↦ elim (adds (ofAck b t c) q) [ inl r ↦ inl r | inr r ↦ absurd (r .0) ]
                 | inr z ↦ elim (at-split (λ x. HasW b x t × (x .okay ≡ true) × (c among x .out ≡ false)) j y hs (z .0) (z .1, z .2, z .3)) [
                   | inl p ↦ absurd (not-both (y .write) (p .1 .0 .write) yw)
                   | inr p ↦ inr (z .0, p .1 .0, p .1 .1, p .1 .2, z .4)
                 ]
               ];
-              pre = λ c t e′ v q. elim (adds (ofPre b c t e′ v) q) [ inl r ↦ r | inr r ↦ absurd r ];
-              rdm = λ c t q. elim (adds (ofRead b c t) q) [ inl r ↦ inl r | inr r ↦ inr (sym (r .2), sym (r .1)) ];
-              comm = λ t q. elim (adds (ofCommit b t) q) [ inl r ↦ r | inr r ↦ absurd r ];
-              abtm = λ t q. elim (adds (ofAbort b t) q) [ inl r ↦ r | inr r ↦ absurd r ];
+              pre = λ c t e′ v q. elim (adds (ofPre b c t e′ v) q) [ inl r ↦ r | inr r ↦ absurd (r .0) ];
+              rdm = λ c t q. elim (adds (ofRead b c t) q) [ inl r ↦ inl r | inr r ↦ inr (sym (r .3), sym (r .2)) ];
+              comm = λ t q. elim (adds (ofCommit b t) q) [ inl r ↦ r | inr r ↦ absurd (r .0) ];
+              abtm = λ t q. elim (adds (ofAbort b t) q) [ inl r ↦ r | inr r ↦ absurd (r .0) ];
               seen = λ t x. elim [
-                | inl q ↦ elim (adds (ofValue b t x) q) [ inl r ↦ inl r | inr r ↦ absurd r ]
+                | inl q ↦ elim (adds (ofValue b t x) q) [ inl r ↦ inl r | inr r ↦ absurd (r .0) ]
                 | inr z ↦ elim z [
                   | inl a ↦ elim (at-split (λ y. HasR b y t x) j y hs (a .0) (a .1)) [
                     | inl p ↦
@@ -324,7 +324,7 @@ module _ (S : ℕ → Type 0) (inside : (c : ℕ) → S c → c < chunkLimit) (b
     -- an okay write is committed and listed
     pub end-commit : (n′ : List Place) (t : Timestamp) (e : Epoch) → HasW b (hs j) (t .0) → (hs j) .okay ≡ true
         → isEmpty ((hs j) .out) ≡ true
-        → ((P : Message → Type 0) → Sent n′ P → Sent n P ⊎ ((d : ℕ) × P (Message.Commit (headed j d b t) e)))
+        → ((P : Message → Type 0) → Sent n′ P → Sent n P ⊎ ((d : ℕ) × P (asking (headed j d b t) e Request.Commit)))
         → CInv S b (lists h (record { timestamp = t; value = (hs j) .value } ∷ [])) ep (at j y hs) ps n′
     end-commit n′ t e hw ok out adds = record {
       inv = shrink S (book h′ ep) (committed (flow S b h hs n) (t .0)) (λ c. cellOf (ps c))
@@ -335,13 +335,13 @@ module _ (S : ℕ → Type 0) (inside : (c : ℕ) → S c → c < chunkLimit) (b
           (flow S b h′ (at j y hs) n′) (record {
             cur = λ u z. let r = restW u z in ((r .0, r .1), λ q. r .2 (other (r .0) u (r .1) q));
             act = λ u z. let r = restA u z in (((r .0, r .1, r .2), λ q. r .3 (other (r .0) u (r .1) q)), (z .0, z .1));
-            ack = λ u c. elim [ inl q ↦ elim (adds (ofAck b u c) q) [ inl r ↦ inl r | inr r ↦ absurd (r .1) ] | inr z ↦ inr (restK u c z) ];
-            pre = λ c u e v q. elim (adds (ofPre b c u e v) q) [ inl r ↦ r | inr r ↦ absurd (r .1) ];
-            rdm = λ c u q. elim (adds (ofRead b c u) q) [ inl r ↦ r | inr r ↦ absurd (r .1) ];
-            comm = λ u q. elim (adds (ofCommit b u) q) [ inl r ↦ inl r | inr r ↦ inr (sym (r .1 .1)) ];
-            abtm = λ u q. elim (adds (ofAbort b u) q) [ inl r ↦ r | inr r ↦ absurd (r .1) ];
+            ack = λ u c. elim [ inl q ↦ elim (adds (ofAck b u c) q) [ inl r ↦ inl r | inr r ↦ absurd (r .1 .0) ] | inr z ↦ inr (restK u c z) ];
+            pre = λ c u e v q. elim (adds (ofPre b c u e v) q) [ inl r ↦ r | inr r ↦ absurd (r .1 .0) ];
+            rdm = λ c u q. elim (adds (ofRead b c u) q) [ inl r ↦ r | inr r ↦ absurd (r .1 .0) ];
+            comm = λ u q. elim (adds (ofCommit b u) q) [ inl r ↦ inl r | inr r ↦ inr (sym (r .1 .2)) ];
+            abtm = λ u q. elim (adds (ofAbort b u) q) [ inl r ↦ r | inr r ↦ absurd (r .1 .0) ];
             seen = λ u x. elim [
-              | inl q ↦ elim (adds (ofValue b u x) q) [ inl r ↦ inl r | inr r ↦ absurd (r .1) ]
+              | inl q ↦ elim (adds (ofValue b u x) q) [ inl r ↦ inl r | inr r ↦ absurd (r .1 .0) ]
               | inr z ↦
                   elim z [ inl a ↦ inr (inl (restR u x a)) | inr a ↦ inr (inr a) ]
             ];
@@ -362,7 +362,7 @@ module _ (S : ℕ → Type 0) (inside : (c : ℕ) → S c → c < chunkLimit) (b
 
     -- a write that is not okay is aborted
     pub end-abort : (n′ : List Place) (t : Timestamp) (e : Epoch) → HasW b (hs j) (t .0) → (hs j) .okay ≡ false
-        → ((P : Message → Type 0) → Sent n′ P → Sent n P ⊎ ((d : ℕ) × P (Message.Abort (headed j d b t) e)))
+        → ((P : Message → Type 0) → Sent n′ P → Sent n P ⊎ ((d : ℕ) × P (asking (headed j d b t) e Request.Abort)))
         → CInv S b h ep (at j y hs) ps n′
     end-abort n′ t e hw ok adds = record {
       inv = shrink S (book h ep) (aborted (flow S b h hs n) (t .0)) (λ c. cellOf (ps c))
@@ -371,13 +371,13 @@ module _ (S : ℕ → Type 0) (inside : (c : ℕ) → S c → c < chunkLimit) (b
           (flow S b h (at j y hs) n′) (record {
             cur = λ u z. let r = restW u z in ((r .0, r .1), λ q. r .2 (other (r .0) u (r .1) q));
             act = λ u z. let r = restA u z in ((r .0, r .1, r .2), (z .0, z .1));
-            ack = λ u c. elim [ inl q ↦ elim (adds (ofAck b u c) q) [ inl r ↦ inl r | inr r ↦ absurd (r .1) ] | inr z ↦ inr (restK u c z) ];
-            pre = λ c u e v q. elim (adds (ofPre b c u e v) q) [ inl r ↦ r | inr r ↦ absurd (r .1) ];
-            rdm = λ c u q. elim (adds (ofRead b c u) q) [ inl r ↦ r | inr r ↦ absurd (r .1) ];
-            comm = λ u q. elim (adds (ofCommit b u) q) [ inl r ↦ r | inr r ↦ absurd (r .1) ];
-            abtm = λ u q. elim (adds (ofAbort b u) q) [ inl r ↦ inl r | inr r ↦ inr (sym (r .1 .1)) ];
+            ack = λ u c. elim [ inl q ↦ elim (adds (ofAck b u c) q) [ inl r ↦ inl r | inr r ↦ absurd (r .1 .0) ] | inr z ↦ inr (restK u c z) ];
+            pre = λ c u e v q. elim (adds (ofPre b c u e v) q) [ inl r ↦ r | inr r ↦ absurd (r .1 .0) ];
+            rdm = λ c u q. elim (adds (ofRead b c u) q) [ inl r ↦ r | inr r ↦ absurd (r .1 .0) ];
+            comm = λ u q. elim (adds (ofCommit b u) q) [ inl r ↦ r | inr r ↦ absurd (r .1 .0) ];
+            abtm = λ u q. elim (adds (ofAbort b u) q) [ inl r ↦ inl r | inr r ↦ inr (sym (r .1 .2)) ];
             seen = λ u x. elim [
-              | inl q ↦ elim (adds (ofValue b u x) q) [ inl r ↦ inl r | inr r ↦ absurd (r .1) ]
+              | inl q ↦ elim (adds (ofValue b u x) q) [ inl r ↦ inl r | inr r ↦ absurd (r .1 .0) ]
               | inr z ↦
                   elim z [ inl a ↦ inr (inl (restR u x a)) | inr a ↦ inr (inr a) ]
             ];

@@ -14,7 +14,6 @@ pub mod Shapes
 pub mod Hosts
 pub mod Chunks
 pub mod Homes
-pub mod Arrivals
 pub mod EvHomes
 pub mod Good
 pub mod Epoch

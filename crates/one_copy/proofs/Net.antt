@@ -1,99 +1,66 @@
--- What the network holds, as predicates that compute on a message
+-- What the network holds, as predicates that compute on a message's sort and header
 use Prim.Native.Nat.{ℕ, _<_}
-use mathlib.Core.Path.{_≡_}
+use mathlib.Core.Path.{_≡_, sym, _∙_, ap}
 use mathlib.Core.Logic.{_⊎_, inl, inr}
 use mathlib.Core.Bool.{true}
 use mathlib.Core.List.{List, [], _∷_}
-use Rattle.one_copy.specs.Types.{Set, Message, Slot, Place}
-use Rattle.rules.specs.Kinds.{headerOf}
+use Rattle.one_copy.specs.Types.{Set, Header, Message, Request, Sort, Slot, Place}
 use Rattle.rules.specs.Limits.{chunkLimit}
+use Rattle.rules.specs.Messages.{headerOf, sortOf, messageOf}
 use Rattle.rules.specs.Network.{isFree, chunksOf, removed, sent, sentToEach}
 use Rattle.rules.specs.Tables.{slotOf}
 use Rattle.rules.specs.Words.{each, fold, place, numbers}
 use Rattle.rules.specs.Zero.{_among_, zeroPlace}
+use Rattle.rules.proofs.Messages.{made}
 use Rattle.one_copy.proofs.Lists.{Any, any-set, any-getD, any-those, any-numbers}
+
+-- what is said by a read, by a prewrite's epoch and value, by a commit, an abort, a read reply's value, a prewrite reply: a message
+-- says it by its sort, and a refusal says nothing
+abbrev said : (read : Type 0) → (prewrite : ℕ → ℕ → Type 0) → (commit abort : Type 0) → (value : ℕ → Type 0) → (ack : Type 0) → Sort → Type 0
+said r p c a v k (Sort.Request e Request.Read) = r
+said r p c a v k (Sort.Request e (Request.Prewrite y)) = p (e .0) y
+said r p c a v k (Sort.Request e Request.Commit) = c
+said r p c a v k (Sort.Request e Request.Abort) = a
+said r p c a v k (Sort.Refusal x) = ⊥
+said r p c a v k (Sort.ReadReply y) = v y
+said r p c a v k Sort.PrewriteReply = k
 
 -- a read of block b for chunk c under t
 abbrev pub ofRead : (b c t : ℕ) → Message → Type 0
-ofRead b c t (Message.Read h e) = (h .block ≡ b) × (h .chunk ≡ c) × (h .timestamp .0 ≡ t)
-ofRead b c t (Message.Prewrite h e v) = ⊥
-ofRead b c t (Message.Commit h e) = ⊥
-ofRead b c t (Message.Abort h e) = ⊥
-ofRead b c t (Message.Mismatch h) = ⊥
-ofRead b c t (Message.Error h) = ⊥
-ofRead b c t (Message.OutOfOrder h) = ⊥
-ofRead b c t (Message.Busy h) = ⊥
-ofRead b c t (Message.ReadReply h v) = ⊥
-ofRead b c t (Message.PrewriteReply h) = ⊥
+ofRead b c t m = said (Unit {0}) (λ _ _. ⊥) ⊥ ⊥ (λ _. ⊥) ⊥ (sortOf m) × (headerOf m .block ≡ b) × (headerOf m .chunk ≡ c)
+    × (headerOf m .timestamp .0 ≡ t)
 
 -- a prewrite, with its epoch x and value y
 abbrev pub ofPre : (b c t x y : ℕ) → Message → Type 0
-ofPre b c t x y (Message.Read h e) = ⊥
-ofPre b c t x y (Message.Prewrite h e v) = (h .block ≡ b) × (h .chunk ≡ c) × (h .timestamp .0 ≡ t) × (e .0 ≡ x) × (v ≡ y)
-ofPre b c t x y (Message.Commit h e) = ⊥
-ofPre b c t x y (Message.Abort h e) = ⊥
-ofPre b c t x y (Message.Mismatch h) = ⊥
-ofPre b c t x y (Message.Error h) = ⊥
-ofPre b c t x y (Message.OutOfOrder h) = ⊥
-ofPre b c t x y (Message.Busy h) = ⊥
-ofPre b c t x y (Message.ReadReply h v) = ⊥
-ofPre b c t x y (Message.PrewriteReply h) = ⊥
+ofPre b c t x y m = said ⊥ (λ e v. (e ≡ x) × (v ≡ y)) ⊥ ⊥ (λ _. ⊥) ⊥ (sortOf m) × (headerOf m .block ≡ b) × (headerOf m .chunk ≡ c)
+    × (headerOf m .timestamp .0 ≡ t)
 
 -- a commit, to whichever chunk
 abbrev pub ofCommit : (b t : ℕ) → Message → Type 0
-ofCommit b t (Message.Read h e) = ⊥
-ofCommit b t (Message.Prewrite h e v) = ⊥
-ofCommit b t (Message.Commit h e) = (h .block ≡ b) × (h .timestamp .0 ≡ t)
-ofCommit b t (Message.Abort h e) = ⊥
-ofCommit b t (Message.Mismatch h) = ⊥
-ofCommit b t (Message.Error h) = ⊥
-ofCommit b t (Message.OutOfOrder h) = ⊥
-ofCommit b t (Message.Busy h) = ⊥
-ofCommit b t (Message.ReadReply h v) = ⊥
-ofCommit b t (Message.PrewriteReply h) = ⊥
+ofCommit b t m = said ⊥ (λ _ _. ⊥) (Unit {0}) ⊥ (λ _. ⊥) ⊥ (sortOf m) × (headerOf m .block ≡ b) × (headerOf m .timestamp .0 ≡ t)
 
 -- an abort, to whichever chunk
 abbrev pub ofAbort : (b t : ℕ) → Message → Type 0
-ofAbort b t (Message.Read h e) = ⊥
-ofAbort b t (Message.Prewrite h e v) = ⊥
-ofAbort b t (Message.Commit h e) = ⊥
-ofAbort b t (Message.Abort h e) = (h .block ≡ b) × (h .timestamp .0 ≡ t)
-ofAbort b t (Message.Mismatch h) = ⊥
-ofAbort b t (Message.Error h) = ⊥
-ofAbort b t (Message.OutOfOrder h) = ⊥
-ofAbort b t (Message.Busy h) = ⊥
-ofAbort b t (Message.ReadReply h v) = ⊥
-ofAbort b t (Message.PrewriteReply h) = ⊥
+ofAbort b t m = said ⊥ (λ _ _. ⊥) ⊥ (Unit {0}) (λ _. ⊥) ⊥ (sortOf m) × (headerOf m .block ≡ b) × (headerOf m .timestamp .0 ≡ t)
 
 -- a read reply with value x
 abbrev pub ofValue : (b t x : ℕ) → Message → Type 0
-ofValue b t x (Message.Read h e) = ⊥
-ofValue b t x (Message.Prewrite h e v) = ⊥
-ofValue b t x (Message.Commit h e) = ⊥
-ofValue b t x (Message.Abort h e) = ⊥
-ofValue b t x (Message.Mismatch h) = ⊥
-ofValue b t x (Message.Error h) = ⊥
-ofValue b t x (Message.OutOfOrder h) = ⊥
-ofValue b t x (Message.Busy h) = ⊥
-ofValue b t x (Message.ReadReply h v) = (h .block ≡ b) × (h .timestamp .0 ≡ t) × (v ≡ x)
-ofValue b t x (Message.PrewriteReply h) = ⊥
+ofValue b t x m = said ⊥ (λ _ _. ⊥) ⊥ ⊥ (λ v. v ≡ x) ⊥ (sortOf m) × (headerOf m .block ≡ b) × (headerOf m .timestamp .0 ≡ t)
 
 -- a prewrite reply of chunk c
 abbrev pub ofAck : (b t c : ℕ) → Message → Type 0
-ofAck b t c (Message.Read h e) = ⊥
-ofAck b t c (Message.Prewrite h e v) = ⊥
-ofAck b t c (Message.Commit h e) = ⊥
-ofAck b t c (Message.Abort h e) = ⊥
-ofAck b t c (Message.Mismatch h) = ⊥
-ofAck b t c (Message.Error h) = ⊥
-ofAck b t c (Message.OutOfOrder h) = ⊥
-ofAck b t c (Message.Busy h) = ⊥
-ofAck b t c (Message.ReadReply h v) = ⊥
-ofAck b t c (Message.PrewriteReply h) = (h .block ≡ b) × (h .timestamp .0 ≡ t) × (h .chunk ≡ c)
+ofAck b t c m = said ⊥ (λ _ _. ⊥) ⊥ ⊥ (λ _. ⊥) (Unit {0}) (sortOf m) × (headerOf m .block ≡ b) × (headerOf m .timestamp .0 ≡ t)
+    × (headerOf m .chunk ≡ c)
 
 -- any message of block b under t
 abbrev pub ofBoth : (b t : ℕ) → Message → Type 0
 ofBoth b t m = (headerOf m .block ≡ b) × (headerOf m .timestamp .0 ≡ t)
+
+-- one that is made is of its header's
+pub made-both : (hd : Header) (s : Sort) (b t : ℕ) → ofBoth b t (messageOf hd s) → (hd .block ≡ b) × (hd .timestamp .0 ≡ t)
+made-both hd s b t z =
+    let e = made hd s .0 in
+    (sym (ap (λ (h : Header). h .block) e) ∙ z .0, sym (ap (λ (h : Header). h .timestamp .0) e) ∙ z .1)
 
 -- some message in the network is P
 abbrev pub onSlot : (Message → Type 0) → Slot → Type 0

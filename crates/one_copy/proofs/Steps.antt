@@ -12,8 +12,8 @@ use Rattle.one_copy.specs.Listed.{Write, byHost, byChange, committedAt}
 use Rattle.rules.specs.Codes.{codeOf}
 use Rattle.rules.specs.Events.{Rule, quietly, done, refused, unused, isPlace, holdersOf, readRule, writeRule, startRule, deliverRule, dropRule, finishRule, timeoutRule, refreshRule, runRule, stopRule, failRule, recoverRule, takeLeaseRule, giveLeaseRule, epochRule, overdueRule, ruleOf, rows, answered, step, takes, epochChanged, epochRefusals}
 use Rattle.rules.specs.Hosts.{front, openingTo, closingTo}
-use Rattle.rules.specs.Kinds.{isNormal, headerOf, isForChunk}
 use Rattle.rules.specs.Limits.{greatestClock, placeLimit, oneTo, upTo}
+use Rattle.rules.specs.Messages.{sortOf, isForChunk}
 use Rattle.rules.specs.Network.{freePlaces, howMany, removed}
 use Rattle.rules.specs.Tables.{isHost, isChunk, isBlock, hostOf, chunkOf, recordOf, slotOf, withPlaces}
 use Rattle.rules.specs.Timestamps.{stamp}
@@ -48,9 +48,7 @@ pub record Stepped (b : ℕ) (h : Hist) (t : Table) (e : Event) (a : Answer) : T
 
 -- a message that is taken leaves the creation as it is
 takes-creation : (t : Table) (m : Message) → takes t (Slot.Full m) .creation ≡ t .creation
-takes-creation t m = walk (λ (x : Table). x .creation ≡ t .creation) (isForChunk m) _ _
-    (λ _. walk (λ (x : Table). x .creation ≡ t .creation) (isNormal (chunkOf t (headerOf m .chunk) .state)) _ _ (λ _. refl) (λ _. refl))
-    (λ _. walk (λ (x : Table). x .creation ≡ t .creation) (hostOf t (headerOf m .host) .working) _ _ (λ _. refl) (λ _. refl))
+takes-creation t m = walk (λ (x : Table). x .creation ≡ t .creation) (isForChunk (sortOf m)) _ _ (λ _. refl) (λ _. refl)
 
 module _ (b : ℕ) (h : Hist) (blk : ℕ → ℕ) (t : Table) (lb : isBlock (t .creation) b ≡ true) (i : Whole b h blk t) (e : Event) where
   -- ---- what is committed

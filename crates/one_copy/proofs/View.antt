@@ -1,18 +1,20 @@
 -- The store as one block sees it, with its history: from tables to `Inv`
 use Prim.Native.Nat.{ℕ, _≤_, _<_}
-use mathlib.Core.Path.{_≡_, sym, _∙_}
+use mathlib.Core.Path.{_≡_, sym, _∙_, ap}
 use mathlib.Core.Logic.{_⊎_, inl, inr}
 use mathlib.Core.Bool.{Bool, true, false, not}
 use mathlib.Core.List.{List}
 use native.Mathlib.Omega.{arith}
-use Rattle.one_copy.specs.Types.{Set, Kind, Entry, Record, State, Chunk, Action, Host, Header, Message, Place, Table}
+use Rattle.one_copy.specs.Types.{Set, Kind, Entry, Record, State, Chunk, Action, Host, Header, Message, Refusal, Sort, Place, Table}
 use Rattle.one_copy.specs.Listed.{Write}
 use Rattle.rules.specs.Hosts.{front}
-use Rattle.rules.specs.Kinds.{isNormal, isReading, headerOf}
+use Rattle.rules.specs.Kinds.{isNormal, isReading}
+use Rattle.rules.specs.Messages.{headerOf, messageOf}
 use Rattle.rules.specs.Tables.{hostOf, chunkOf, recordOf}
 use Rattle.rules.specs.Timestamps.{stamp}
 use Rattle.rules.specs.Waiting.{inOrder}
 use Rattle.rules.specs.Zero.{_among_, isEmpty}
+use Rattle.rules.proofs.Messages.{made}
 use Rattle.one_copy.proofs.Tests.{at, at-all, at-split}
 use Rattle.one_copy.proofs.Abs.{Began, Mark, und, cmt, abt, idle, Cell, Book, Flow, Inv}
 use Rattle.one_copy.proofs.Flows.{shrink}
@@ -196,77 +198,32 @@ net-foreign b n′ n D f adds none = record {
   value = λ t x h. elim (adds (ofValue b t x) h) [ inl q ↦ q | inr q ↦ absurd ((none (q .0)) .value t x (q .1)) ];
 }
 
--- a reply that is neither a value nor a prewrite reply says nothing of any block
-pub plain-mismatch : (b : ℕ) (hd : Header) → Foreign b (Message.Mismatch hd)
-plain-mismatch b hd = record { ack = λ t c z. z; pre = λ c t e v z. z; rdm = λ c t z. z; comm = λ t z. z; abtm = λ t z. z; value = λ t x z. z }
-
-pub plain-error : (b : ℕ) (hd : Header) → Foreign b (Message.Error hd)
-plain-error b hd = record { ack = λ t c z. z; pre = λ c t e v z. z; rdm = λ c t z. z; comm = λ t z. z; abtm = λ t z. z; value = λ t x z. z }
-
-pub plain-order : (b : ℕ) (hd : Header) → Foreign b (Message.OutOfOrder hd)
-plain-order b hd = record { ack = λ t c z. z; pre = λ c t e v z. z; rdm = λ c t z. z; comm = λ t z. z; abtm = λ t z. z; value = λ t x z. z }
-
-pub plain-busy : (b : ℕ) (hd : Header) → Foreign b (Message.Busy hd)
-plain-busy b hd = record { ack = λ t c z. z; pre = λ c t e v z. z; rdm = λ c t z. z; comm = λ t z. z; abtm = λ t z. z; value = λ t x z. z }
+-- a refusal says nothing of any block
+pub plain : (b : ℕ) (hd : Header) (x : Refusal) → Foreign b (messageOf hd (Sort.Refusal x))
+plain b hd x =
+    let q = made hd (Sort.Refusal x) .1 in
+    record {
+      ack = λ t c z. rw q at (z .0);
+      pre = λ c t e v z. rw q at (z .0);
+      rdm = λ c t z. rw q at (z .0);
+      comm = λ t z. rw q at (z .0);
+      abtm = λ t z. rw q at (z .0);
+      value = λ t x z. rw q at (z .0);
+    }
 
 -- a message of another block says nothing of block b
-pub far-message : (b : ℕ) (m : Message) → (headerOf m .block ≡ b → ⊥) → Foreign b m
-far-message b (Message.Read hd e) far = record {
-  ack = λ t c z. z;
-  pre = λ c t e v z. z;
-  rdm = λ c t z. far (z .0);
-  comm = λ t z. z;
-  abtm = λ t z. z;
-  value = λ t x z. z;
+pub far-message : (b : ℕ) (hd : Header) (s : Sort) → (hd .block ≡ b → ⊥) → Foreign b (messageOf hd s)
+far-message b hd s far = record {
+  ack = λ t c z. no (z .1);
+  pre = λ c t e v z. no (z .1);
+  rdm = λ c t z. no (z .1);
+  comm = λ t z. no (z .1);
+  abtm = λ t z. no (z .1);
+  value = λ t x z. no (z .1);
 }
-far-message b (Message.Prewrite hd e v) far = record {
-  ack = λ t c z. z;
-  pre = λ c t e v z. far (z .0);
-  rdm = λ c t z. z;
-  comm =
-      λ t z. z;
-  abtm = λ t z. z;
-  value = λ t x z. z;
-}
-far-message b (Message.Commit hd e) far = record {
-  ack = λ t c z. z;
-  pre = λ c t e v z. z;
-  rdm = λ c t z. z;
-  comm = λ t z. far (z .0);
-  abtm = λ t z. z;
-  value = λ t x z. z;
-}
-far-message b (Message.Abort hd e) far = record {
-  ack = λ t c z. z;
-  pre = λ c t e v z. z;
-  rdm = λ c t z. z;
-  comm = λ t z. z;
-  abtm =
-      λ t z. far (z .0);
-  value = λ t x z. z;
-}
-far-message b (Message.Mismatch hd) far = plain-mismatch b hd
-far-message b (Message.Error hd) far = plain-error b hd
-far-message b (Message.OutOfOrder hd) far = plain-order b hd
-far-message b (Message.Busy hd) far = plain-busy b hd
-far-message b (Message.ReadReply hd v) far = record {
-  ack = λ t c z. z;
-  pre = λ c t e v z. z;
-  rdm = λ c t z. z;
-  comm = λ t z. z;
-  abtm =
-      λ t z. z;
-  value = λ t x z. far (z .0);
-}
-far-message b (Message.PrewriteReply hd) far = record {
-  ack = λ t c z. far (z .0);
-  pre = λ c t e v z. z;
-  rdm = λ c t z. z;
-  comm =
-      λ t z. z;
-  abtm = λ t z. z;
-  value = λ t x z. z;
-}
+  where
+    no : headerOf (messageOf hd s) .block ≡ b → ⊥
+    no z = far (sym (ap (λ (h : Header). h .block) (made hd s .0)) ∙ z)
 
 pub record Drawn (hs : ℕ → Seat) (t : ℕ) : Type 0 where
   pub by : ℕ

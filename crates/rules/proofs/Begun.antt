@@ -9,21 +9,22 @@ use lib.ListN.{length, getD, set, take, drop, length-append, length-drop, length
 use lib.Dec.{eqb}
 use lib.Seq.{getD-set-same, getD-set-other}
 use borrow.Author.Tests.{lt-ltb, ltb-true, eqb-true, eqb-false, eq-eqb, ne-eqb}
-use Rattle.rules.specs.Types.{Timestamp, Set, Creation, Action, Operation, Queue, Attempt, Host, Message, Slot, Table, Event, Outcome, Answer}
+use Rattle.rules.specs.Types.{Timestamp, Set, Creation, Action, Operation, Queue, Host, Message, Slot, Table, Event, Outcome, Answer}
 use Rattle.rules.specs.Codes.{codeOf}
 use Rattle.rules.specs.Creation.{freshHost, fresh}
 use Rattle.rules.specs.Events.{Rule, holdersOf, readRule, writeRule, startRule, deliverRule, dropRule, finishRule, timeoutRule, refreshRule, runRule, stopRule, failRule, recoverRule, takeLeaseRule, giveLeaseRule, epochRule, overdueRule, takes, ruleOf, rows, done, refused, answered, step}
-use Rattle.rules.specs.Hosts.{operationsOf, queueOf, front, hasCurrent, intakeRefusals, appended, openingTo, started, counts, answeredBy, heard, atHost, finishRefusals, closingTo, doneAs, failedAs, goesBack, finishOutcome, ended, finished, withQueue}
-use Rattle.rules.specs.Kinds.{isNormal, isReading, headerOf, isForChunk}
+use Rattle.rules.specs.Hosts.{operationsOf, queueOf, front, hasCurrent, intakeRefusals, appended, openingTo, started, hears, finishRefusals, closingTo, doneAs, failedAs, goesBack, finishOutcome, ended, finished, withQueue}
 use Rattle.rules.specs.Limits.{hostLimit, operationLimit, greatestClock}
+use Rattle.rules.specs.Messages.{headerOf, sortOf, isForChunk}
 use Rattle.rules.specs.Network.{freePlaces, removed}
 use Rattle.rules.specs.Runs.{after, Told, tell, told, Taken, Begun, Account, Ledger, noTaken, nothing, withAccount, takenIn, tried, attempt, isNone, endedWith, noted, ledger, begun, noAttempt, lastOf, Agrees, distinct, tellsOf}
-use Rattle.rules.specs.Tables.{isHost, hostOf, chunkOf, slotOf, withPlaces, withHost}
+use Rattle.rules.specs.Tables.{isHost, hostOf, slotOf, withPlaces, withHost}
 use Rattle.rules.specs.Timestamps.{stamp, never, _is_, _above_}
 use Rattle.rules.specs.Words.{each, none, some, fold, numbers, filled}
 use Rattle.rules.specs.Zero.{zeroOperation, zeroHost, noHost}
 use Rattle.rules.proofs.Lists.{both, and-true, three, walk, filled-take, take-short, set-all, each-length, each-number, numbers-length}
 use Rattle.rules.proofs.Events.{by-number, rows-granted}
+use Rattle.rules.proofs.Messages.{hears-keeps}
 use Rattle.rules.proofs.Formed.{one-to, Formed, formed, host-place, host-of, host-facts, queue-facts, attempt-facts}
 use Rattle.rules.proofs.Errors.{start-draws}
 use Rattle.rules.proofs.Relies.{intake-place, finish-current}
@@ -77,22 +78,9 @@ pub record Alike (x y : Host) : Type 0 where
 alike : (x : Host) → Alike x x
 alike x = record { queue = refl; timestamp = refl; clock = refl }
 
--- a reply at a host
-heard-alike : (h : Host) (a : Attempt) (m : Message) → a .timestamp ≡ h .attempt .timestamp → Alike h (heard h a m)
-heard-alike h a (Message.Mismatch header) e = record { queue = refl; timestamp = e; clock = refl }
-heard-alike h a (Message.OutOfOrder header) e = record { queue = refl; timestamp = e; clock = refl }
-heard-alike h a (Message.Busy header) e = record { queue = refl; timestamp = e; clock = refl }
-heard-alike h a (Message.Error header) e = record { queue = refl; timestamp = e; clock = refl }
-heard-alike h a (Message.ReadReply header v) e = record { queue = refl; timestamp = e; clock = refl }
-heard-alike h a (Message.PrewriteReply header) e = record { queue = refl; timestamp = e; clock = refl }
-heard-alike h a (Message.Read header epoch) e = alike h
-heard-alike h a (Message.Prewrite header epoch v) e = alike h
-heard-alike h a (Message.Commit header epoch) e = alike h
-heard-alike h a (Message.Abort header epoch) e = alike h
-
-at-host-alike : (h : Host) (m : Message) → Alike h (atHost h m)
-unfolding atHost
-at-host-alike h m = walk (Alike h) (counts h m) _ _ (λ _. heard-alike h (answeredBy (h .attempt) (headerOf m .chunk)) m refl) (λ _. alike h)
+-- a message at a host
+hears-alike : (h : Host) (m : Message) → Alike h (hears h m)
+hears-alike h m = let k = hears-keeps h m in record { queue = k .queue; timestamp = k .timestamp; clock = k .clock }
 
 -- an account's host that is alike
 agrees-alike : (host : ℕ) (x : Account) (last : Begun) (h k : Host) → Alike h k → Agrees host x last h → Agrees host x last k
@@ -152,10 +140,8 @@ same-host t j y a = record {
 takes-same : (t : Table) (s : Slot) → Same t (takes t s)
 takes-same t Slot.Empty = same t t refl
 takes-same t (Slot.Full m) =
-    walk (Same t) (isForChunk m) _ _
-    (λ _. walk (Same t) (isNormal (chunkOf t (headerOf m .chunk) .state)) _ _ (λ _. same t _ refl) (λ _. same t t refl))
-    (λ _. walk (Same t) (hostOf t (headerOf m .host) .working) _ _
-    (λ _. same-host t (headerOf m .host) _ (at-host-alike (hostOf t (headerOf m .host)) m)) (λ _. same t t refl))
+    walk (Same t) (isForChunk (sortOf m)) _ _ (λ _. same t _ refl)
+    (λ _. same-host t (headerOf m .host) _ (hears-alike (hostOf t (headerOf m .host)) m))
 
 still : (l : Ledger) (t t′ : Table) → Same t t′ → Kept l t → Kept l t′
 still l t t′ s i = record {

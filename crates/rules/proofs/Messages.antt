@@ -6,7 +6,7 @@ use lib.Dec.{ltb, leb}
 use borrow.Author.Tests.{ltb-true, leb-false, eqb-true, not-false}
 use Rattle.rules.specs.Types.{Epoch, Kind, Record, Attempt, Host, Header, Message, Request, Refusal, Sort, Arrived}
 use Rattle.rules.specs.Chunks.{withWaiting, refusing, silent, isOutOfOrder, waits, arrived, decides}
-use Rattle.rules.specs.Hosts.{answeredBy, heard, counts, atHost}
+use Rattle.rules.specs.Hosts.{answeredBy, heard, counts, atHost, hears}
 use Rattle.rules.specs.Limits.{waitingLimit}
 use Rattle.rules.specs.Messages.{headerOf, sortOf, messageOf}
 use Rattle.rules.specs.Timestamps.{_same_}
@@ -98,6 +98,9 @@ heard-keeps h c Sort.PrewriteReply = record { queue = refl; timestamp = refl; ep
 heard-keeps h c (Sort.Request epoch q) = hears-self h
 
 -- any message
-pub at-host-keeps : (h : Host) (m : Message) → Hears h (atHost h m)
+pub hears-keeps : (h : Host) (m : Message) → Hears h (hears h m)
 unfolding atHost
-at-host-keeps h m = walk (Hears h) (counts h m) _ _ (λ _. heard-keeps h (headerOf m .chunk) (sortOf m)) (λ _. hears-self h)
+hears-keeps h m =
+    walk (Hears h) (h .working) _ _
+    (λ _. walk (Hears h) (counts h m) _ _ (λ _. heard-keeps h (headerOf m .chunk) (sortOf m)) (λ _. hears-self h))
+    (λ _. hears-self h)
