@@ -46,10 +46,11 @@ messageOf h (Sort.Refusal Refusal.Busy) = Message.Busy (h .host) (h .chunk) (h .
 messageOf h (Sort.ReadReply v) = Message.ReadReply (h .host) (h .chunk) (h .block) (h .timestamp) v
 messageOf h Sort.PrewriteReply = Message.PrewriteReply (h .host) (h .chunk) (h .block) (h .timestamp)
 
+-- what a host that knows the epoch asks of a chunk
 abbrev pub asking : Header → Epoch → Request → Message
 asking header epoch q = messageOf header (Sort.Request epoch q)
 
--- requests go to the chunk, the others to the host
+-- requests go to the chunk, replies to the host
 abbrev pub isForChunk : Sort → Bool
 isForChunk (Sort.Request epoch q) = true
 isForChunk (Sort.Refusal x) = false

@@ -1,5 +1,6 @@
 -- `requests::close` meets its contract
 use borrow.Author.Needs.{needs}
+use Rattle.requests.proofs.Laws.{asked-as}
 use Rattle.requests.proofs.close.Statement.{statement}
 use Rattle.requests.proofs.close.Tie as tie
 
@@ -10,7 +11,7 @@ send-to-each-requires : tie.Need-send-to-each-requires
 send-to-each-requires c κs = search needs
 
 returns : tie.Need-returns
-returns c = rw (← c .before .closing .ensures) (c .send-to-each .ensures)
+returns c = asked-as _ _ _ _ _ _ _ _ _ (c .send-to-each .ensures) (c .before .closing .ensures)
 
 pub close-spec : {M : Type 1} → statement M
 close-spec = tie.close (tie.spec closing-requires send-to-each-requires returns)

@@ -1,5 +1,6 @@
 -- `requests::open` meets its contract
 use borrow.Author.Needs.{needs}
+use Rattle.requests.proofs.Laws.{asked-as}
 use Rattle.requests.proofs.open.Statement.{statement}
 use Rattle.requests.proofs.open.Tie as tie
 
@@ -10,7 +11,7 @@ send-to-each-requires : tie.Need-send-to-each-requires
 send-to-each-requires c κs = search needs
 
 returns : tie.Need-returns
-returns c = rw (← c .before .opening .ensures) (c .send-to-each .ensures)
+returns c = asked-as _ _ _ _ _ _ _ _ _ (c .send-to-each .ensures) (c .before .opening .ensures)
 
 pub open-spec : {M : Type 1} → statement M
 open-spec = tie.close (tie.spec opening-requires send-to-each-requires returns)
