@@ -114,7 +114,7 @@ module _ (t : Table) where
 
   -- ---- the network
 
-  -- "Its reply, if any, takes the lowest free place"
+  -- a request at its chunk, and its reply, if any
   abbrev pub chunkTakes : Header → Message → Table
   chunkTakes header m =
       let c = header .chunk in
@@ -122,6 +122,7 @@ module _ (t : Table) where
       let a = arrives (t .creation .blocks) (chunkOf t c) (recordOf t c b) m in
       withPlaces (withRecord t c b (a .block)) (replied (t .places) (a .reply))
 
+  -- a reply at its host
   abbrev pub hostTakes : Header → Message → Table
   hostTakes header m = withHost t (header .host) (hears (hostOf t (header .host)) m)
 
