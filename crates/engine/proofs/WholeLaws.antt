@@ -18,7 +18,7 @@ use Rattle.rules.specs.declared.Table.{Table}
 use Rattle.rules.specs.declared.Event.{Event}
 use Rattle.rules.specs.Chunks.{withWaiting, failRefusals, failed, emptied}
 use Rattle.rules.specs.Codes.{codeOf}
-use Rattle.rules.specs.Events.{quietly, done, refused, epochRefusals, kindOf, ranges, ruleOf, step}
+use Rattle.rules.specs.Events.{quietly, done, refused, withoutWaiting, settledIn, renewed, epochRefusals, kindOf, ranges, ruleOf, step}
 use Rattle.rules.specs.Formed.{wellFormed}
 use Rattle.rules.specs.Limits.{chunkLimit, blockLimit}
 use Rattle.rules.specs.Tables.{chunkOf, at, recordsBy, withEpoch, withChunks, withRecords, withChunk}
@@ -30,9 +30,6 @@ use Rattle.rules.proofs.Formed.{formed, chunk-place}
 use Rattle.rules.proofs.Lists.{three, grid-at}
 use Rattle.chunk.specs.declared.Changed.{Changed}
 use Rattle.chunk.specs.Changes.{changed}
-use Rattle.epoch.specs.Parts.{tableOf, settledAt, renewedWith}
-use Rattle.epoch.proofs.Change.{bare, code-is, changed-is}
-use Rattle.engine.specs.Records.{withoutWaiting}
 
 -- ---- fail
 
@@ -63,19 +60,19 @@ module _ (t : Table) (e : Event) (ok : wellFormed t ≡ true) (inside : ranges (
 -- ---- epoch change
 
 module _ (t : Table) (e : Event) (ok : wellFormed t ≡ true) (inside : ranges (t .creation) e ≡ true) (kind : e .kind ≡ 15)
-    (code : ℕ) (is : code ≡ codeOf (epochRefusals (bare t))) where
+    (code : ℕ) (is : code ≡ codeOf (epochRefusals (t .creation) (t .epoch) (t .chunks))) where
   change-code : code ≡ codeOf (ruleOf t e .refusals)
   unfolding ruleOf kindOf place
-  change-code = rw kind (is ∙ code-is t)
+  change-code = rw kind is
 
   pub change-refused : (code ≡ 0 → ⊥) → refused t code ≡ step t e
   change-refused = refused-own t e ok inside code change-code
 
-  module _ (records : List Record) (chunks : List Chunk) (records-are : records ≡ recordsBy (settledAt (tableOf (t .creation) (t .chunks) (t .records))))
-      (chunks-are : chunks ≡ each (renewedWith (t .creation) (next (t .epoch)) (t .chunks)) (numbers chunkLimit)) where
+  module _ (records : List Record) (chunks : List Chunk) (records-are : records ≡ settledIn (t .creation) (t .chunks) (t .records))
+      (chunks-are : chunks ≡ each (renewed (t .creation) (next (t .epoch)) (t .chunks)) (numbers chunkLimit)) where
     change-effect : quietly (withEpoch (withChunks (withRecords t records) chunks) (next (t .epoch))) ≡ ruleOf t e .effect
     unfolding ruleOf kindOf place
-    change-effect = rw kind (ap quietly (changed-is t records chunks records-are chunks-are))
+    change-effect = rw (kind, records-are, chunks-are) refl
 
     pub change-granted : code ≡ 0 → done (quietly (withEpoch (withChunks (withRecords t records) chunks) (next (t .epoch)))) ≡ step t e
     change-granted z = ap done change-effect ∙ granted-own t e ok inside (sym change-code ∙ z)

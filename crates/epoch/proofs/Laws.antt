@@ -1,26 +1,28 @@
 -- The records of all chunks and blocks, stored block by block; the copies of a block, gathered chunk by chunk
 use Prim.Native.Nat.{ℕ, _+_, _<_}
-use mathlib.Core.Path.{_≡_, refl, sym, ap, _∙_}
-use mathlib.Core.Bool.{cond}
+use mathlib.Core.Path.{_≡_, refl, sym, _∙_}
+use mathlib.Core.Bool.{Bool, true, false, cond, not, _&&_, _||_, false≢true}
 use mathlib.Core.List.{List}
 use native.Mathlib.Decide.{ℕ-discrete}
 use native.Mathlib.Omega.{arith}
-use lib.ListN.{length, getD, set, length-set}
+use lib.ListN.{length, getD, set, replicate, length-set}
 use lib.Dec.{ltb, eqb}
 use lib.Seq.{getD-set-same, getD-set-other}
 use borrow.Author.Tests.{lt-ltb, le-ltb, eq-eqb, ne-eqb}
+use Rattle.rules.specs.declared.Set.{Set}
+use Rattle.rules.specs.declared.Creation.{Creation}
 use Rattle.rules.specs.declared.Record.{Record}
+use Rattle.rules.specs.declared.Chunk.{Chunk}
 use Rattle.rules.specs.declared.Copy.{Copy}
-use Rattle.rules.specs.declared.Table.{Table}
-use Rattle.rules.specs.Events.{copyOf, copiesOf}
+use Rattle.rules.specs.Events.{copyIn, copiesIn, settledIn, allLost}
+use Rattle.rules.specs.Kinds.{isFailed}
 use Rattle.rules.specs.Limits.{chunkLimit, blockLimit}
-use Rattle.rules.specs.Settlement.{inSet, isLost, settled, allLost}
-use Rattle.rules.specs.Tables.{at, recordOf, recordsBy}
+use Rattle.rules.specs.Settlement.{settled}
+use Rattle.rules.specs.Tables.{isBlock, setOf, at, recordsBy}
 use Rattle.rules.specs.Words.{each, every, from, numbers}
-use Rattle.rules.specs.Zero.{noRecord, noCopy}
-use Rattle.rules.proofs.Lists.{each-number, grid-at, every-those}
+use Rattle.rules.specs.Zero.{_among_, noChunk, noRecord, noCopy}
+use Rattle.rules.proofs.Lists.{grid-at, every-those}
 use Rattle.rules.proofs.Loops.{below-next, made, made-next, grid-length, grid-of, grid-same}
-use Rattle.epoch.specs.Parts.{markedOnly, settledAt}
 
 -- ---- the records by chunk and block
 
@@ -37,29 +39,19 @@ module _ (f : ℕ → ℕ → Record) where
 records-same : (f g : ℕ → ℕ → Record) → ((c b : ℕ) → c < chunkLimit → b < blockLimit → f c b ≡ g c b) → recordsBy f ≡ recordsBy g
 records-same f g h = grid-same chunkLimit blockLimit noRecord f g h
 
--- ---- the copies of one block, gathered chunk by chunk: below chunk i they are, the others have their marks alone
+-- ---- the copies of one block, gathered chunk by chunk: below chunk i they are, the others are blank
 
-module _ (t : Table) (b : ℕ) where
-  abbrev gathered : ℕ → List Copy
-  gathered i = made (copyOf t b) (markedOnly t b) chunkLimit i
+module _ (k : Creation) (chunks : List Chunk) (records : List Record) (b : ℕ) (blank : Copy) where
+  abbrev pub gathered : ℕ → List Copy
+  gathered i = made (copyIn k chunks records b) (λ _. blank) chunkLimit i
 
-  pub gathered-begin : each (markedOnly t b) (numbers chunkLimit) ≡ gathered 0
+  pub gathered-begin : replicate chunkLimit blank ≡ gathered 0
   unfolding each from
   gathered-begin = refl
 
   pub gathered-next : (i : ℕ) → i < chunkLimit → (copies : List Copy) → copies ≡ gathered i
-      → set copies i (record { member = getD copies i noCopy .member; lost = getD copies i noCopy .lost; block = recordOf t i b }) ≡ gathered (i + 1)
-  gathered-next i h copies is =
-      let e : getD copies i noCopy ≡ markedOnly t b i = ap (λ (l : List Copy). getD l i noCopy) is ∙ here in
-      rw (e, is) (made-next (copyOf t b) (markedOnly t b) chunkLimit i h)
-    where
-      here : getD (gathered i) i noCopy ≡ markedOnly t b i
-      here = each-number (λ j. cond (ltb j i) (copyOf t b j) (markedOnly t b j)) chunkLimit i noCopy h ∙ rw (le-ltb i i (omega arith)) refl
-
-  -- code 6 looks at the marks alone
-  pub lost-marks : allLost (copiesOf t b) ≡ allLost (each (markedOnly t b) (numbers chunkLimit))
-  unfolding allLost every each from
-  lost-marks = every-those isLost inSet (copiesOf t b) ∙ sym (every-those isLost inSet (each (markedOnly t b) (numbers chunkLimit)))
+      → set copies i (copyIn k chunks records b i) ≡ gathered (i + 1)
+  gathered-next i h copies is = rw is (made-next (copyIn k chunks records b) (λ _. blank) chunkLimit i h)
 
 -- ---- one block is stored, chunk by chunk: below chunk i it is
 
@@ -100,21 +92,59 @@ module _ (records : List Record) (block : ℕ) (copies : List Copy) where
 
 -- ---- the blocks are settled one after the other: below block i they are
 
-module _ (t : Table) where
+module _ (k : Creation) (chunks : List Chunk) (records : List Record) where
+  abbrev settledAt : (c b : ℕ) → Record
+  settledAt c b = getD (settled (copiesIn k chunks records b)) c noCopy .block
+
   abbrev pub settledTo : ℕ → (c b : ℕ) → Record
-  settledTo i c b = cond (ltb b i) (settledAt t c b) (getD (t .records) (at c b) noRecord)
+  settledTo i c b = cond (ltb b i) (settledAt c b) (getD records (at c b) noRecord)
 
-  pub settled-begin : length (t .records) ≡ 128 → t .records ≡ recordsBy (settledTo 0)
-  settled-begin len = records-of (settledTo 0) (t .records) len (λ c b _ _. rw (le-ltb b 0 (omega arith)) refl)
+  pub settled-begin : length records ≡ 128 → records ≡ recordsBy (settledTo 0)
+  settled-begin len = records-of (settledTo 0) records len (λ c b _ _. rw (le-ltb b 0 (omega arith)) refl)
 
-  pub settled-next : (i : ℕ) (old : List Record) (copies : List Copy) → old ≡ recordsBy (settledTo i) → copies ≡ settled (copiesOf t i)
+  pub settled-next : (i : ℕ) (old : List Record) (copies : List Copy) → old ≡ recordsBy (settledTo i) → copies ≡ settled (copiesIn k chunks records i)
       → recordsBy (storedAt old i copies) ≡ recordsBy (settledTo (i + 1))
   settled-next i old copies ho hc =
-      rw (ho, hc) (records-same (storedAt (recordsBy (settledTo i)) i (settled (copiesOf t i))) (settledTo (i + 1)) (λ c b k m. go c b k m (ℕ-discrete b i)))
+      rw (ho, hc) (records-same (storedAt (recordsBy (settledTo i)) i (settled (copiesIn k chunks records i))) (settledTo (i + 1)) (λ c b k m. go c b k m (ℕ-discrete b i)))
     where
-      go : (c b : ℕ) → c < chunkLimit → b < blockLimit → Dec (b ≡ i) → storedAt (recordsBy (settledTo i)) i (settled (copiesOf t i)) c b ≡ settledTo (i + 1) c b
+      go : (c b : ℕ) → c < chunkLimit → b < blockLimit → Dec (b ≡ i) → storedAt (recordsBy (settledTo i)) i (settled (copiesIn k chunks records i)) c b ≡ settledTo (i + 1) c b
       go c b k m (yes e) = rw (e, eq-eqb i i refl, lt-ltb i (i + 1) (omega arith)) refl
       go c b k m (no e) = rw (ne-eqb b i e) (records-at (settledTo i) c b k m ∙ rw (below-next i b e) refl)
 
-  pub settled-end : recordsBy (settledTo blockLimit) ≡ recordsBy (settledAt t)
-  settled-end = records-same (settledTo blockLimit) (settledAt t) (λ c b _ m. rw (lt-ltb b blockLimit m) refl)
+  pub settled-end : recordsBy (settledTo blockLimit) ≡ settledIn k chunks records
+  settled-end = records-same (settledTo blockLimit) settledAt (λ c b _ m. rw (lt-ltb b blockLimit m) refl)
+
+-- ---- what the code asks of one chunk and of one block
+
+abbrev pub failedAt : List Chunk → (chunk : ℕ) → Bool
+failedAt chunks c = isFailed (getD chunks c noChunk .state)
+
+abbrev pub lostAt : Creation → List Chunk → (block : ℕ) → Bool
+lostAt k chunks b = isBlock k b && allLost (setOf k b) chunks
+
+-- every chunk of a set is lost: each is not in the set, or lost
+
+module _ (s : Set) (chunks : List Chunk) where
+  abbrev pub lostOr : (chunk : ℕ) → Bool
+  lostOr c = not (c among s) || getD chunks c noChunk .lost
+
+  pub all-lost-is : every lostOr (numbers chunkLimit) ≡ allLost s chunks
+  unfolding allLost
+  all-lost-is = sym (every-those (λ c. getD chunks c noChunk .lost) (λ c. c among s) (numbers chunkLimit))
+
+  -- .. as the code asks it
+  pub not-lost : (c : ℕ) → c among s && not (getD chunks c noChunk .lost) ≡ true → lostOr c ≡ false
+  not-lost c = go (c among s) (getD chunks c noChunk .lost)
+    where
+      go : (m l : Bool) → m && not l ≡ true → not m || l ≡ false
+      go true true h = sym h
+      go true false h = refl
+      go false l h = absurd (false≢true h)
+
+  pub or-lost : (c : ℕ) → c among s && not (getD chunks c noChunk .lost) ≡ false → lostOr c ≡ true
+  or-lost c = go (c among s) (getD chunks c noChunk .lost)
+    where
+      go : (m l : Bool) → m && not l ≡ false → not m || l ≡ true
+      go true true h = refl
+      go true false h = sym h
+      go false l h = refl

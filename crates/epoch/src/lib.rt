@@ -1,19 +1,20 @@
 // Event 15, the epoch change, in its parts: its code, every block settled, every chunk renewed.
-ghost use Prim.Native.Nat.{_<_};
 ghost use mathlib.Core.Path.{_≡_};
-ghost use mathlib.Core.List.{[]};
+ghost use mathlib.Core.Bool.{_&&_};
+ghost use lib.ListN.{getD};
 ghost use Rattle.rules.specs.Codes.{codeOf};
-ghost use Rattle.rules.specs.Events.{epochRefusals};
+ghost use Rattle.rules.specs.Events.{settledIn, anew, renewed, allLost, epochRefusals};
 ghost use Rattle.rules.specs.Kinds.{isFailed};
 ghost use Rattle.rules.specs.Limits.{chunkLimit, blockLimit};
-ghost use Rattle.rules.specs.Tables.{recordsBy, withEpoch};
+ghost use Rattle.rules.specs.Tables.{isBlock, setOf};
 ghost use Rattle.rules.specs.Words.{if_then_else_, each, some, numbers};
-ghost use Rattle.epoch.specs.Parts.{tableOf, failedAt, lostAt, markedOnly, settledAt, renewedChunk, renewedWith};
+ghost use Rattle.rules.specs.Zero.{noChunk};
 use rules::Chunk;
 use rules::Copy;
 use rules::Creation;
 use rules::Epoch;
 use rules::Record;
+use rules::Set;
 use rules::State;
 
 fn is_failed(state: State) -> bool
@@ -28,7 +29,7 @@ fn is_failed(state: State) -> bool
 
 // "no chunk failed"; an unused place is normal.
 fn any_failed(chunks: [Chunk; rules::CHUNKS]) -> bool
-    ensures { λ r. ⌜ r ≡ some (failedAt chunks) (numbers chunkLimit) ⌝ }
+    ensures { λ r. ⌜ r ≡ some (λ c. isFailed (getD chunks c noChunk .state)) (numbers chunkLimit) ⌝ }
 {
     let mut c: usize = 0;
     while c < rules::CHUNKS {
@@ -42,41 +43,30 @@ fn any_failed(chunks: [Chunk; rules::CHUNKS]) -> bool
     false
 }
 
-// A block's copies, one a chunk, by their marks alone: each has a zero record.
-fn marks_of(k: Creation, chunks: [Chunk; rules::CHUNKS], b: usize) -> [Copy; rules::CHUNKS]
-    requires { ⌜ b < blockLimit ⌝ }
-    ensures { λ r. ⌜ r ≡ each (markedOnly (tableOf k chunks []) b) (numbers chunkLimit) ⌝ }
+// "every chunk of its set is lost".
+fn all_lost(set: Set, chunks: [Chunk; rules::CHUNKS]) -> bool
+    ensures { λ r. ⌜ r ≡ allLost «set» chunks ⌝ }
 {
-    let set = k.sets[b];
-    let zero = zero::record();
-    let blank = Copy {
-        member: false,
-        lost: false,
-        block: zero,
-    };
-    let mut out = [blank; rules::CHUNKS];
     let mut c: usize = 0;
     while c < rules::CHUNKS {
         let member = set.chunks[c];
         let chunk = chunks[c];
-        out[c] = Copy {
-            member: member,
-            lost: chunk.lost,
-            block: zero,
-        };
+        if member & !chunk.lost {
+            return false;
+        }
         c = c + 1;
     }
-    out
+    true
 }
 
 // "for some block every chunk of its set is lost"; a block that the store lacks has no set to lose.
 fn any_all_lost(k: Creation, chunks: [Chunk; rules::CHUNKS]) -> bool
-    ensures { λ r. ⌜ r ≡ some (lostAt (tableOf k chunks [])) (numbers blockLimit) ⌝ }
+    ensures { λ r. ⌜ r ≡ some (λ b. isBlock k b && allLost (setOf k b) chunks) (numbers blockLimit) ⌝ }
 {
     let mut b: usize = 0;
     while b < rules::BLOCKS {
-        let copies = marks_of(k, chunks, b);
-        if ((b as u64) < k.blocks) & settle::all_lost(copies) {
+        let set = k.sets[b];
+        if ((b as u64) < k.blocks) & all_lost(set, chunks) {
             return true;
         }
         b = b + 1;
@@ -86,7 +76,7 @@ fn any_all_lost(k: Creation, chunks: [Chunk; rules::CHUNKS]) -> bool
 
 // "15 epoch change: no chunk failed (2), then 7, then 6".
 pub fn change_code(k: Creation, epoch: Epoch, chunks: [Chunk; rules::CHUNKS]) -> u64
-    ensures { λ r. ⌜ r ≡ codeOf (epochRefusals (withEpoch (tableOf k chunks []) epoch)) ⌝ }
+    ensures { λ r. ⌜ r ≡ codeOf (epochRefusals k epoch chunks) ⌝ }
 {
     let failed = any_failed(chunks);
     let last = epoch.0 == rules::GREATEST_CLOCK;
@@ -109,18 +99,29 @@ pub fn settle_blocks(
     chunks: [Chunk; rules::CHUNKS],
     records: [Record; rules::RECORDS],
 ) -> [Record; rules::RECORDS]
-    ensures { λ r. ⌜ r ≡ recordsBy (settledAt (tableOf k chunks records)) ⌝ }
+    ensures { λ r. ⌜ r ≡ settledIn k chunks records ⌝ }
 {
+    let zero = zero::record();
+    let blank = Copy {
+        member: false,
+        lost: false,
+        block: zero,
+    };
     let mut out = records;
     let mut b: usize = 0;
     while b < rules::BLOCKS {
-        let mut copies = marks_of(k, chunks, b);
+        let set = k.sets[b];
+        let mut copies = [blank; rules::CHUNKS];
         let mut c: usize = 0;
         while c < rules::CHUNKS {
+            let member = set.chunks[c];
+            let chunk = chunks[c];
             let held = records[c * rules::BLOCKS + b];
-            let mut copy = copies[c];
-            copy.block = held;
-            copies[c] = copy;
+            copies[c] = Copy {
+                member: member,
+                lost: chunk.lost,
+                block: held,
+            };
             c = c + 1;
         }
         let settled = settle::settle(copies);
@@ -137,8 +138,8 @@ pub fn settle_blocks(
 }
 
 // A chunk that the store has begins anew in the next epoch; an unused place stays.
-fn renewed(used: bool, next: Epoch, old: Chunk) -> Chunk
-    ensures { λ r. ⌜ r ≡ if used then renewedChunk next else old ⌝ }
+fn begin_anew(used: bool, next: Epoch, old: Chunk) -> Chunk
+    ensures { λ r. ⌜ r ≡ if used then anew next else old ⌝ }
 {
     if used {
         return Chunk {
@@ -153,13 +154,13 @@ fn renewed(used: bool, next: Epoch, old: Chunk) -> Chunk
 
 // "reconciliation sets and lost marks cleared, the epoch grows by one in every chunk, and every chunk is normal".
 pub fn renew(k: Creation, next: Epoch, chunks: [Chunk; rules::CHUNKS]) -> [Chunk; rules::CHUNKS]
-    ensures { λ r. ⌜ r ≡ each (renewedWith k next chunks) (numbers chunkLimit) ⌝ }
+    ensures { λ r. ⌜ r ≡ each (renewed k next chunks) (numbers chunkLimit) ⌝ }
 {
     let mut out = chunks;
     let mut c: usize = 0;
     while c < rules::CHUNKS {
         let old = chunks[c];
-        out[c] = renewed((c as u64) < k.chunks, next, old);
+        out[c] = begin_anew((c as u64) < k.chunks, next, old);
         c = c + 1;
     }
     out

@@ -3,7 +3,7 @@ use Prim.Native.Nat.{ℕ, _<_}
 use mathlib.Core.Path.{_≡_, refl, sym, subst, subst⁻¹, _∙_, ap}
 use mathlib.Core.Logic.{_⊎_, inl, inr}
 use mathlib.Core.Bool.{Bool, true, false, cond, not}
-use mathlib.Core.List.{List, [], _∷_, _++_}
+use mathlib.Core.List.{List, [], _∷_}
 use native.Mathlib.Omega.{arith}
 use lib.Dec.{eqb}
 use borrow.Author.Tests.{ltb-true, lt-ltb, eq-eqb}
@@ -14,7 +14,7 @@ use Rattle.rules.specs.Events.{step}
 use Rattle.rules.specs.Hosts.{front, doneAs, failedAs, finishOutcome}
 use Rattle.rules.specs.Kinds.{isReading}
 use Rattle.rules.specs.Limits.{hostLimit}
-use Rattle.rules.specs.Runs.{after, told, Begun, ledger, begun, noAttempt, lastOf}
+use Rattle.rules.specs.Runs.{after, told, Begun, begun, noAttempt, lastOf}
 use Rattle.rules.specs.Tables.{hostOf}
 use Rattle.rules.specs.Timestamps.{_is_}
 use Rattle.rules.specs.Words.{fold}

@@ -8,12 +8,12 @@ use Rattle.one_copy.specs.Types.{Table, Event, Answer}
 use Rattle.rules.specs.Chunks.{atChunk, arrived, decides, ran}
 use Rattle.rules.specs.Codes.{_gives_⨾_, codeOf}
 use Rattle.rules.specs.Creation.{fresh, isCreation}
-use Rattle.rules.specs.Events.{step, done, refused, rows, kindOf, ranges, ruleOf}
+use Rattle.rules.specs.Events.{allLost, step, done, refused, rows, kindOf, ranges, ruleOf}
 use Rattle.rules.specs.Formed.{wellFormed}
 use Rattle.rules.specs.Hosts.{queueOf, appended, atHost, finishOutcome, finished}
 use Rattle.rules.specs.Network.{freePlaces, sent, howMany, sentToEach, replied}
 use Rattle.rules.specs.Runs.{Told, tell, told, nothing, lastOf, isNone}
-use Rattle.rules.specs.Settlement.{W, besideW, agreed, committed, writes, commits, latest, writtenWith, settledRecord, settled, allLost}
+use Rattle.rules.specs.Settlement.{W, besideW, agreed, committed, writes, commits, latest, writtenWith, settledRecord, settled}
 use Rattle.rules.specs.Waiting.{holding, insert, inserted, headRemoved, firstWith, mark, marked}
 use Rattle.rules.specs.Words.{if_then_else_, those, each, joined, every, some, place, fold, from}
 use Rattle.rules.proofs.Keeps.{fresh-formed, step-formed}

@@ -9,17 +9,17 @@ use lib.ListN.{length, getD}
 use borrow.Author.Tests.{ltb-true, lt-ltb, eqb-true, eq-eqb, not-true}
 use Rattle.one_copy.specs.Types.{Timestamp, Kind, Entry, Table, Copy}
 use Rattle.rules.specs.Chunks.{emptied}
-use Rattle.rules.specs.Events.{copyOf, copiesOf}
+use Rattle.rules.specs.Events.{copyIn, copiesOf, allLost}
 use Rattle.rules.specs.Kinds.{isWrite, isAborted, valueOf}
 use Rattle.rules.specs.Limits.{chunkLimit}
-use Rattle.rules.specs.Settlement.{inSet, isLost, notLost, lastRead, lastWrite, waiting, writeWith, abortedWith, holds, holdsAborted, writesOf, W, besideW, agreed, committed, writes, commits, latest, writtenWith, settledRecord, settled, allLost}
+use Rattle.rules.specs.Settlement.{inSet, isLost, notLost, lastRead, lastWrite, waiting, writeWith, abortedWith, holds, holdsAborted, writesOf, W, besideW, agreed, committed, writes, commits, latest, writtenWith, settledRecord, settled}
 use Rattle.rules.specs.Tables.{isBlock, setOf, chunkOf, recordOf}
 use Rattle.rules.specs.Timestamps.{never, _is_, _above_, greatest}
 use Rattle.rules.specs.Waiting.{inOrder}
 use Rattle.rules.specs.Words.{those, each, every, some, none, place, first, numbers}
 use Rattle.rules.specs.Zero.{_among_, zeroEntry, noCopy}
 use Rattle.rules.proofs.Formed.{Formed, of-store, set-of-store}
-use Rattle.rules.proofs.Lists.{both, three, and-true, each-length, numbers-length, each-number, each-each-number}
+use Rattle.rules.proofs.Lists.{both, three, and-true, each-length, numbers-length, numbers-at, each-number, each-each-number}
 use Rattle.one_copy.proofs.Tests.{not-both}
 use Rattle.one_copy.proofs.Abs.{Mark, und, cmt, abt, Cell}
 use Rattle.one_copy.proofs.Settle.{Chosen, Settling}
@@ -94,7 +94,7 @@ settled-at t b c l = ap (λ (x : Copy). x .block)
       lost = x .lost;
       block =
           cond (inSet x) (settledRecord (copiesOf t b)) (emptied (x .block));
-    }) (copyOf t b) chunkLimit c noCopy l)
+    }) (copyIn (t .creation) (t .chunks) (t .records) b) chunkLimit c noCopy l)
 
 module _ (t : Table) (f : Formed t) (b : ℕ) (lb : isBlock (t .creation) b ≡ true) where
   -- the chunks of the set
@@ -106,7 +106,7 @@ module _ (t : Table) (f : Formed t) (b : ℕ) (lb : isBlock (t .creation) b ≡ 
   copies = copiesOf t b
 
   abbrev copy : ℕ → Copy
-  copy c = copyOf t b c
+  copy c = copyIn (t .creation) (t .chunks) (t .records) b c
 
   -- and as the view has them
   abbrev cell : ℕ → Cell
@@ -285,16 +285,15 @@ module _ (t : Table) (f : Formed t) (b : ℕ) (lb : isBlock (t .creation) b ≡ 
             (those-any (λ e. isWrite (e .kind)) (λ e. P (e .timestamp)) (inOrder (recordOf t c b .waiting)) h),
       ))))
 
-  module _ (al : allLost copies ≡ false) where
+  module _ (al : allLost (setOf (t .creation) b) (t .chunks) ≡ false) where
     -- a chunk that is not lost
     pub alive : (c : ℕ) × S c × (chunkOf t c .lost ≡ false)
     unfolding allLost
     alive =
-        let r = those-not isLost inSet copies noCopy al in
-        let l : r .0 < chunkLimit = omega (arith, r .1, copies-length) in
-        let m : inSet (copy (r .0)) ≡ true = rw (copy-at (r .0) l) at (r .2) in
-        let o : isLost (copy (r .0)) ≡ false = rw (copy-at (r .0) l) at (r .3) in
-        (r .0, member-in (r .0) l m, rw m at o)
+        let r = those-not (λ c. chunkOf t c .lost) (λ c. c among setOf (t .creation) b) (numbers chunkLimit) 0 al in
+        let l : r .0 < chunkLimit = omega (arith, r .1, numbers-length chunkLimit) in
+        let at = numbers-at chunkLimit (r .0) 0 l in
+        (r .0, member-in (r .0) l (rw at at (r .2)), rw at at (r .3))
 
     -- what is chosen is listed
     pub commits-has : (u : ℕ) → Chosen S cell (W copies .0) u → Any (isStamp u) (commits copies)

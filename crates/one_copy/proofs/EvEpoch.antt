@@ -3,11 +3,11 @@ use Prim.Native.Nat.{ℕ, suc, _+_, _<_}
 use mathlib.Core.Path.{_≡_, refl, sym, subst, subst⁻¹, _∙_, ap}
 use mathlib.Core.Logic.{_⊎_, inl, inr}
 use mathlib.Core.Bool.{Bool, true, false, cond}
-use mathlib.Core.List.{List, [], _++_}
+use mathlib.Core.List.{[], _++_}
 use native.Mathlib.Omega.{arith}
 use lib.ListN.{length, getD, List·getD-eq-default}
 use Rattle.one_copy.specs.Types.{Timestamp, Record, State, Chunk, Table, Outcome}
-use Rattle.one_copy.specs.Listed.{Write, byChange}
+use Rattle.one_copy.specs.Listed.{byChange}
 use Rattle.rules.specs.Chunks.{emptied}
 use Rattle.rules.specs.Codes.{codeOf}
 use Rattle.rules.specs.Events.{copiesOf, renewed, epochChanged, epochRefusals}
@@ -61,14 +61,14 @@ module _ (t : Table) where
   pub changed-sane : ((c : ℕ) → isNormal (chunkOf t c .state) ≡ true → chunkOf t c .lost ≡ false) → (c : ℕ)
       → isNormal (chunkOf (epochChanged t) c .state) ≡ true → chunkOf (epochChanged t) c .lost ≡ false
   changed-sane f c = elim (le-or-lt chunkLimit c) [
-    | inl q ↦ λ _. ap (λ (x : Chunk). x .lost) (List·getD-eq-default (each (renewed t) (numbers chunkLimit)) noChunk
-        (omega (arith, each-length (renewed t) (numbers chunkLimit), numbers-length chunkLimit)))
-    | inr q ↦ subst⁻¹ (λ (x : Chunk). isNormal (x .state) ≡ true → x .lost ≡ false) (each-number (renewed t) chunkLimit c noChunk q)
+    | inl q ↦ λ _. ap (λ (x : Chunk). x .lost) (List·getD-eq-default (each (renewed (t .creation) (next (t .epoch)) (t .chunks)) (numbers chunkLimit)) noChunk
+        (omega (arith, each-length (renewed (t .creation) (next (t .epoch)) (t .chunks)) (numbers chunkLimit), numbers-length chunkLimit)))
+    | inr q ↦ subst⁻¹ (λ (x : Chunk). isNormal (x .state) ≡ true → x .lost ≡ false) (each-number (renewed (t .creation) (next (t .epoch)) (t .chunks)) chunkLimit c noChunk q)
         (renewed-sane (isChunk (t .creation) c) (chunkOf t c) _ refl (f c))
   ]
 
 module _ (b : ℕ) (h : Hist) (t : Table) (f : Formed t) (lb : isBlock (t .creation) b ≡ true) (i : Good b h t)
-    (e : codeOf (epochRefusals t) ≡ 0) where
+    (e : codeOf (epochRefusals (t .creation) (t .epoch) (t .chunks)) ≡ 0) where
   -- the chunks of the set
   abbrev S : ℕ → Type 0
   S = In (t .creation) b
@@ -96,7 +96,7 @@ module _ (b : ℕ) (h : Hist) (t : Table) (f : Formed t) (lb : isBlock (t .creat
         epoch = next (t .epoch);
         reconcile =
             noBlocks;
-      } = each-number (renewed t) chunkLimit c noChunk l ∙ rw (m .0) refl in
+      } = each-number (renewed (t .creation) (next (t .epoch)) (t .chunks)) chunkLimit c noChunk l ∙ rw (m .0) refl in
       let er : recordOf (epochChanged t) c b ≡ r = grid-at (λ c b. getD (settled (copiesOf t b)) c noCopy .block) chunkLimit blockLimit
       c b noRecord l (small t f b lb) ∙ settled-at t b c l ∙ rw (m .1) refl in
       rw (ec, er) refl
@@ -111,7 +111,7 @@ module _ (b : ℕ) (h : Hist) (t : Table) (f : Formed t) (lb : isBlock (t .creat
 
   -- it settles
   st : Settling S cells (W (copiesOf t b) .0) (besideW (copiesOf t b)) (r .write .0) (r .value) (r .read .0)
-  st = settling t f b lb (epoch-holder t e b (small t f b lb) lb)
+  st = settling t f b lb (epoch-holder (t .creation) (t .epoch) (t .chunks) e b (small t f b lb) lb)
 
   -- what is listed after was listed or is committed
   to : (u : ℕ) → Any (isTs u) (byChange b t ++ h .listed) → Any (isTs u) (h .listed) ⊎ isChosen u
@@ -125,7 +125,7 @@ module _ (b : ℕ) (h : Hist) (t : Table) (f : Formed t) (lb : isBlock (t .creat
   from : (u : ℕ) → Any (isTs u) (h .listed) ⊎ isChosen u → Any (isTs u) (byChange b t ++ h .listed)
   from u = elim [
     | inl y ↦ any-right (isTs u) (byChange b t) (h .listed) y
-    | inr y ↦ any-left (isTs u) (byChange b t) (h .listed) (each-any _ (isTs u) (commits (copiesOf t b)) (commits-has t f b lb (epoch-holder t e b (small t f b lb) lb) u y))
+    | inr y ↦ any-left (isTs u) (byChange b t) (h .listed) (each-any _ (isTs u) (commits (copiesOf t b)) (commits-has t f b lb (epoch-holder (t .creation) (t .epoch) (t .chunks) e b (small t f b lb) lb) u y))
   ]
 
   -- a committed write has its attempt's value
@@ -136,7 +136,7 @@ module _ (b : ℕ) (h : Hist) (t : Table) (f : Formed t) (lb : isBlock (t .creat
       let x = getD (commits (copiesOf t b)) (q .0) (record { 0 = 0 }) in
       let k = commits-in t f b lb (x .0) (any-map _ (λ (z : Timestamp). z .0 ≡ x .0) (λ z p. p .0 ∙ sym (q .2 .0))
       (commits (copiesOf t b)) y) in
-      let w = written t f b lb (epoch-holder t e b (small t f b lb) lb) x k in
+      let w = written t f b lb (epoch-holder (t .creation) (t .epoch) (t .chunks) e b (small t f b lb) lb) x k in
       ap (h .value) (sym (q .2 .0)) ∙ (i .inv .cells (w .0) (w .2)) .waits (x .0) _ (w .1) (w .3) .vals ∙ q .2 .1
 
   -- the changed table is good
@@ -189,7 +189,7 @@ epoch-less t = record {
   ];
   clocks = λ j. omega arith;
   shape = λ s. shape-epoch (withRecords t (recordsBy f)) (shape-records t s f
-      (λ c b l m. rw (settled-at t b c l) (go c b (c among setOf (t .creation) b)))) (renewed t) _;
+      (λ c b l m. rw (settled-at t b c l) (go c b (c among setOf (t .creation) b)))) (renewed (t .creation) (next (t .epoch)) (t .chunks)) _;
 }
   where
     f : ℕ → ℕ → Record

@@ -94,7 +94,7 @@ module _ (t : Table) (f : Formed t) (j : ℕ) (lj : isHost (t .creation) j ≡ t
 
   -- finish: the messages are under the host's own timestamp
   pub finish-less : Shape t → (free messages : ℕ) → codeOf (finishRefusals x free messages) ≡ 0
-      → Less (withPlaces (withHost t j (finished x)) (sentToEach (t .places) (closingTo (front x .action) (holdersOf t x))
+      → Less (withPlaces (withHost t j (finished x)) (sentToEach (t .places) (closingTo (front x .action) (holdersOf (t .creation) x))
       (λ c. asking (headed j c (front x .block) (x .attempt .timestamp)) (x .epoch) (closing (x .attempt .okay))))) t
   unfolding every finished
   finish-less s free messages e =
@@ -107,20 +107,20 @@ module _ (t : Table) (f : Formed t) (j : ℕ) (lj : isHost (t .creation) j ≡ t
 
   -- a start: the new timestamp is the front operation's block's
   pub start-home : (blk : ℕ → ℕ) → Shape t → Homes blk t → (clock copy free messages : ℕ)
-      → codeOf (startRefusals x clock copy (holdersOf t x) free messages) ≡ 0
+      → codeOf (startRefusals x clock copy (holdersOf (t .creation) x) free messages) ≡ 0
       → Homes (at (stamp clock j .0) (front x .block) blk)
-      (withPlaces (withHost t j (started x (stamp clock j) clock (openingTo (front x .action) copy (holdersOf t x))))
-      (sentToEach (t .places) (openingTo (front x .action) copy (holdersOf t x))
+      (withPlaces (withHost t j (started x (stamp clock j) clock (openingTo (front x .action) copy (holdersOf (t .creation) x))))
+      (sentToEach (t .places) (openingTo (front x .action) copy (holdersOf (t .creation) x))
       (λ c. asking (headed j c (front x .block) (stamp clock j)) (x .epoch) (opening (front x .action)))))
   unfolding every
   start-home blk s hm clock copy free messages e =
       begins-home blk t s hm j clock place-j (leb-false clock (x .clock)
-      (granted-exactly (startRefusals x clock copy (holdersOf t x) free messages) refl .0 e 5 (omega arith)))
-      (started x (stamp clock j) clock (openingTo (front x .action) copy (holdersOf t x)))
-      (sentToEach (t .places) (openingTo (front x .action) copy (holdersOf t x))
+      (granted-exactly (startRefusals x clock copy (holdersOf (t .creation) x) free messages) refl .0 e 5 (omega arith)))
+      (started x (stamp clock j) clock (openingTo (front x .action) copy (holdersOf (t .creation) x)))
+      (sentToEach (t .places) (openingTo (front x .action) copy (holdersOf (t .creation) x))
       (λ c. asking (headed j c (front x .block) (stamp clock j)) (x .epoch) (opening (front x .action)))) (front x .block) refl refl refl
       (λ u d z. elim (sent-each (ofBoth d u) (λ c. asking (headed j c (front x .block) (stamp clock j)) (x .epoch) (opening (front x .action)))
-      (openingTo (front x .action) copy (holdersOf t x)) (t .places) z) [
+      (openingTo (front x .action) copy (holdersOf (t .creation) x)) (t .places) z) [
         | inl q ↦ inl q
         | inr q ↦
             inr (made-both (headed j (q .0) (front x .block) (stamp clock j)) (Sort.Request (x .epoch) (opening (front x .action))) d u (q .3))

@@ -176,7 +176,7 @@ module _ (b : ℕ) (h : Hist) (t : Table) (f : Formed t) (s : Shape t) (lb : isB
   module _ (clock copy : ℕ) (lc : isChunk (t .creation) copy ≡ true) where
     -- where the messages go
     abbrev to : Action → Set
-    to a = openingTo a copy (holdersOf t x)
+    to a = openingTo a copy (holdersOf (t .creation) x)
 
     -- the table after the start
     abbrev after : Action → Table
@@ -184,16 +184,16 @@ module _ (b : ℕ) (h : Hist) (t : Table) (f : Formed t) (s : Shape t) (lb : isB
         (sentToEach (t .places) (to a) (λ c. asking (headed j c (front x .block) (stamp clock j)) (x .epoch) (opening a)))
 
     -- by the operation, and by its block: this one or another
-    start-as : x .clock < clock → (a : Action) → front x .action ≡ a → isReading a && not (copy among holdersOf t x) ≡ false
+    start-as : x .clock < clock → (a : Action) → front x .action ≡ a → isReading a && not (copy among holdersOf (t .creation) x) ≡ false
         → (front x .block ≡ b) ⊎ (front x .block ≡ b → ⊥)
         → Next b h t [] Outcome.None (after a)
     start-as lt (Action.Write v) ea ok (inl eb) = record {
       hist = begins h (stamp clock j .0) writeK (y .value) (x .epoch .0);
       good = good-host b (begins h (stamp clock j .0) writeK (y .value) (x .epoch .0)) t s j
-          (started x (stamp clock j) clock (holdersOf t x)) n small
+          (started x (stamp clock j) clock (holdersOf (t .creation) x)) n small
           (begin-write S (inside t f b lb) b h (t .epoch .0) (seatsOf t) (partOf t b) (t .places) i j clock small lt y refl refl
           (i .known j) n (x .epoch)
-          (λ P z. elim (sent-each P m (holdersOf t x) (t .places) z) [
+          (λ P z. elim (sent-each P m (holdersOf (t .creation) x) (t .places) z) [
             | inl q ↦ inl q
             | inr q ↦ inr (
               q .0,
@@ -210,10 +210,10 @@ module _ (b : ℕ) (h : Hist) (t : Table) (f : Formed t) (s : Shape t) (lb : isB
     }
       where
         y : Seat
-        y = seatOf (started x (stamp clock j) clock (holdersOf t x))
+        y = seatOf (started x (stamp clock j) clock (holdersOf (t .creation) x))
 
         now : Host
-        now = started x (stamp clock j) clock (holdersOf t x)
+        now = started x (stamp clock j) clock (holdersOf (t .creation) x)
 
         here : hostOf (withHost t j now) j ≡ now
         here = getD-set-same (t .hosts) j now noHost (omega (arith, small, s .hosts))
@@ -233,7 +233,7 @@ module _ (b : ℕ) (h : Hist) (t : Table) (f : Formed t) (s : Shape t) (lb : isB
         m c = asking (headed j c (front x .block) (stamp clock j)) (x .epoch) (Request.Prewrite v)
 
         n : List Place
-        n = sentToEach (t .places) (holdersOf t x) m
+        n = sentToEach (t .places) (holdersOf (t .creation) x) m
     start-as lt Action.Read ea ok (inl eb) = record {
       hist = begins h (stamp clock j .0) readK 0 (x .epoch .0);
       good = good-host b (begins h (stamp clock j .0) readK 0 (x .epoch .0)) t s j (started x (stamp clock j) clock (only copy)) n small
@@ -267,7 +267,7 @@ module _ (b : ℕ) (h : Hist) (t : Table) (f : Formed t) (s : Shape t) (lb : isB
         n = sentToEach (t .places) (only copy) m
 
         held : In (t .creation) b copy
-        held = (lc, subst (λ d. copy among setOf (t .creation) d ≡ true) eb (not-false (copy among holdersOf t x) ok))
+        held = (lc, subst (λ d. copy among setOf (t .creation) d ≡ true) eb (not-false (copy among holdersOf (t .creation) x) ok))
     start-as lt a ea ok (inr far) = unnoted b h t (after a) (good-host b h t s j (started x (stamp clock j) clock (to a)) n small
         (start-other S (inside t f b lb) b h (t .epoch .0) (seatsOf t) (partOf t b) (t .places) i j clock small lt
         (seatOf (started x (stamp clock j) clock (to a))) refl refl (i .known j) n
@@ -281,11 +281,11 @@ module _ (b : ℕ) (h : Hist) (t : Table) (f : Formed t) (s : Shape t) (lb : isB
         n = sentToEach (t .places) (to a) m
 
     -- start
-    pub ev-start : (free messages : ℕ) → codeOf (startRefusals x clock copy (holdersOf t x) free messages) ≡ 0
+    pub ev-start : (free messages : ℕ) → codeOf (startRefusals x clock copy (holdersOf (t .creation) x) free messages) ≡ 0
         → Next b h t [] Outcome.None (after (front x .action))
     unfolding every
     ev-start free messages e =
-        let row = granted-exactly (startRefusals x clock copy (holdersOf t x) free messages) refl .0 e in
+        let row = granted-exactly (startRefusals x clock copy (holdersOf (t .creation) x) free messages) refl .0 e in
         start-as (leb-false clock (x .clock) (row 5 (omega arith))) (front x .action) refl (row 4 (omega arith))
         (eq-or-ne (front x .block) b)
 
@@ -298,7 +298,7 @@ module _ (b : ℕ) (h : Hist) (t : Table) (f : Formed t) (s : Shape t) (lb : isB
   -- the table after it
   abbrev closed : Action → Bool → Table
   closed a o = withPlaces (withHost t j (finished x))
-      (sentToEach (t .places) (closingTo a (holdersOf t x)) (λ c. asking (headed j c (front x .block) (x .attempt .timestamp))
+      (sentToEach (t .places) (closingTo a (holdersOf (t .creation) x)) (λ c. asking (headed j c (front x .block) (x .attempt .timestamp))
       (x .epoch) (closing o)))
 
   -- what it commits
@@ -351,7 +351,7 @@ module _ (b : ℕ) (h : Hist) (t : Table) (f : Formed t) (s : Shape t) (lb : isB
 
     -- nothing of block b, or nothing that counts
     finish-other : (a : Action) (o : Bool)
-        → NetLe b (sentToEach (t .places) (closingTo a (holdersOf t x))
+        → NetLe b (sentToEach (t .places) (closingTo a (holdersOf (t .creation) x))
         (λ c. asking (headed j c (front x .block) (x .attempt .timestamp)) (x .epoch) (closing o))) (t .places)
         → Good b h (closed a o)
     finish-other a o le = good-host b h t s j (finished x) _ small
@@ -387,7 +387,7 @@ module _ (b : ℕ) (h : Hist) (t : Table) (f : Formed t) (s : Shape t) (lb : isB
           (end-commit S (inside t f b lb) b h (t .epoch .0) (seatsOf t) (partOf t b) (t .places) i j (seatOf (finished x)) (left .0)
           (left .1) knows _ (x .attempt .timestamp) (x .epoch) (hasW v ea eb) eo out
           (λ P z. elim (sent-each P (λ c. asking (headed j c (front x .block) (x .attempt .timestamp)) (x .epoch) Request.Commit)
-          (holdersOf t x) (t .places) z) [
+          (holdersOf (t .creation) x) (t .places) z) [
             | inl q ↦ inl q
             | inr q ↦ inr (q .0, subst (λ d. P (asking (headed j (q .0) d (x .attempt .timestamp)) (x .epoch) Request.Commit)) eb (q .3))
           ]));
@@ -403,15 +403,15 @@ module _ (b : ℕ) (h : Hist) (t : Table) (f : Formed t) (s : Shape t) (lb : isB
         (failing (x .attempt .restart) (Action.Write v)) (good-host b h t s j (finished x) _ small
         (end-abort S (inside t f b lb) b h (t .epoch .0) (seatsOf t) (partOf t b) (t .places) i j (seatOf (finished x)) (left .0)
         (left .1) knows _ (x .attempt .timestamp) (x .epoch) (hasW v ea eb) eo
-        (λ P z. elim (sent-each P (λ c. asking (headed j c (front x .block) (x .attempt .timestamp)) (x .epoch) Request.Abort) (holdersOf t x)
+        (λ P z. elim (sent-each P (λ c. asking (headed j c (front x .block) (x .attempt .timestamp)) (x .epoch) Request.Abort) (holdersOf (t .creation) x)
         (t .places) z) [
           | inl q ↦ inl q
           | inr q ↦ inr (q .0, subst (λ d. P (asking (headed j (q .0) d (x .attempt .timestamp)) (x .epoch) Request.Abort)) eb (q .3))
         ])))
     finish-as (Action.Write v) ea true eo (inr far) = idly (outcomeOf (Action.Write v) true) _ _ (far-commits (Action.Write v) true far) (far-done (Action.Write v) far)
-        (finish-other (Action.Write v) true (far-net (holdersOf t x) true far))
+        (finish-other (Action.Write v) true (far-net (holdersOf (t .creation) x) true far))
     finish-as (Action.Write v) ea false eo (inr far) = idly (outcomeOf (Action.Write v) false) [] _ refl
-        (failing (x .attempt .restart) (Action.Write v)) (finish-other (Action.Write v) false (far-net (holdersOf t x) false far))
+        (failing (x .attempt .restart) (Action.Write v)) (finish-other (Action.Write v) false (far-net (holdersOf (t .creation) x) false far))
     finish-as Action.Read ea true eo (inl eb) = record {
       hist = answers h (record { timestamp = x .attempt .timestamp; value = x .attempt .result });
       good = good-host b (answers h (record { timestamp = x .attempt .timestamp; value = x .attempt .result })) t s j (finished x) _ small

@@ -125,7 +125,7 @@ module _ (b : ℕ) (h : Hist) (blk : ℕ → ℕ) (t : Table) (lb : isBlock (t .
       let copy = e .c in
       let q = three _ _ _ r in
       let rule = startRule t j clock copy in
-      let to = openingTo (front (hostOf t j) .action) copy (holdersOf t (hostOf t j)) in
+      let to = openingTo (front (hostOf t j) .action) copy (holdersOf (t .creation) (hostOf t j)) in
       record {
         next = subst⁻¹ (λ (ws : List Write). Next b h t ws Outcome.None (rule .effect .table)) (rw k refl)
             (ev-start b h t f (i .shape) lb (i .good) j (q .0) clock copy (q .2) (freePlaces (t .places)) (howMany to) x);
@@ -163,7 +163,7 @@ module _ (b : ℕ) (h : Hist) (blk : ℕ → ℕ) (t : Table) (lb : isBlock (t .
       let d = e .c in
       let lj = three _ _ _ r .0 in
       let rule = finishRule t j c d in
-      let n = howMany (closingTo (front (hostOf t j) .action) (holdersOf t (hostOf t j))) in
+      let n = howMany (closingTo (front (hostOf t j) .action) (holdersOf (t .creation) (hostOf t j))) in
       relist (byHost b (hostOf t j)) (rule .effect .outcome) (rule .effect .table) (rw k refl)
       (ev-finish b h t f (i .shape) lb (i .good) j lj (freePlaces (t .places)) n x)
       (finish-less t f j lj (i .shape) (freePlaces (t .places)) n x) refl
@@ -291,7 +291,7 @@ module _ (b : ℕ) (h : Hist) (blk : ℕ → ℕ) (t : Table) (lb : isBlock (t .
 
 pub record Changed (t t′ : Table) : Type 0 where
   pub formed : Formed t
-  pub refusals : codeOf (epochRefusals t) ≡ 0
+  pub refusals : codeOf (epochRefusals (t .creation) (t .epoch) (t .chunks)) ≡ 0
   pub table : t′ ≡ epochChanged t
 
 -- what its code says

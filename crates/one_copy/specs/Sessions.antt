@@ -4,7 +4,7 @@ use mathlib.Core.Bool.{true, false, not}
 use mathlib.Core.List.{List, [], _∷_, _++_}
 use lib.ListN.{replicate}
 use lib.Dec.{eqb}
-use Rattle.one_copy.specs.Types.{Set, Creation, Table, Event, Outcome}
+use Rattle.one_copy.specs.Types.{Set, Creation, Event, Outcome}
 use Rattle.one_copy.specs.Listed.{Write, listed, lastBefore}
 use Rattle.rules.specs.Creation.{fresh}
 use Rattle.rules.specs.Limits.{hostLimit}

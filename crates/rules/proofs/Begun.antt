@@ -364,11 +364,11 @@ module _ (l : Ledger) (t : Table) (i : Kept l t) (e : Event) where
   unfolding kindOf place
   starts k f r c =
       let h = hostOf t (e .a) in
-      let to = openingTo (front h .action) (e .c) (holdersOf t h) in
+      let to = openingTo (front h .action) (e .c) (holdersOf (t .creation) h) in
       let row : startRule t (e .a) (e .b) (e .c) .effect .table .hosts
       ≡ withHost t (e .a) (started h (stamp (e .b) (e .a)) (e .b) to) .hosts = refl in
       let q = three _ _ _ r in
-      let drawn = start-draws h (e .a) (e .b) (e .c) (holdersOf t h) (freePlaces (t .places)) _ c in
+      let drawn = start-draws h (e .a) (e .b) (e .c) (holdersOf (t .creation) h) (freePlaces (t .places)) _ c in
       rw k (still _ _ _ (same _ _ row)
       (begins l t f i (e .a) (q .0) (e .b) to (one-to greatestClock (e .b) (q .1) .0) (omega (arith, drawn .0))))
 

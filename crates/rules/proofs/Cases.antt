@@ -9,12 +9,12 @@ use Rattle.rules.specs.Types.{Timestamp, Set, Kind, Entry, Record, State
 use Rattle.rules.specs.Chunks.{atChunk, arrived}
 use Rattle.rules.specs.Codes.{codeOf}
 use Rattle.rules.specs.Creation.{fresh, firstEpoch, isCreation}
-use Rattle.rules.specs.Events.{step, rows, ranges, ruleOf, kindOf}
+use Rattle.rules.specs.Events.{allLost, step, rows, ranges, ruleOf, kindOf}
 use Rattle.rules.specs.Formed.{wellFormed}
 use Rattle.rules.specs.Hosts.{appended, refreshed, withClock, queueOf}
 use Rattle.rules.specs.Messages.{headed, messageOf, asking}
 use Rattle.rules.specs.Network.{sent, freePlaces, howMany, sentToEach, replied}
-use Rattle.rules.specs.Settlement.{W, besideW, agreed, committed, writes, commits, latest, writtenWith, settledRecord, settled, allLost}
+use Rattle.rules.specs.Settlement.{W, besideW, agreed, committed, writes, commits, latest, writtenWith, settledRecord, settled}
 use Rattle.rules.specs.Tables.{hostOf, recordOf, slotOf, withHost, withChunk, withRecord, withPlaces}
 use Rattle.rules.specs.Waiting.{holding, insert, inserted}
 use Rattle.rules.specs.Words.{if_then_else_, those, each, joined, every, some, place, fold, from}

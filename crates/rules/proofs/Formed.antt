@@ -10,7 +10,7 @@ use lib.Seq.{getD-take}
 use borrow.Author.Tests.{ltb-true, ltb-false, leb-true, le-leb, le-ltb, eqb-true, not-true}
 use Rattle.rules.specs.Types.{Timestamp, Epoch, Set, Creation, Entry, Waiting, Record, Chunk, Operation, Queue, Attempt, Host, Header, Message, Sort, Place, Table}
 use Rattle.rules.specs.Creation.{isCreation, ofStore, isSetOf}
-use Rattle.rules.specs.Formed.{operationFormed, operationAt, queueFormed, attemptFormed, hostFormed, chunkFormed, entryFormed, entryAt, waitingFormed, recordFormed, sortFormed, messageFormed, slotFormed, hostAt, chunkAt, recordAt, recordsAt, placeAt, wellFormed}
+use Rattle.rules.specs.Formed.{operationFormed, operationAt, queueFormed, attemptFormed, hostFormed, chunkFormed, entryFormed, entryAt, waitingFormed, recordFormed, sortFormed, messageFormed, slotFormed, hostAt, chunkAt, recordAt, wellFormed, hostsFormed, chunksFormed, recordsFormed, placesFormed}
 use Rattle.rules.specs.Hosts.{operationsOf, queueOf, front}
 use Rattle.rules.specs.Limits.{hostLimit, chunkLimit, blockLimit, operationLimit, waitingLimit, placeLimit, greatestClock, greatestTimestamp, upTo, oneTo}
 use Rattle.rules.specs.Messages.{headerOf, sortOf, messageOf}
@@ -368,39 +368,41 @@ module _ (k : Creation) where
 pub record Formed (t : Table) : Type 0 where
   pub creation : isCreation (t .creation) ≡ true
   pub epoch : isEpoch (t .epoch) ≡ true
-  pub hosts : (h : ℕ) → h < hostLimit → hostAt t h ≡ true
-  pub chunks : (c : ℕ) → c < chunkLimit → chunkAt t c ≡ true
-  pub records : (c b : ℕ) → c < chunkLimit → b < blockLimit → recordAt t c b ≡ true
+  pub hosts : (h : ℕ) → h < hostLimit → hostAt (t .creation) h (hostOf t h) ≡ true
+  pub chunks : (c : ℕ) → c < chunkLimit → chunkAt (t .creation) (t .epoch) c (chunkOf t c) ≡ true
+  pub records : (c b : ℕ) → c < chunkLimit → b < blockLimit → recordAt (t .creation) c b (recordOf t c b) ≡ true
   pub places : FormedPlaces (t .creation) (t .places)
 
 module _ (t : Table) where
+  abbrev recorded : (c b : ℕ) → Bool
+  recorded c b = recordAt (t .creation) c b (recordOf t c b)
+
   -- what the test of a table says
   pub formed : wellFormed t ≡ true → Formed t
   unfolding wellFormed
   formed h =
-      let hosts = every (hostAt t) (numbers hostLimit) in
-      let chunks = every (chunkAt t) (numbers chunkLimit) in
-      let records = every (recordsAt t) (numbers chunkLimit) in
-      let places = every (placeAt t) (numbers placeLimit) in
-      let r = both (isCreation (t .creation) && isEpoch (t .epoch) && hosts && chunks && records) places h in
-      let s = five (isCreation (t .creation)) (isEpoch (t .epoch)) hosts chunks records (r .0) in
+      let k = t .creation in
+      let r = both _ (placesFormed k (t .places)) h in
+      let s = five (isCreation k) (isEpoch (t .epoch)) (hostsFormed k (t .hosts)) (chunksFormed k (t .epoch) (t .chunks)) (recordsFormed k (t .records)) (r .0) in
       record {
         creation = s .0;
         epoch = s .1;
-        hosts = every-number (hostAt t) hostLimit (s .2);
-        chunks = every-number (chunkAt t) chunkLimit (s .3);
-        records = λ c b l m. every-number (recordAt t c) blockLimit (every-number (recordsAt t) chunkLimit (s .4) c l) b m;
-        places = every-number (placeAt t) placeLimit (r .1);
+        hosts = every-number _ hostLimit (s .2);
+        chunks = every-number _ chunkLimit (s .3);
+        records = λ c b l m. every-number (recorded c) blockLimit (every-number (λ c. every (recorded c) (numbers blockLimit)) chunkLimit (s .4) c l) b m;
+        places = every-number _ placeLimit (r .1);
       }
 
   -- the way back
   pub well-formed : Formed t → wellFormed t ≡ true
   unfolding wellFormed
   well-formed f =
-      let hosts = every-numbers (hostAt t) hostLimit (f .hosts) in
-      let chunks = every-numbers (chunkAt t) chunkLimit (f .chunks) in
-      let records = every-numbers (recordsAt t) chunkLimit (λ c l. every-numbers (recordAt t c) blockLimit (λ b m. f .records c b l m)) in
-      let places = every-numbers (placeAt t) placeLimit (f .places) in
+      let k = t .creation in
+      let hosts : hostsFormed k (t .hosts) ≡ true = every-numbers _ hostLimit (f .hosts) in
+      let chunks : chunksFormed k (t .epoch) (t .chunks) ≡ true = every-numbers _ chunkLimit (f .chunks) in
+      let records : recordsFormed k (t .records) ≡ true = every-numbers (λ c. every (recorded c) (numbers blockLimit)) chunkLimit
+      (λ c l. every-numbers (recorded c) blockLimit (λ b m. f .records c b l m)) in
+      let places : placesFormed k (t .places) ≡ true = every-numbers _ placeLimit (f .places) in
       rw (f .creation, f .epoch, hosts, chunks, records, places) refl
 
 -- ---- the parts of a well-formed table

@@ -5,9 +5,9 @@ use mathlib.Core.Bool.{Bool, true, false, cond}
 use mathlib.Core.List.{List}
 use lib.ListN.{getD}
 use borrow.Author.Tests.{eq-eqb}
-use Rattle.rules.specs.Types.{Timestamp, Creation, Entry, Record, State, Chunk, Table, Copy}
+use Rattle.rules.specs.Types.{Timestamp, Creation, Entry, Record, Chunk, Table, Copy}
 use Rattle.rules.specs.Chunks.{emptied}
-use Rattle.rules.specs.Events.{copyOf, copiesOf, renewed, epochChanged, kindOf}
+use Rattle.rules.specs.Events.{copyIn, copiesOf, anew, renewed, epochChanged, kindOf}
 use Rattle.rules.specs.Formed.{chunkFormed, entryFormed, recordFormed}
 use Rattle.rules.specs.Kinds.{isWrite}
 use Rattle.rules.specs.Limits.{chunkLimit, blockLimit}
@@ -15,7 +15,7 @@ use Rattle.rules.specs.Settlement.{inSet, notLost, lastRead, lastWrite, 
 use Rattle.rules.specs.Tables.{isHost, isChunk, setOf, chunkOf, recordOf}
 use Rattle.rules.specs.Timestamps.{never, later, greatest, isTimestamp, next, isEpoch}
 use Rattle.rules.specs.Words.{those, each, every, some, place}
-use Rattle.rules.specs.Zero.{_among_, noBlocks, isZeroChunk, noCopy, noChunk}
+use Rattle.rules.specs.Zero.{_among_, isZeroChunk, noCopy, noChunk}
 use Rattle.rules.proofs.Lists.{three, walk, every-of-all, every-each, every-each-number, every-joined, fold-keeps, each-number, each-each-number}
 use Rattle.rules.proofs.Formed.{Formed, of-store, set-of-store, set-of-block, waiting-facts, entries-formed, record-facts, record-formed, record-of}
 use Rattle.rules.proofs.Relies.{epoch-next}
@@ -86,25 +86,25 @@ module _ (t : Table) (f : Formed t) where
       let s = setOf creation b in
       let after : Copy → Record = λ x. cond (inSet x) (settledRecord copies) (emptied (x .block)) in
       let now : Copy → Copy = λ x. record { member = x .member; lost = x .lost; block = after x } in
-      rw (each-each-number now (copyOf t b) chunkLimit c noCopy l)
+      rw (each-each-number now (copyIn creation (t .chunks) (t .records) b) chunkLimit c noCopy l)
       (walk (RecordAt creation c b) (c among s) (settledRecord copies) (emptied (recordOf t c b))
       (λ e.
       let d = set-of-block creation b c (f .creation) m l e in
       rw (of-store creation s (set-of-store creation b (f .creation) d) c l e, d)
-      (settled-formed creation copies (every-each-number (copyFormed creation) (copyOf t b) chunkLimit (λ i n. record-of t f i b n m))))
+      (settled-formed creation copies (every-each-number (copyFormed creation) (copyIn creation (t .chunks) (t .records) b) chunkLimit (λ i n. record-of t f i b n m))))
       (λ _. emptied-at creation c b (recordOf t c b) (f .records c b l m)))
 
   -- a chunk of the store's is blank in the next epoch; any other is zero as it was
+  abbrev now : (chunk : ℕ) → Chunk
+  now = renewed creation (next (t .epoch)) (t .chunks)
+
   renewed-at : (c : ℕ) → c < chunkLimit
-      → cond (isChunk creation c) (chunkFormed creation (next (t .epoch)) (renewed t c)) (isZeroChunk (renewed t c)) ≡ true
+      → cond (isChunk creation c) (chunkFormed creation (next (t .epoch)) (now c)) (isZeroChunk (now c)) ≡ true
   renewed-at c l = go (isChunk creation c) (f .chunks c l)
     where
-      blank : Chunk
-      blank = record { state = State.Normal; lost = false; epoch = next (t .epoch); reconcile = noBlocks }
-
       go : (x : Bool) → cond x (chunkFormed creation (t .epoch) (chunkOf t c)) (isZeroChunk (chunkOf t c)) ≡ true
-          → cond x (chunkFormed creation (next (t .epoch)) (cond x blank (chunkOf t c))) (isZeroChunk (cond x blank (chunkOf t c))) ≡ true
-      go true h = blank-formed creation (next (t .epoch)) blank (eq-eqb (t .epoch .0 + 1) (t .epoch .0 + 1) refl) refl
+          → cond x (chunkFormed creation (next (t .epoch)) (cond x (anew (next (t .epoch))) (chunkOf t c))) (isZeroChunk (cond x (anew (next (t .epoch))) (chunkOf t c))) ≡ true
+      go true h = blank-formed creation (next (t .epoch)) (anew (next (t .epoch))) (eq-eqb (t .epoch .0 + 1) (t .epoch .0 + 1) refl) refl
       go false h = h
 
   -- where there is a next epoch
@@ -113,7 +113,7 @@ module _ (t : Table) (f : Formed t) where
     creation = f .creation;
     epoch = e;
     hosts = f .hosts;
-    chunks = λ c l. rw (each-number (renewed t) chunkLimit c noChunk l) (renewed-at c l);
+    chunks = λ c l. rw (each-number now chunkLimit c noChunk l) (renewed-at c l);
     records = records-kept t f (λ c b. getD (settled (copiesOf t b)) c noCopy .block) settled-at .records;
     places = f .places;
   }
@@ -121,4 +121,4 @@ module _ (t : Table) (f : Formed t) where
 -- 15 epoch change
 pub epoch-kept : (t : Table) → Keeps t (kindOf 15)
 unfolding kindOf place
-epoch-kept t _ _ _ f e p = changed-formed t f (epoch-next t p (f .epoch))
+epoch-kept t _ _ _ f e p = changed-formed t f (epoch-next (t .creation) (t .epoch) (t .chunks) p (f .epoch))

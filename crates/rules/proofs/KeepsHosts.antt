@@ -219,7 +219,7 @@ module _ (t : Table) where
     front-of : isBlock creation block ≡ true
     front-of = front-block creation (hostOf t host) (queue-of t f host e) one
 
-    holders-of : ofStore creation (holdersOf t (hostOf t host)) ≡ true
+    holders-of : ofStore creation (holdersOf (t .creation) (hostOf t host)) ≡ true
     holders-of = set-of-store creation block (f .creation) front-of
 
     header-of : (s : Timestamp) → isTimestamp s ≡ true → (c : ℕ) → isChunk creation c ≡ true → FormedHeader creation (headed host c block s)
@@ -233,13 +233,13 @@ module _ (t : Table) where
   start-kept host clock copy f e p =
       let h = hostOf t host in
       let o = front h in
-      let to = openingTo (o .action) copy (holdersOf t h) in
+      let to = openingTo (o .action) copy (holdersOf (t .creation) h) in
       let r = three _ _ _ e in
-      let one = start-front h clock copy (holdersOf t h) (freePlaces (t .places)) (howMany to) p in
+      let one = start-front h clock copy (holdersOf (t .creation) h) (freePlaces (t .places)) (howMany to) p in
       let g = host-of t f host (r .0) in
       let now = stamp clock host in
       let s = stamp-formed creation clock host (f .creation) (r .0) (r .1) in
-      let ours = opening-of-store creation (o .action) copy (holdersOf t h) (r .2) (holders-of f host (r .0) one) in
+      let ours = opening-of-store creation (o .action) copy (holdersOf (t .creation) h) (r .2) (holders-of f host (r .0) one) in
       sent-to-each-kept (withHost t host (started h now clock to))
       (host-kept t f host (started h now clock to) (r .0) (started-formed creation h clock host to g s (r .1) one ours)) to _ ours
       (λ c q. message-formed creation (headed host c (o .block) now) (Sort.Request (h .epoch) (opening (o .action)))
@@ -251,14 +251,14 @@ module _ (t : Table) where
   finish-kept host _ _ f e p =
       let h = hostOf t host in
       let o = front h in
-      let to = closingTo (o .action) (holdersOf t h) in
+      let to = closingTo (o .action) (holdersOf (t .creation) h) in
       let r = three _ _ _ e in
       let has = finish-current h (freePlaces (t .places)) (howMany to) p in
       let now = h .attempt .timestamp in
       let g = host-of t f host (r .0) in
       let a = attempt-facts creation (h .queue .count) (h .attempt) (host-facts creation h g .attempt) has in
       sent-to-each-kept (withHost t host (finished h)) (host-kept t f host (finished h) (r .0) (finished-formed creation h g)) to _
-      (closing-of-store creation (o .action) (holdersOf t h) (holders-of f host (r .0) (a .one)))
+      (closing-of-store creation (o .action) (holdersOf (t .creation) h) (holders-of f host (r .0) (a .one)))
       (λ c q. message-formed creation (headed host c (o .block) now) (Sort.Request (h .epoch) (closing (h .attempt .okay)))
       (header-of f host (r .0) (a .one) now (a .timestamp) c q) (host-facts creation h g .epoch))
 

@@ -2,7 +2,7 @@
 use Prim.Native.Nat.{ℕ, _<_}
 use mathlib.Core.Path.{_≡_, refl, _∙_}
 use mathlib.Core.Logic.{_⊎_, inl, inr}
-use mathlib.Core.Bool.{true, cond, _&&_}
+use mathlib.Core.Bool.{true}
 use mathlib.Core.List.{List}
 use native.Mathlib.Omega.{arith}
 use lib.ListN.{getD, set}
@@ -10,13 +10,13 @@ use Rattle.rules.specs.Types.{Set, Creation, Record, Chunk, Host, Messag
 use Rattle.rules.specs.Codes.{codeOf}
 use Rattle.rules.specs.Creation.{ofStore}
 use Rattle.rules.specs.Events.{EventKind}
-use Rattle.rules.specs.Formed.{hostFormed, chunkFormed, recordFormed, messageFormed, slotFormed}
+use Rattle.rules.specs.Formed.{hostFormed, chunkFormed, messageFormed, slotFormed, hostAt, chunkAt, recordAt}
 use Rattle.rules.specs.Limits.{hostLimit, chunkLimit, blockLimit, placeLimit}
 use Rattle.rules.specs.Network.{isFree, removed, sent, chunksOf, sentToEach, replied}
 use Rattle.rules.specs.Operands.{allInRange}
-use Rattle.rules.specs.Tables.{isHost, isChunk, isBlock, at, recordOf, recordsBy, withHost, withChunk, withRecords, withRecord, withPlaces}
+use Rattle.rules.specs.Tables.{isHost, isChunk, at, recordOf, recordsBy, withHost, withChunk, withRecords, withRecord, withPlaces}
 use Rattle.rules.specs.Words.{each, place, numbers}
-use Rattle.rules.specs.Zero.{_among_, isZeroHost, isZeroChunk, isZeroRecord, zeroPlace, noHost, noChunk, noRecord}
+use Rattle.rules.specs.Zero.{_among_, zeroPlace, noHost, noChunk, noRecord}
 use Rattle.rules.proofs.Lists.{get-set, set-all, every-those, every-each, fold-keeps, grid-at}
 use Rattle.rules.proofs.Formed.{Formed, FormedPlaces}
 
@@ -28,19 +28,10 @@ Keeps t k =
     (a b c : ℕ) → Formed t → allInRange (t .creation) (k .operands) a b c ≡ true → codeOf (k .rule t a b c .refusals) ≡ 0
     → Formed (k .rule t a b c .effect .table)
 
--- ---- what may stand at a place of the table: a formed part of the store's, or zero
-
-abbrev HostAt : Creation → ℕ → Host → Type 0
-HostAt k h x = cond (isHost k h) (hostFormed k x) (isZeroHost x) ≡ true
+-- ---- a host, a chunk, records
 
 abbrev pub RecordAt : Creation → (chunk block : ℕ) → Record → Type 0
-RecordAt k c b x = cond (isChunk k c && isBlock k b) (recordFormed k x) (isZeroRecord x) ≡ true
-
-module _ (t : Table) where
-  abbrev ChunkAt : ℕ → Chunk → Type 0
-  ChunkAt c x = cond (isChunk (t .creation) c) (chunkFormed (t .creation) (t .epoch) x) (isZeroChunk x) ≡ true
-
--- ---- a host, a chunk, records
+RecordAt k c b r = recordAt k c b r ≡ true
 
 module _ (t : Table) (f : Formed t) where
   -- a formed host in its place
@@ -48,7 +39,7 @@ module _ (t : Table) (f : Formed t) where
   host-kept h x e g = record {
     creation = f .creation;
     epoch = f .epoch;
-    hosts = set-all (λ i y. i < hostLimit → HostAt (t .creation) i y) noHost (t .hosts) h x (λ _. rw e g) (f .hosts);
+    hosts = set-all (λ i y. i < hostLimit → hostAt (t .creation) i y ≡ true) noHost (t .hosts) h x (λ _. rw e g) (f .hosts);
     chunks = f .chunks;
     records = f .records;
     places = f .places;
@@ -61,7 +52,7 @@ module _ (t : Table) (f : Formed t) where
     creation = f .creation;
     epoch = f .epoch;
     hosts = f .hosts;
-    chunks = set-all (λ i y. i < chunkLimit → ChunkAt t i y) noChunk (t .chunks) c x (λ _. rw e g) (f .chunks);
+    chunks = set-all (λ i y. i < chunkLimit → chunkAt (t .creation) (t .epoch) i y ≡ true) noChunk (t .chunks) c x (λ _. rw e g) (f .chunks);
     records = f .records;
     places = f .places;
   }

@@ -6,17 +6,16 @@ use mathlib.Core.List.{List, [], _∷_}
 use native.Mathlib.Omega.{arith}
 use lib.ListN.{length, set}
 use borrow.Author.Tests.{ltb-false, leb-true, leb-false, le-leb, eqb-false, not-false}
-use Rattle.rules.specs.Types.{Set, Creation, Waiting, State, Host, Message, Slot, Place, Table}
+use Rattle.rules.specs.Types.{Epoch, Set, Creation, Waiting, State, Chunk, Host, Message, Slot, Place}
 use Rattle.rules.specs.Chunks.{runRefusals, overdueRefusals}
 use Rattle.rules.specs.Codes.{codeOf}
-use Rattle.rules.specs.Events.{copiesOf, epochRefusals}
+use Rattle.rules.specs.Events.{allLost, epochRefusals}
 use Rattle.rules.specs.Formed.{attemptFormed}
 use Rattle.rules.specs.Hosts.{hasCurrent, isOutstanding, intakeRefusals, startRefusals, finishRefusals, timeoutRefusals}
 use Rattle.rules.specs.Kinds.{isRead, isUndecided}
 use Rattle.rules.specs.Limits.{blockLimit, greatestClock}
 use Rattle.rules.specs.Network.{isFree, freePlaces, removed, sent, placeRefusals}
-use Rattle.rules.specs.Settlement.{allLost}
-use Rattle.rules.specs.Tables.{isBlock}
+use Rattle.rules.specs.Tables.{isBlock, setOf}
 use Rattle.rules.specs.Timestamps.{isEpoch, next}
 use Rattle.rules.specs.Waiting.{head}
 use Rattle.rules.specs.Words.{those, every, fold, place}
@@ -91,19 +90,19 @@ module _ (state : State) (w : Waiting) (now age : ℕ) (e : codeOf (overdueRefus
   unfolding every
   overdue-head = undecided-exists w (not-false (isUndecided (head w .kind)) (granted-exactly (overdueRefusals state w now age) refl .0 e 1 (omega arith)))
 
-module _ (t : Table) (e : codeOf (epochRefusals t) ≡ 0) where
+module _ (k : Creation) (epoch : Epoch) (chunks : List Chunk) (e : codeOf (epochRefusals k epoch chunks) ≡ 0) where
   -- the next epoch is in its range
-  pub epoch-next : isEpoch (t .epoch) ≡ true → isEpoch (next (t .epoch)) ≡ true
+  pub epoch-next : isEpoch epoch ≡ true → isEpoch (next epoch) ≡ true
   unfolding every
   epoch-next h =
-      let n = eqb-false (t .epoch .0) greatestClock (granted-exactly (epochRefusals t) refl .0 e 1 (omega arith)) in
-      let k = leb-true (t .epoch .0) greatestClock h in
-      le-leb (t .epoch .0 + 1) greatestClock (omega arith)
+      let n = eqb-false (epoch .0) greatestClock (granted-exactly (epochRefusals k epoch chunks) refl .0 e 1 (omega arith)) in
+      let l = leb-true (epoch .0) greatestClock h in
+      le-leb (epoch .0 + 1) greatestClock (omega arith)
 
   -- some chunk of each block's set is not lost, so there is one to settle from
-  pub epoch-holder : (b : ℕ) → b < blockLimit → isBlock (t .creation) b ≡ true → allLost (copiesOf t b) ≡ false
+  pub epoch-holder : (b : ℕ) → b < blockLimit → isBlock k b ≡ true → allLost (setOf k b) chunks ≡ false
   unfolding every
-  epoch-holder b k h = rw h at (none-number (λ b. isBlock (t .creation) b && allLost (copiesOf t b)) blockLimit (granted-exactly (epochRefusals t) refl .0 e 2 (omega arith)) b k)
+  epoch-holder b l h = rw h at (none-number (λ b. isBlock k b && allLost (setOf k b) chunks) blockLimit (granted-exactly (epochRefusals k epoch chunks) refl .0 e 2 (omega arith)) b l)
 
 -- ---- the network
 

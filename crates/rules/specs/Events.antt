@@ -4,7 +4,7 @@ use mathlib.Core.Bool.{Bool, false, not, _&&_}
 use mathlib.Core.List.{List, []}
 use lib.ListN.{getD}
 use lib.Dec.{eqb}
-use Rattle.rules.specs.Types.{Set, Creation, State, Chunk, Action, Operation, Host, Header, Message, Slot, Table, Copy, Event, Operands, Outcome, Answer}
+use Rattle.rules.specs.Types.{Epoch, Set, Creation, Record, State, Chunk, Action, Operation, Host, Header, Message, Slot, Table, Copy, Event, Operands, Outcome, Answer}
 use Rattle.rules.specs.declared.Operand.the-variants.{Unknown as unknown, Unused as unused, Host as aHost, Chunk as aChunk, Block as aBlock, Place as aPlace, Clock as aClock, Now as aTime, Value as aValue}
 use Rattle.rules.specs.Chunks.{runRefusals, ran, failRefusals, failed, emptied, recoverRefusals, recovered, takeLeaseRefusals, leaseTaken, giveLeaseRefusals, leaseGiven, overdueRefusals, overdue, arrives}
 use Rattle.rules.specs.Codes.{Row, _gives_⨾_, granted, codeOf}
@@ -13,13 +13,13 @@ use Rattle.rules.specs.Hosts.{front, intakeRefusals, appended, startRefu
 use Rattle.rules.specs.Kinds.{isFailed}
 use Rattle.rules.specs.Limits.{chunkLimit, blockLimit, greatestClock}
 use Rattle.rules.specs.Messages.{headed, headerOf, sortOf, asking, isForChunk}
-use Rattle.rules.specs.Network.{freePlaces, removed, howMany, sentToEach, replied, placeRefusals}
+use Rattle.rules.specs.Network.{freePlaces, removed, howMany, sentToEach, replied, placeRefusals, chunksOf}
 use Rattle.rules.specs.Operands.{_∥_∥_, allInRange}
-use Rattle.rules.specs.Settlement.{settled, allLost}
-use Rattle.rules.specs.Tables.{isChunk, isBlock, setOf, hostOf, chunkOf, recordOf, recordsBy, slotOf, withEpoch, withChunks, withRecords, withPlaces, withHost, withChunk, withRecord}
+use Rattle.rules.specs.Settlement.{settled}
+use Rattle.rules.specs.Tables.{isChunk, isBlock, setOf, hostOf, chunkOf, at, recordOf, recordsBy, slotOf, withEpoch, withChunks, withRecords, withPlaces, withHost, withChunk, withRecord}
 use Rattle.rules.specs.Timestamps.{stamp, next}
-use Rattle.rules.specs.Words.{if_then_else_, Numbered, _⇒_⨾_, under, each, some, numbers}
-use Rattle.rules.specs.Zero.{_among_, noBlocks, noCopy}
+use Rattle.rules.specs.Words.{if_then_else_, Numbered, _⇒_⨾_, under, each, every, some, numbers}
+use Rattle.rules.specs.Zero.{_among_, noBlocks, noRecord, noChunk, noCopy}
 
 -- what a granted event gives: the new table and the outcome
 pub record Effect : Type 0 where
@@ -41,6 +41,17 @@ done x = record { table = x .table; code = 0; outcome = x .outcome }
 abbrev pub refused : Table → (code : ℕ) → Answer
 refused t k = record { table = t; code = k; outcome = Outcome.None }
 
+-- the set of the block that a host's front operation is about
+abbrev pub holdersOf : Creation → Host → Set
+holdersOf k h = setOf k (front h .block)
+
+-- "all its waiting entries .. go": the records, with those of one chunk emptied
+abbrev pub withoutWaiting : List Record → (chunk : ℕ) → List Record
+withoutWaiting records chunk =
+    recordsBy (λ c b.
+    let r = getD records (at c b) noRecord in
+    if eqb c chunk then emptied r else r)
+
 module _ (t : Table) where
   -- ---- hosts: intake
 
@@ -60,19 +71,15 @@ module _ (t : Table) where
 
   -- ---- hosts: start and finish
 
-  -- the set of the block that the host's front operation is about
-  abbrev pub holdersOf : Host → Set
-  holdersOf h = setOf (t .creation) (front h .block)
-
   -- "3 start (host, clock from 1, copy)"
   abbrev pub startRule : (host clock copy : ℕ) → Rule
   startRule host clock copy =
       let h = hostOf t host in
       let o = front h in
-      let to = openingTo (o .action) copy (holdersOf h) in
+      let to = openingTo (o .action) copy (holdersOf (t .creation) h) in
       let now = stamp clock host in
       record {
-        refusals = startRefusals h clock copy (holdersOf h) (freePlaces (t .places)) (howMany to);
+        refusals = startRefusals h clock copy (holdersOf (t .creation) h) (freePlaces (t .places)) (howMany to);
         effect = quietly (withPlaces (withHost t host (started h now clock to))
             (sentToEach (t .places) to (λ chunk. asking (headed host chunk (o .block) now) (h .epoch) (opening (o .action)))));
       }
@@ -82,7 +89,7 @@ module _ (t : Table) where
   finishRule host _ _ =
       let h = hostOf t host in
       let o = front h in
-      let to = closingTo (o .action) (holdersOf h) in
+      let to = closingTo (o .action) (holdersOf (t .creation) h) in
       record {
         refusals = finishRefusals h (freePlaces (t .places)) (howMany to);
         effect = record {
@@ -157,12 +164,11 @@ module _ (t : Table) where
         effect = quietly (withPlaces (withRecord t chunk block (a .block)) (replied (t .places) (a .reply)));
       }
 
-  -- "11 fail (chunk)": "all its waiting entries .. go"
+  -- "11 fail (chunk)"
   abbrev pub failRule : (chunk b c : ℕ) → Rule
   failRule chunk _ _ = record {
     refusals = failRefusals (chunkOf t chunk .state);
-    effect = quietly (withRecords (withChunk t chunk (failed (chunkOf t chunk)))
-        (recordsBy (λ c b. if eqb c chunk then emptied (recordOf t c b) else recordOf t c b)));
+    effect = quietly (withRecords (withChunk t chunk (failed (chunkOf t chunk))) (withoutWaiting (t .records) chunk));
   }
 
   abbrev pub chunkRule : (chunk : ℕ) → (Chunk → List Row) → (Chunk → Chunk) → Rule
@@ -188,38 +194,50 @@ module _ (t : Table) where
   overdueRule chunk block now =
       chunkRule chunk (λ c. overdueRefusals (c .state) (recordOf t chunk block .waiting) now (t .creation .age)) (λ c. overdue c block)
 
-  -- ---- the epoch change
+-- ---- the epoch change
 
-  -- a block's copies, one a chunk
-  abbrev pub copyOf : (block chunk : ℕ) → Copy
-  copyOf b c = record { member = c among setOf (t .creation) b; lost = chunkOf t c .lost; block = recordOf t c b }
+-- a block's copies, one a chunk
+abbrev pub copyIn : Creation → List Chunk → List Record → (block chunk : ℕ) → Copy
+copyIn k chunks records b c = record { member = c among setOf k b; lost = getD chunks c noChunk .lost; block = getD records (at c b) noRecord }
 
-  abbrev pub copiesOf : (block : ℕ) → List Copy
-  copiesOf b = each (copyOf b) (numbers chunkLimit)
+abbrev pub copiesIn : Creation → List Chunk → List Record → (block : ℕ) → List Copy
+copiesIn k chunks records b = each (copyIn k chunks records b) (numbers chunkLimit)
 
-  -- "reconciliation sets and lost marks cleared, the epoch grows by one in every chunk, and every chunk is normal"
-  abbrev pub renewed : (chunk : ℕ) → Chunk
-  renewed c =
-      if isChunk (t .creation) c then record { state = State.Normal; lost = false; epoch = next (t .epoch); reconcile = noBlocks } else
-      chunkOf t c
+abbrev pub copiesOf : Table → (block : ℕ) → List Copy
+copiesOf t = copiesIn (t .creation) (t .chunks) (t .records)
 
-  abbrev pub epochChanged : Table
-  epochChanged =
-      withEpoch (withChunks (withRecords t
-      (recordsBy (λ c b. getD (settled (copiesOf b)) c noCopy .block)))
-      (each renewed (numbers chunkLimit)))
-      (next (t .epoch))
+abbrev pub settledIn : Creation → List Chunk → List Record → List Record
+settledIn k chunks records = recordsBy (λ c b. getD (settled (copiesIn k chunks records b)) c noCopy .block)
 
-  -- "15 epoch change: no chunk failed (2), then 7, then 6"
-  abbrev pub epochRefusals : List Row
-  epochRefusals =
-      some (λ c. isFailed (chunkOf t c .state)) (numbers chunkLimit) gives 2 ⨾
-      eqb (t .epoch .0) greatestClock gives 7 ⨾
-      some (λ b. isBlock (t .creation) b && allLost (copiesOf b)) (numbers blockLimit) gives 6 ⨾
-      granted
+-- "reconciliation sets and lost marks cleared, the epoch grows by one in every chunk, and every chunk is normal"
+abbrev pub anew : (next : Epoch) → Chunk
+anew next = record { state = State.Normal; lost = false; epoch = next; reconcile = noBlocks }
 
-  abbrev pub epochRule : (a b c : ℕ) → Rule
-  epochRule _ _ _ = record { refusals = epochRefusals; effect = quietly epochChanged }
+abbrev pub renewed : Creation → (next : Epoch) → List Chunk → (chunk : ℕ) → Chunk
+renewed k next chunks c = if isChunk k c then anew next else getD chunks c noChunk
+
+abbrev pub epochChanged : Table → Table
+epochChanged t =
+    let later = next (t .epoch) in
+    withEpoch (withChunks (withRecords t
+    (settledIn (t .creation) (t .chunks) (t .records)))
+    (each (renewed (t .creation) later (t .chunks)) (numbers chunkLimit)))
+    later
+
+-- "every chunk of its set is lost"
+unfoldable pub allLost : Set → List Chunk → Bool
+allLost s chunks = every (λ c. getD chunks c noChunk .lost) (chunksOf s)
+
+-- "15 epoch change: no chunk failed (2), then 7, then 6"
+abbrev pub epochRefusals : Creation → Epoch → List Chunk → List Row
+epochRefusals k epoch chunks =
+    some (λ c. isFailed (getD chunks c noChunk .state)) (numbers chunkLimit) gives 2 ⨾
+    eqb (epoch .0) greatestClock gives 7 ⨾
+    some (λ b. isBlock k b && allLost (setOf k b) chunks) (numbers blockLimit) gives 6 ⨾
+    granted
+
+abbrev pub epochRule : Table → (a b c : ℕ) → Rule
+epochRule t _ _ _ = record { refusals = epochRefusals (t .creation) (t .epoch) (t .chunks); effect = quietly (epochChanged t) }
 
 -- ---- the events by their numbers
 

@@ -2,16 +2,17 @@
 -- in ascending timestamp order (equal allowed), all chunks have one epoch, the store's, and unused places are zero"
 use Prim.Native.Nat.{ℕ, _-_}
 use mathlib.Core.Bool.{Bool, true, false, not, _&&_, _||_}
+use mathlib.Core.List.{List}
 use lib.ListN.{getD}
 use lib.Dec.{ltb, leb}
-use Rattle.rules.specs.Types.{Epoch, Creation, Entry, Waiting, Record, Chunk, Operation, Queue, Attempt, Host, Header, Message, Sort, Slot, Table}
+use Rattle.rules.specs.Types.{Epoch, Creation, Entry, Waiting, Record, Chunk, Operation, Queue, Attempt, Host, Header, Message, Sort, Slot, Table, Place}
 use Rattle.rules.specs.Creation.{isCreation, ofStore}
 use Rattle.rules.specs.Limits.{hostLimit, chunkLimit, blockLimit, operationLimit, waitingLimit, placeLimit, greatestClock, upTo}
 use Rattle.rules.specs.Messages.{headerOf, sortOf}
-use Rattle.rules.specs.Tables.{isHost, isChunk, isBlock, hostOf, chunkOf, recordOf, slotOf}
+use Rattle.rules.specs.Tables.{isHost, isChunk, isBlock, slotOf, at}
 use Rattle.rules.specs.Timestamps.{_above_, _same_, never, isTimestamp, isEpoch}
 use Rattle.rules.specs.Words.{if_then_else_, every, numbers}
-use Rattle.rules.specs.Zero.{zeroEntry, isZeroEntry, isZeroRecord, isZeroChunk, zeroOperation, isZeroOperation, isZeroAttempt, isZeroHost}
+use Rattle.rules.specs.Zero.{zeroEntry, isZeroEntry, isZeroRecord, isZeroChunk, zeroOperation, isZeroOperation, isZeroAttempt, isZeroHost, noHost, noChunk, noRecord}
 
 -- of a message's own numbers the epoch has a range: "the first four also the epoch the host knows"
 abbrev pub sortFormed : Sort → Bool
@@ -81,32 +82,36 @@ module _ (k : Creation) where
   slotFormed Slot.Empty = true
   slotFormed (Slot.Full m) = messageFormed m
 
--- ---- the table: each part of the store's is formed, each unused one is zero
+  -- ---- the arrays: a part of the store's is formed, an unused place is zero
 
-module _ (t : Table) where
-  abbrev pub hostAt : ℕ → Bool
-  hostAt h = if isHost (t .creation) h then hostFormed (t .creation) (hostOf t h) else isZeroHost (hostOf t h)
+  abbrev pub hostAt : ℕ → Host → Bool
+  hostAt i h = if isHost k i then hostFormed h else isZeroHost h
 
-  abbrev pub chunkAt : ℕ → Bool
-  chunkAt c = if isChunk (t .creation) c then chunkFormed (t .creation) (t .epoch) (chunkOf t c) else isZeroChunk (chunkOf t c)
+  abbrev pub hostsFormed : List Host → Bool
+  hostsFormed hosts = every (λ i. hostAt i (getD hosts i noHost)) (numbers hostLimit)
+
+  abbrev pub chunkAt : Epoch → ℕ → Chunk → Bool
+  chunkAt epoch i c = if isChunk k i then chunkFormed epoch c else isZeroChunk c
+
+  abbrev pub chunksFormed : Epoch → List Chunk → Bool
+  chunksFormed epoch chunks = every (λ i. chunkAt epoch i (getD chunks i noChunk)) (numbers chunkLimit)
 
   -- "A chunk has a record for every block, held or not"
-  abbrev pub recordAt : (chunk block : ℕ) → Bool
-  recordAt c b =
-      if isChunk (t .creation) c && isBlock (t .creation) b then recordFormed (t .creation) (recordOf t c b) else
-      isZeroRecord (recordOf t c b)
+  abbrev pub recordAt : (chunk block : ℕ) → Record → Bool
+  recordAt c b r = if isChunk k c && isBlock k b then recordFormed r else isZeroRecord r
 
-  abbrev pub recordsAt : (chunk : ℕ) → Bool
-  recordsAt c = every (recordAt c) (numbers blockLimit)
+  abbrev pub recordsFormed : List Record → Bool
+  recordsFormed records = every (λ c. every (λ b. recordAt c b (getD records (at c b) noRecord)) (numbers blockLimit)) (numbers chunkLimit)
 
-  abbrev pub placeAt : ℕ → Bool
-  placeAt p = slotFormed (t .creation) (slotOf (t .places) p)
+  abbrev pub placesFormed : List Place → Bool
+  placesFormed places = every (λ p. slotFormed (slotOf places p)) (numbers placeLimit)
 
-  unfoldable pub wellFormed : Bool
-  wellFormed =
-      isCreation (t .creation)
-      && isEpoch (t .epoch)
-      && every hostAt (numbers hostLimit)
-      && every chunkAt (numbers chunkLimit)
-      && every recordsAt (numbers chunkLimit)
-      && every placeAt (numbers placeLimit)
+unfoldable pub wellFormed : Table → Bool
+wellFormed t =
+    let k = t .creation in
+    isCreation k
+    && isEpoch (t .epoch)
+    && hostsFormed k (t .hosts)
+    && chunksFormed k (t .epoch) (t .chunks)
+    && recordsFormed k (t .records)
+    && placesFormed k (t .places)

@@ -98,7 +98,3 @@ module _ (copies : List Copy) where
   -- "All queues of all chunks are emptied without messages"; copies outside the set keep the rest
   unfoldable pub settled : List Copy
   settled = each (λ c. record { member = c .member; lost = c .lost; block = if inSet c then settledRecord else emptied (c .block) }) copies
-
-  -- code 6: "every chunk of its set is lost"
-  unfoldable pub allLost : Bool
-  allLost = every isLost (those inSet copies)

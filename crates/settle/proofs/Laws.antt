@@ -15,7 +15,7 @@ use Rattle.rules.specs.declared.Record.{Record}
 use Rattle.rules.specs.declared.Copy.{Copy}
 use Rattle.rules.specs.declared.Waiting.{Waiting}
 use Rattle.rules.specs.Kinds.{isWrite, valueOf}
-use Rattle.rules.specs.Settlement.{inSet, isLost, notLost, lastRead, lastWrite, waiting, writeWith, holds, holdsAborted, writesOf, W, besideW, agreed, committed, writes, commits, latest, writtenWith, settledRecord, settled, allLost}
+use Rattle.rules.specs.Settlement.{inSet, isLost, notLost, lastRead, lastWrite, waiting, writeWith, holds, holdsAborted, writesOf, W, besideW, agreed, committed, writes, commits, latest, writtenWith, settledRecord, settled}
 use Rattle.rules.specs.Timestamps.{never, later, _is_, _above_, greatest}
 use Rattle.rules.specs.Waiting.{inOrder}
 use Rattle.rules.specs.Words.{those, each, joined, every, some, none, first, fold}
@@ -38,18 +38,6 @@ W-steps cs = sym (fold-each later lastWrite never (those inSet cs) ∙ fold-thos
 
 pub read-steps : (cs : List Copy) → fold withRead never cs ≡ greatest (each lastRead (those inSet cs))
 read-steps cs = sym (fold-each later lastRead never (those inSet cs) ∙ fold-those (λ m c. later m (lastRead c)) inSet never cs)
-
--- ---- every chunk of the set is lost: none is not lost
-pub lost-steps : (cs : List Copy) → none notLost cs ≡ allLost cs
-unfolding allLost
-lost-steps cs =
-    none-every notLost cs ∙ every-same (λ c. not (notLost c)) (λ c. not (inSet c) || isLost c) (λ c. go (c .member) (c .lost)) cs
-    ∙ sym (every-those isLost inSet cs)
-  where
-    go : (m l : Bool) → not (m && not l) ≡ (not m || (m && l))
-    go true true = refl
-    go true false = refl
-    go false l = refl
 
 -- ---- a write timestamp is agreed: every copy agrees
 

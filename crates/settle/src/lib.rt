@@ -4,7 +4,7 @@ ghost use mathlib.Core.Path.{_≡_};
 ghost use lib.ListN.{length};
 ghost use Rattle.rules.specs.Kinds.{isWrite, isAborted, valueOf};
 ghost use Rattle.rules.specs.Limits.{waitingLimit};
-ghost use Rattle.rules.specs.Settlement.{notLost, waiting, writeWith, abortedWith, agreed, settledRecord, settled, allLost};
+ghost use Rattle.rules.specs.Settlement.{notLost, waiting, writeWith, abortedWith, agreed, settledRecord, settled};
 ghost use Rattle.rules.specs.Timestamps.{never, later, _above_};
 ghost use Rattle.rules.specs.Waiting.{inOrder};
 ghost use Rattle.rules.specs.Words.{if_then_else_, some, place, first, fold};
@@ -348,11 +348,4 @@ pub fn settle(copies: [Copy; rules::CHUNKS]) -> [Copy; rules::CHUNKS]
         i = i + 1;
     }
     out
-}
-
-// Code 6: "every chunk of its set is lost".
-pub fn all_lost(copies: [Copy; rules::CHUNKS]) -> bool
-    ensures { λ r. ⌜ r ≡ allLost copies ⌝ }
-{
-    !(lowest(copies) < rules::CHUNKS)
 }

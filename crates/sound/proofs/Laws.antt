@@ -13,15 +13,15 @@ use Rattle.rules.specs.declared.Host.{Host}
 use Rattle.rules.specs.declared.Record.{Record}
 use Rattle.rules.specs.declared.Table.{Table}
 use Rattle.rules.specs.Creation.{isCreation}
-use Rattle.rules.specs.Formed.{operationFormed, operationAt, entryFormed, entryAt, recordFormed, hostAt, chunkAt, recordAt, recordsAt, placeAt, wellFormed}
-use Rattle.rules.specs.Limits.{hostLimit, chunkLimit, blockLimit, operationLimit, waitingLimit, placeLimit}
-use Rattle.rules.specs.Tables.{withRecords}
+use Rattle.rules.specs.Formed.{operationFormed, operationAt, entryFormed, entryAt, recordFormed, recordAt, hostsFormed, chunksFormed, recordsFormed, placesFormed, wellFormed}
+use Rattle.rules.specs.Limits.{chunkLimit, blockLimit, operationLimit, waitingLimit}
+use Rattle.rules.specs.Tables.{at}
 use Rattle.rules.specs.Timestamps.{never, _is_, _above_, _same_, noEpoch, isEpoch}
 use Rattle.rules.specs.Words.{every, some, numbers}
 use Rattle.rules.specs.Zero.{zeroEntry, isZeroEntry, zeroOperation, isZeroOperation, isZeroAttempt, isZeroHost, isZeroRecord, noRecord}
 use Rattle.rules.proofs.Loops.{every-same, every-flat}
 use Rattle.sound.specs.declared.Counts.{Counts}
-use Rattle.sound.specs.Parts.{counted, bare, recordInPlace}
+use Rattle.sound.specs.Parts.{counted, recordInPlace}
 
 -- ---- unused places
 
@@ -69,8 +69,8 @@ module _ (n : Counts) (records : List Record) where
       ≡ cond (ltb (i / blockLimit) (n .chunks) && ltb (i % blockLimit) (n .blocks)) (recordFormed (counted n) (getD records i noRecord)) (isZeroRecord (getD records i noRecord))
   record-at i = rw (div-add-mod' i blockLimit) refl
 
-  pub record-by-record : every (recordInPlace n records) (numbers (chunkLimit * blockLimit)) ≡ every (recordsAt (withRecords (bare n) records)) (numbers chunkLimit)
-  record-by-record = every-flat (recordAt (withRecords (bare n) records)) chunkLimit blockLimit (omega arith)
+  pub record-by-record : every (recordInPlace n records) (numbers (chunkLimit * blockLimit)) ≡ recordsFormed (counted n) records
+  record-by-record = every-flat (λ c b. recordAt (counted n) c b (getD records (at c b) noRecord)) chunkLimit blockLimit (omega arith)
 
 -- ---- the table: the first fault decides
 
@@ -85,20 +85,20 @@ module _ (t : Table) where
     no-epoch h = rw (creation, h) refl
 
     module _ (epoch : isEpoch (t .epoch) ≡ true) where
-      pub no-host : every (hostAt t) (numbers hostLimit) ≡ false → false ≡ wellFormed t
+      pub no-host : hostsFormed (t .creation) (t .hosts) ≡ false → false ≡ wellFormed t
       unfolding wellFormed
       no-host h = rw (creation, epoch, h) refl
 
-      module _ (hosts : every (hostAt t) (numbers hostLimit) ≡ true) where
-        pub no-chunk : every (chunkAt t) (numbers chunkLimit) ≡ false → false ≡ wellFormed t
+      module _ (hosts : hostsFormed (t .creation) (t .hosts) ≡ true) where
+        pub no-chunk : chunksFormed (t .creation) (t .epoch) (t .chunks) ≡ false → false ≡ wellFormed t
         unfolding wellFormed
         no-chunk h = rw (creation, epoch, hosts, h) refl
 
-        module _ (chunks : every (chunkAt t) (numbers chunkLimit) ≡ true) where
-          pub no-record : every (recordsAt t) (numbers chunkLimit) ≡ false → false ≡ wellFormed t
+        module _ (chunks : chunksFormed (t .creation) (t .epoch) (t .chunks) ≡ true) where
+          pub no-record : recordsFormed (t .creation) (t .records) ≡ false → false ≡ wellFormed t
           unfolding wellFormed
           no-record h = rw (creation, epoch, hosts, chunks, h) refl
 
-          pub by-places : every (recordsAt t) (numbers chunkLimit) ≡ true → every (placeAt t) (numbers placeLimit) ≡ wellFormed t
+          pub by-places : recordsFormed (t .creation) (t .records) ≡ true → placesFormed (t .creation) (t .places) ≡ wellFormed t
           unfolding wellFormed
           by-places h = rw (creation, epoch, hosts, chunks, h) refl

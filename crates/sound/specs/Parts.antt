@@ -7,24 +7,19 @@ use lib.ListN.{getD}
 use Rattle.rules.specs.declared.Chunk.{Chunk}
 use Rattle.rules.specs.declared.Creation.{Creation}
 use Rattle.rules.specs.declared.Record.{Record}
-use Rattle.rules.specs.declared.Table.{Table}
 use Rattle.rules.specs.Formed.{recordAt}
 use Rattle.rules.specs.Limits.{blockLimit}
-use Rattle.rules.specs.Tables.{withRecords}
-use Rattle.rules.specs.Timestamps.{noEpoch}
+use Rattle.rules.specs.Tables.{at}
+use Rattle.rules.specs.Zero.{noRecord}
 use Rattle.sound.specs.declared.Counts.{Counts}
 
 -- a creation of these counts: the rules about a store's parts look at no more of it
 abbrev pub counted : Counts → Creation
 counted n = record { hosts = n .hosts; chunks = n .chunks; blocks = n .blocks; age = 0; sets = [] }
 
--- a table of these counts, into which one array is put: the rules about that array look at no more of it
-abbrev pub bare : Counts → Table
-bare n = record { creation = counted n; epoch = noEpoch; hosts = []; chunks = []; records = []; places = [] }
-
 -- the record at i: that of chunk i / 16 and block i % 16
 abbrev pub recordInPlace : Counts → List Record → ℕ → Bool
-recordInPlace n records i = recordAt (withRecords (bare n) records) (i / blockLimit) (i % blockLimit)
+recordInPlace n records i = recordAt (counted n) (i / blockLimit) (i % blockLimit) (getD records (at (i / blockLimit) (i % blockLimit)) noRecord)
 
 -- block b, where it needs reconciliation, is below the number of blocks
 abbrev pub ofBlocks : (blocks : ℕ) → Chunk → ℕ → Bool

@@ -3,13 +3,12 @@ ghost use Prim.Native.Nat.{_-_};
 ghost use mathlib.Core.Path.{_≡_};
 ghost use mathlib.Core.Bool.{_&&_, not};
 ghost use Rattle.rules.specs.Creation.{isCreation, ofStore, isSetOf};
-ghost use Rattle.rules.specs.Formed.{operationFormed, operationAt, queueFormed, attemptFormed, hostFormed, chunkFormed, entryFormed, entryAt, waitingFormed, recordFormed, headerFormed, sortFormed, messageFormed, slotFormed, hostAt, chunkAt, recordsAt, placeAt, wellFormed};
-ghost use Rattle.rules.specs.Limits.{hostLimit, chunkLimit, blockLimit, operationLimit, waitingLimit, placeLimit};
-ghost use Rattle.rules.specs.Tables.{withEpoch, withHosts, withChunks, withRecords, withPlaces};
+ghost use Rattle.rules.specs.Formed.{operationFormed, operationAt, queueFormed, attemptFormed, hostFormed, chunkFormed, entryFormed, entryAt, waitingFormed, recordFormed, headerFormed, sortFormed, messageFormed, slotFormed, hostsFormed, chunksFormed, recordsFormed, placesFormed, wellFormed};
+ghost use Rattle.rules.specs.Limits.{blockLimit, operationLimit, waitingLimit};
 ghost use Rattle.rules.specs.Timestamps.{_above_};
 ghost use Rattle.rules.specs.Words.{if_then_else_, every, numbers};
 ghost use Rattle.rules.specs.Zero.{isEmpty, isZeroEntry, isZeroRecord, isZeroChunk, isZeroOperation, isZeroAttempt, isZeroHost};
-ghost use Rattle.sound.specs.Parts.{counted, bare, ofBlocks};
+ghost use Rattle.sound.specs.Parts.{counted, ofBlocks};
 use rules::Attempt;
 use rules::Chunk;
 use rules::Creation;
@@ -191,7 +190,7 @@ fn host_at(n: Counts, used: bool, h: Host) -> bool
 }
 
 fn hosts_formed(n: Counts, hosts: [Host; rules::HOSTS]) -> bool
-    ensures { λ r. ⌜ r ≡ every (hostAt (withHosts (bare n) hosts)) (numbers hostLimit) ⌝ }
+    ensures { λ r. ⌜ r ≡ hostsFormed (counted n) hosts ⌝ }
 {
     let mut i: usize = 0;
     while i < rules::HOSTS {
@@ -246,7 +245,7 @@ fn chunk_at(n: Counts, epoch: Epoch, used: bool, c: Chunk) -> bool
 }
 
 fn chunks_formed(n: Counts, epoch: Epoch, chunks: [Chunk; rules::CHUNKS]) -> bool
-    ensures { λ r. ⌜ r ≡ every (chunkAt (withChunks (withEpoch (bare n) epoch) chunks)) (numbers chunkLimit) ⌝ }
+    ensures { λ r. ⌜ r ≡ chunksFormed (counted n) epoch chunks ⌝ }
 {
     let mut i: usize = 0;
     while i < rules::CHUNKS {
@@ -347,7 +346,7 @@ fn record_at(n: Counts, used: bool, x: Record) -> bool
 
 // "A chunk has a record for every block, held or not": that of chunk c and block b at c x 16 + b.
 fn records_formed(n: Counts, records: [Record; rules::RECORDS]) -> bool
-    ensures { λ r. ⌜ r ≡ every (recordsAt (withRecords (bare n) records)) (numbers chunkLimit) ⌝ }
+    ensures { λ r. ⌜ r ≡ recordsFormed (counted n) records ⌝ }
 {
     let mut i: usize = 0;
     while i < rules::RECORDS {
@@ -405,7 +404,7 @@ fn place_formed(n: Counts, p: Place) -> bool
 }
 
 fn places_formed(n: Counts, places: [Place; rules::PLACES]) -> bool
-    ensures { λ r. ⌜ r ≡ every (placeAt (withPlaces (bare n) places)) (numbers placeLimit) ⌝ }
+    ensures { λ r. ⌜ r ≡ placesFormed (counted n) places ⌝ }
 {
     let mut i: usize = 0;
     while i < rules::PLACES {

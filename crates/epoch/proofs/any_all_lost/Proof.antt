@@ -2,50 +2,45 @@
 use Prim.Native.Nat.{_-_, _≤_}
 use mathlib.Core.Path.{_≡_, sym, ap, _∙_}
 use mathlib.Core.Bool.{Bool, false, _&&_}
-use mathlib.Core.List.{[]}
 use native.Mathlib.Omega.{arith}
 use borrow.Author.Needs.{needs}
-use Rattle.rules.specs.declared.Table.{Table}
-use Rattle.rules.specs.Settlement.{allLost}
 use Rattle.rules.specs.Tables.{isBlock}
 use Rattle.rules.specs.Words.{some, numbers}
 use Rattle.rules.proofs.Loops.{some-begin, some-next, some-stop}
-use Rattle.epoch.specs.Parts.{tableOf, lostAt}
-use Rattle.epoch.proofs.Laws.{lost-marks}
+use Rattle.epoch.proofs.Laws.{lostAt}
 use Rattle.epoch.proofs.any_all_lost.Statement.{statement}
 use Rattle.epoch.proofs.any_all_lost.Tie as tie
 
 abbrev Inv-loop : tie.InvT-loop
-Inv-loop k chunks b₀ b = (b ≤ 16) × (some (lostAt (tableOf k chunks [])) (numbers b) ≡ false)
+Inv-loop chunks k b₀ b = (b ≤ 16) × (some (lostAt k chunks) (numbers b) ≡ false)
 
 abbrev μ-loop : tie.MeasureT-loop
-μ-loop k chunks b₀ b = 16 - b
-
-abbrev table : tie.Start Inv-loop μ-loop → Table
-table c = tableOf (c .args .k) (c .args .chunks) []
+μ-loop chunks k b₀ b = 16 - b
 
 -- what the code asks of a block is the rule's question
 lost : (c : tie.After-all-lost Inv-loop μ-loop) →
-    let l = c .before .before .before .before in
-    lostAt (table (l .before)) (l .loop .b) ≡ isBlock (l .before .args .k) (l .loop .b) && c .all-lost .result
+    let l = c .before .before .before in
+    lostAt (l .before .args .t1) (l .before .args .chunks) (l .loop .b) ≡ isBlock (l .before .args .t1) (l .loop .b) && c .all-lost .result
 lost c =
-    let l = c .before .before .before .before in
-    ap (λ (x : Bool). isBlock (l .before .args .k) (l .loop .b) && x) (lost-marks (table (l .before)) (l .loop .b)
-    ∙ ap allLost (sym (c .before .before .marks-of .ensures)) ∙ sym (c .all-lost .ensures))
+    let l = c .before .before .before in
+    ap (λ (x : Bool). isBlock (l .before .args .t1) (l .loop .b) && x) (sym (c .all-lost .ensures))
 
 loop-holds : tie.Need-loop-holds Inv-loop μ-loop
 loop-holds c = (search needs, some-begin _)
 
-marks-of-requires : tie.Need-marks-of-requires Inv-loop μ-loop
-marks-of-requires c κs = search needs
+mul-set : tie.Need-mul-set Inv-loop μ-loop
+mul-set c = search needs
+
+element-copy-out-set : tie.Need-element-copy-out-set Inv-loop μ-loop
+element-copy-out-set c = search needs
 
 all-lost-requires : tie.Need-all-lost-requires Inv-loop μ-loop
 all-lost-requires c κs = search needs
 
 returns : tie.Need-returns Inv-loop μ-loop
 returns c =
-    let l = c .before .before .before .before .before in
-    sym (some-stop (lostAt (table (l .before))) 16 (l .loop .b) (omega arith) (lost (c .before) ∙ c .if1 .taken))
+    let l = c .before .before .before .before in
+    sym (some-stop (lostAt (l .before .args .t1) (l .before .args .chunks)) 16 (l .loop .b) (omega arith) (lost (c .before) ∙ c .if1 .taken))
 
 add-b : tie.Need-add-b Inv-loop μ-loop
 add-b c = search needs
@@ -55,8 +50,8 @@ loop-less c = search needs
 
 loop-again : tie.Need-loop-again Inv-loop μ-loop
 loop-again c =
-    let l = c .before .before .before .before .before in
-    (omega arith, some-next (lostAt (table (l .before))) (l .loop .b) (l .loop .inv .1) (lost (c .before) ∙ c .if1 .left))
+    let l = c .before .before .before .before in
+    (omega arith, some-next (lostAt (l .before .args .t1) (l .before .args .chunks)) (l .loop .b) (l .loop .inv .1) (lost (c .before) ∙ c .if1 .left))
 
 returns-2 : tie.Need-returns-2 Inv-loop μ-loop
 returns-2 c =
@@ -70,7 +65,8 @@ any-all-lost-spec =
     Inv-loop
     μ-loop
     loop-holds
-    marks-of-requires
+    mul-set
+    element-copy-out-set
     all-lost-requires
     returns
     add-b

@@ -6,7 +6,7 @@ use native.Mathlib.Omega.{arith}
 use borrow.Author.Needs.{needs}
 use Rattle.rules.specs.Words.{some, numbers}
 use Rattle.rules.proofs.Loops.{some-begin, some-next, some-stop}
-use Rattle.epoch.specs.Parts.{failedAt}
+use Rattle.epoch.proofs.Laws.{failedAt}
 use Rattle.epoch.proofs.any_failed.Statement.{statement}
 use Rattle.epoch.proofs.any_failed.Tie as tie
 

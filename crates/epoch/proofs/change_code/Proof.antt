@@ -5,7 +5,7 @@ use borrow.Author.Needs.{needs}
 use Rattle.rules.specs.Limits.{chunkLimit}
 use Rattle.rules.specs.Words.{some, numbers}
 use Rattle.rules.proofs.Loops.{refused-here, refused-later, refused-nowhere}
-use Rattle.epoch.specs.Parts.{failedAt}
+use Rattle.epoch.proofs.Laws.{failedAt}
 use Rattle.epoch.proofs.change_code.Statement.{statement}
 use Rattle.epoch.proofs.change_code.Tie as tie
 

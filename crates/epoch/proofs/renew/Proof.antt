@@ -5,20 +5,20 @@ use native.Mathlib.Omega.{arith}
 use lib.ListN.{length, getD}
 use borrow.Author.Needs.{needs}
 use Rattle.rules.specs.declared.Chunk.{Chunk}
+use Rattle.rules.specs.Events.{renewed}
 use Rattle.rules.specs.Zero.{noChunk}
 use Rattle.rules.proofs.Loops.{made, made-begin, made-next, made-end}
-use Rattle.epoch.specs.Parts.{renewedWith}
 use Rattle.epoch.proofs.renew.Statement.{statement}
 use Rattle.epoch.proofs.renew.Tie as tie
 
 abbrev Inv-loop : tie.InvT-loop
-Inv-loop k next chunks out₀ c₀ out c = (c ≤ 8) × (out ≡ made (renewedWith k next chunks) (λ i. getD chunks i noChunk) 8 c)
+Inv-loop k next chunks out₀ c₀ out c = (c ≤ 8) × (out ≡ made (renewed k next chunks) (λ i. getD chunks i noChunk) 8 c)
 
 abbrev μ-loop : tie.MeasureT-loop
 μ-loop k next chunks out₀ c₀ out c = 8 - c
 
 abbrev new : tie.Start Inv-loop μ-loop → ℕ → Chunk
-new c = renewedWith (c .args .k) (c .args .next) (c .args .t3)
+new c = renewed (c .args .k) (c .args .next) (c .args .t3)
 
 abbrev old : tie.Start Inv-loop μ-loop → ℕ → Chunk
 old c i = getD (c .args .t3) i noChunk
@@ -35,8 +35,8 @@ mul-old c = search needs
 array-copy-out-old : tie.Need-array-copy-out-old Inv-loop μ-loop
 array-copy-out-old c = search needs
 
-renewed-requires : tie.Need-renewed-requires Inv-loop μ-loop
-renewed-requires c κs = search needs
+begin-anew-requires : tie.Need-begin-anew-requires Inv-loop μ-loop
+begin-anew-requires c κs = search needs
 
 mul-out : tie.Need-mul-out Inv-loop μ-loop
 mul-out c = search needs
@@ -54,7 +54,7 @@ loop-again : tie.Need-loop-again Inv-loop μ-loop
 loop-again c =
     let l = c .before .before .before .before in
     let s = l .before in
-    (omega arith, rw (l .loop .inv .1, c .renewed .ensures) (made-next (new s) (old s) 8 (l .loop .c) (omega arith)))
+    (omega arith, rw (l .loop .inv .1, c .begin-anew .ensures) (made-next (new s) (old s) 8 (l .loop .c) (omega arith)))
 
 returns : tie.Need-returns Inv-loop μ-loop
 returns c =
@@ -72,7 +72,7 @@ renew-spec =
     loop-holds
     mul-old
     array-copy-out-old
-    renewed-requires
+    begin-anew-requires
     mul-out
     array-set-from-out
     add-c

@@ -4,58 +4,77 @@ use mathlib.Core.Path.{_≡_, ap, _∙_}
 use native.Mathlib.Omega.{arith}
 use lib.ListN.{length}
 use borrow.Author.Needs.{needs}
-use Rattle.rules.specs.declared.Table.{Table}
-use Rattle.rules.specs.Events.{copyOf, copiesOf}
+use Rattle.rules.specs.Events.{copyIn, copiesIn}
 use Rattle.rules.specs.Settlement.{settled}
 use Rattle.rules.specs.Tables.{recordsBy}
 use Rattle.rules.proofs.Loops.{made, made-end}
-use Rattle.epoch.specs.Parts.{tableOf, markedOnly}
-use Rattle.epoch.proofs.Laws.{records-length, gathered-begin, gathered-next, storedTo, stored-begin, stored-next, stored-end, settledTo, settled-begin, settled-next, settled-end}
+use Rattle.epoch.proofs.Laws.{records-length, gathered, gathered-begin, gathered-next, storedTo, stored-begin, stored-next, stored-end, settledTo, settled-begin, settled-next, settled-end}
 use Rattle.epoch.proofs.settle_blocks.Statement.{statement}
 use Rattle.epoch.proofs.settle_blocks.Tie as tie
 
 abbrev Inv-loop2 : tie.InvT-loop2
-Inv-loop2 k chunks records out b copies₀ c₀ copies c = (c ≤ 8) × (copies ≡ made (copyOf (tableOf k chunks records) b) (markedOnly (tableOf k chunks records) b) 8 c)
+Inv-loop2 k chunks records blank out b set copies₀ c₀ copies c = (c ≤ 8) × (copies ≡ gathered k chunks records b blank c)
 
 abbrev μ-loop2 : tie.MeasureT-loop2
-μ-loop2 k chunks records out b copies₀ c₀ copies c = 8 - c
+μ-loop2 k chunks records blank out b set copies₀ c₀ copies c = 8 - c
 
 abbrev Inv-loop3 : tie.InvT-loop3
-Inv-loop3 k chunks records out₀ b c settled d₀ out d = (d ≤ 8) × (out ≡ recordsBy (storedTo out₀ b settled d))
+Inv-loop3 k chunks records blank out₀ b c settled d₀ out d = (d ≤ 8) × (out ≡ recordsBy (storedTo out₀ b settled d))
 
 abbrev μ-loop3 : tie.MeasureT-loop3
-μ-loop3 k chunks records out₀ b c settled d₀ out d = 8 - d
+μ-loop3 k chunks records blank out₀ b c settled d₀ out d = 8 - d
 
 abbrev Inv-loop : tie.InvT-loop
-Inv-loop k chunks records out₀ b₀ out b = (b ≤ 16) × (out ≡ recordsBy (settledTo (tableOf k chunks records) b))
+Inv-loop k chunks records blank out₀ b₀ out b = (b ≤ 16) × (out ≡ recordsBy (settledTo k chunks records b))
 
 abbrev μ-loop : tie.MeasureT-loop
-μ-loop k chunks records out₀ b₀ out b = 16 - b
-
-abbrev table : tie.Start Inv-loop2 μ-loop2 Inv-loop3 μ-loop3 Inv-loop μ-loop → Table
-table c = tableOf (c .args .k) (c .args .chunks) (c .args .t3)
+μ-loop k chunks records blank out₀ b₀ out b = 16 - b
 
 len : (c : tie.Start Inv-loop2 μ-loop2 Inv-loop3 μ-loop3 Inv-loop μ-loop) → length (c .args .t3) ≡ 128
 len c = c .good .1 .1 .0 .1 .0 .1
 
 -- the copies that were gathered are the block's, so what came back is the block settled
-is-settled : (c : tie.After-settle Inv-loop2 μ-loop2 Inv-loop3 μ-loop3 Inv-loop μ-loop) → let l = c .before .before .before .before .before in c .settle .result ≡ settled (copiesOf (table (l .before)) (l .loop .b))
+is-settled : (c : tie.After-settle Inv-loop2 μ-loop2 Inv-loop3 μ-loop3 Inv-loop μ-loop) →
+    let l = c .before .before .before .before .before in
+    let s = l .before .before in
+    c .settle .result ≡ settled (copiesIn (s .args .t1) (s .args .t2) (s .args .t3) (l .loop .b))
 is-settled c =
     let g = c .before .before in
     let l = g .before .before .before in
-    let t = table (l .before) in
-    let i = l .loop .b in
+    let s = l .before .before in
+    let copy = copyIn (s .args .t1) (s .args .t2) (s .args .t3) (l .loop .b) in
     let e : g .loop2 .c ≡ 8 = omega arith in
-    c .settle .ensures ∙ ap settled (g .loop2 .inv .1 ∙ ap (made (copyOf t i) (markedOnly t i) 8) e ∙ made-end (copyOf t i) (markedOnly t i) 8)
+    c .settle .ensures ∙ ap settled (g .loop2 .inv .1 ∙ ap (made copy _ 8) e ∙ made-end copy _ 8)
+
+record-requires : tie.Need-record-requires Inv-loop2 μ-loop2 Inv-loop3 μ-loop3 Inv-loop μ-loop
+record-requires c κs = search needs
 
 loop-holds : tie.Need-loop-holds Inv-loop2 μ-loop2 Inv-loop3 μ-loop3 Inv-loop μ-loop
-loop-holds c = (search needs, settled-begin (table c) (len c))
+loop-holds c = let s = c .before in (search needs, settled-begin (s .args .t1) (s .args .t2) (s .args .t3) (len s))
 
-marks-of-requires : tie.Need-marks-of-requires Inv-loop2 μ-loop2 Inv-loop3 μ-loop3 Inv-loop μ-loop
-marks-of-requires c κs = search needs
+mul-set : tie.Need-mul-set Inv-loop2 μ-loop2 Inv-loop3 μ-loop3 Inv-loop μ-loop
+mul-set c = search needs
+
+element-copy-out-set :
+    tie.Need-element-copy-out-set Inv-loop2 μ-loop2 Inv-loop3 μ-loop3 Inv-loop μ-loop
+element-copy-out-set c = search needs
 
 loop2-holds : tie.Need-loop2-holds Inv-loop2 μ-loop2 Inv-loop3 μ-loop3 Inv-loop μ-loop
-loop2-holds c = let l = c .before .before in (search needs, c .marks-of .ensures ∙ gathered-begin (table (l .before)) (l .loop .b))
+loop2-holds c =
+    let l = c .before .before in
+    let s = l .before .before in
+    (search needs, gathered-begin (s .args .t1) (s .args .t2) (s .args .t3) (l .loop .b) _)
+
+element-copy-out-member :
+    tie.Need-element-copy-out-member Inv-loop2 μ-loop2 Inv-loop3 μ-loop3 Inv-loop μ-loop
+element-copy-out-member c = search needs
+
+mul-chunk : tie.Need-mul-chunk Inv-loop2 μ-loop2 Inv-loop3 μ-loop3 Inv-loop μ-loop
+mul-chunk c = search needs
+
+array-copy-out-chunk :
+    tie.Need-array-copy-out-chunk Inv-loop2 μ-loop2 Inv-loop3 μ-loop3 Inv-loop μ-loop
+array-copy-out-chunk c = search needs
 
 mul-held : tie.Need-mul-held Inv-loop2 μ-loop2 Inv-loop3 μ-loop3 Inv-loop μ-loop
 mul-held c = search needs
@@ -69,13 +88,6 @@ mul-held-2 c = search needs
 array-copy-out-held :
     tie.Need-array-copy-out-held Inv-loop2 μ-loop2 Inv-loop3 μ-loop3 Inv-loop μ-loop
 array-copy-out-held c = search needs
-
-mul-copy : tie.Need-mul-copy Inv-loop2 μ-loop2 Inv-loop3 μ-loop3 Inv-loop μ-loop
-mul-copy c = search needs
-
-array-copy-out-copy :
-    tie.Need-array-copy-out-copy Inv-loop2 μ-loop2 Inv-loop3 μ-loop3 Inv-loop μ-loop
-array-copy-out-copy c = search needs
 
 mul-copies : tie.Need-mul-copies Inv-loop2 μ-loop2 Inv-loop3 μ-loop3 Inv-loop μ-loop
 mul-copies c = search needs
@@ -92,9 +104,10 @@ loop2-less c = search needs
 
 loop2-again : tie.Need-loop2-again Inv-loop2 μ-loop2 Inv-loop3 μ-loop3 Inv-loop μ-loop
 loop2-again c =
-    let g = c .before .before .before in
+    let g = c .before .before .before .before in
     let l = g .before .before .before in
-    (omega arith, gathered-next (table (l .before)) (l .loop .b) (g .loop2 .c) (omega arith) (g .loop2 .copies) (g .loop2 .inv .1))
+    let s = l .before .before in
+    (omega arith, gathered-next (s .args .t1) (s .args .t2) (s .args .t3) (l .loop .b) _ (g .loop2 .c) (omega arith) (g .loop2 .copies) (g .loop2 .inv .1))
 
 settle-requires : tie.Need-settle-requires Inv-loop2 μ-loop2 Inv-loop3 μ-loop3 Inv-loop μ-loop
 settle-requires c κs = search needs
@@ -102,15 +115,15 @@ settle-requires c κs = search needs
 loop3-holds : tie.Need-loop3-holds Inv-loop2 μ-loop2 Inv-loop3 μ-loop3 Inv-loop μ-loop
 loop3-holds c =
     let l = c .before .before .before .before .before in
-    let t = table (l .before) in
-    (search needs, stored-begin (l .loop .out) (l .loop .b) (c .settle .result) (ap length (l .loop .inv .1) ∙ records-length (settledTo t (l .loop .b))))
+    let s = l .before .before in
+    (search needs, stored-begin (l .loop .out) (l .loop .b) (c .settle .result) (ap length (l .loop .inv .1) ∙ records-length (settledTo (s .args .t1) (s .args .t2) (s .args .t3) (l .loop .b))))
 
-mul-copy-2 : tie.Need-mul-copy-2 Inv-loop2 μ-loop2 Inv-loop3 μ-loop3 Inv-loop μ-loop
-mul-copy-2 c = search needs
+mul-copy : tie.Need-mul-copy Inv-loop2 μ-loop2 Inv-loop3 μ-loop3 Inv-loop μ-loop
+mul-copy c = search needs
 
-array-copy-out-copy-2 :
-    tie.Need-array-copy-out-copy-2 Inv-loop2 μ-loop2 Inv-loop3 μ-loop3 Inv-loop μ-loop
-array-copy-out-copy-2 c = search needs
+array-copy-out-copy :
+    tie.Need-array-copy-out-copy Inv-loop2 μ-loop2 Inv-loop3 μ-loop3 Inv-loop μ-loop
+array-copy-out-copy c = search needs
 
 mul-out : tie.Need-mul-out Inv-loop2 μ-loop2 Inv-loop3 μ-loop3 Inv-loop μ-loop
 mul-out c = search needs
@@ -146,23 +159,23 @@ loop-less c = search needs
 loop-again : tie.Need-loop-again Inv-loop2 μ-loop2 Inv-loop3 μ-loop3 Inv-loop μ-loop
 loop-again c =
     let g = c .before in
-    let s = g .before in
-    let l = s .before .before .before .before .before in
-    let t = table (l .before) in
+    let f = g .before in
+    let l = f .before .before .before .before .before in
+    let s = l .before .before in
     let i = l .loop .b in
     let e : g .loop3 .d ≡ 8 = omega arith in (
       omega arith,
-      g .loop3 .inv .1 ∙ ap (λ (n : ℕ). recordsBy (storedTo (l .loop .out) i (s .settle .result) n)) e
-          ∙ stored-end (l .loop .out) i (s .settle .result)
-          ∙ settled-next t i (l .loop .out) (s .settle .result) (l .loop .inv .1) (is-settled s),
+      g .loop3 .inv .1 ∙ ap (λ (n : ℕ). recordsBy (storedTo (l .loop .out) i (f .settle .result) n)) e
+          ∙ stored-end (l .loop .out) i (f .settle .result)
+          ∙ settled-next (s .args .t1) (s .args .t2) (s .args .t3) i (l .loop .out) (f .settle .result) (l .loop .inv .1) (is-settled f),
     )
 
 returns : tie.Need-returns Inv-loop2 μ-loop2 Inv-loop3 μ-loop3 Inv-loop μ-loop
 returns c =
     let l = c .before in
-    let t = table (l .before) in
+    let s = l .before .before in
     let e : l .loop .b ≡ 16 = omega arith in
-    l .loop .inv .1 ∙ ap (λ (n : ℕ). recordsBy (settledTo t n)) e ∙ settled-end t
+    l .loop .inv .1 ∙ ap (λ (n : ℕ). recordsBy (settledTo (s .args .t1) (s .args .t2) (s .args .t3) n)) e ∙ settled-end (s .args .t1) (s .args .t2) (s .args .t3)
 
 pub settle-blocks-spec : {M : Type 1} → statement M
 settle-blocks-spec =
@@ -174,15 +187,18 @@ settle-blocks-spec =
     μ-loop3
     Inv-loop
     μ-loop
+    record-requires
     loop-holds
-    marks-of-requires
+    mul-set
+    element-copy-out-set
     loop2-holds
+    element-copy-out-member
+    mul-chunk
+    array-copy-out-chunk
     mul-held
     add-held
     mul-held-2
     array-copy-out-held
-    mul-copy
-    array-copy-out-copy
     mul-copies
     array-set-from-copies
     add-c
@@ -190,8 +206,8 @@ settle-blocks-spec =
     loop2-again
     settle-requires
     loop3-holds
-    mul-copy-2
-    array-copy-out-copy-2
+    mul-copy
+    array-copy-out-copy
     mul-out
     add-out
     mul-out-2

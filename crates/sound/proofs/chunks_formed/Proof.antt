@@ -3,18 +3,19 @@ use Prim.Native.Nat.{_-_, _≤_}
 use mathlib.Core.Bool.{true}
 use mathlib.Core.Path.{_≡_, sym, _∙_}
 use native.Mathlib.Omega.{arith}
+use lib.ListN.{getD}
 use borrow.Author.Needs.{needs}
 use borrow.Author.Tests.{not-true, not-false}
 use Rattle.rules.specs.Formed.{chunkAt}
-use Rattle.rules.specs.Tables.{withEpoch, withChunks}
 use Rattle.rules.specs.Words.{every, numbers}
+use Rattle.rules.specs.Zero.{noChunk}
 use Rattle.rules.proofs.Loops.{every-begin, every-next, every-stop}
-use Rattle.sound.specs.Parts.{bare}
+use Rattle.sound.specs.Parts.{counted}
 use Rattle.sound.proofs.chunks_formed.Statement.{statement}
 use Rattle.sound.proofs.chunks_formed.Tie as tie
 
 abbrev Inv-loop : tie.InvT-loop
-Inv-loop n epoch chunks i₀ i = (i ≤ 8) × (every (chunkAt (withChunks (withEpoch (bare n) epoch) chunks)) (numbers i) ≡ true)
+Inv-loop n epoch chunks i₀ i = (i ≤ 8) × (every (λ c. chunkAt (counted n) epoch c (getD chunks c noChunk)) (numbers i) ≡ true)
 
 abbrev μ-loop : tie.MeasureT-loop
 μ-loop n epoch chunks i₀ i = 8 - i

@@ -3,18 +3,19 @@ use Prim.Native.Nat.{_-_, _≤_}
 use mathlib.Core.Bool.{true}
 use mathlib.Core.Path.{_≡_, sym, _∙_}
 use native.Mathlib.Omega.{arith}
+use lib.ListN.{getD}
 use borrow.Author.Needs.{needs}
 use borrow.Author.Tests.{not-true, not-false}
 use Rattle.rules.specs.Formed.{hostAt}
-use Rattle.rules.specs.Tables.{withHosts}
 use Rattle.rules.specs.Words.{every, numbers}
+use Rattle.rules.specs.Zero.{noHost}
 use Rattle.rules.proofs.Loops.{every-begin, every-next, every-stop}
-use Rattle.sound.specs.Parts.{bare}
+use Rattle.sound.specs.Parts.{counted}
 use Rattle.sound.proofs.hosts_formed.Statement.{statement}
 use Rattle.sound.proofs.hosts_formed.Tie as tie
 
 abbrev Inv-loop : tie.InvT-loop
-Inv-loop n hosts i₀ i = (i ≤ 8) × (every (hostAt (withHosts (bare n) hosts)) (numbers i) ≡ true)
+Inv-loop n hosts i₀ i = (i ≤ 8) × (every (λ h. hostAt (counted n) h (getD hosts h noHost)) (numbers i) ≡ true)
 
 abbrev μ-loop : tie.MeasureT-loop
 μ-loop n hosts i₀ i = 8 - i

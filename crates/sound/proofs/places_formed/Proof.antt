@@ -5,16 +5,16 @@ use mathlib.Core.Path.{_≡_, sym, _∙_}
 use native.Mathlib.Omega.{arith}
 use borrow.Author.Needs.{needs}
 use borrow.Author.Tests.{not-true, not-false}
-use Rattle.rules.specs.Formed.{placeAt}
-use Rattle.rules.specs.Tables.{withPlaces}
+use Rattle.rules.specs.Formed.{slotFormed}
+use Rattle.rules.specs.Tables.{slotOf}
 use Rattle.rules.specs.Words.{every, numbers}
 use Rattle.rules.proofs.Loops.{every-begin, every-next, every-stop}
-use Rattle.sound.specs.Parts.{bare}
+use Rattle.sound.specs.Parts.{counted}
 use Rattle.sound.proofs.places_formed.Statement.{statement}
 use Rattle.sound.proofs.places_formed.Tie as tie
 
 abbrev Inv-loop : tie.InvT-loop
-Inv-loop n places i₀ i = (i ≤ 64) × (every (placeAt (withPlaces (bare n) places)) (numbers i) ≡ true)
+Inv-loop n places i₀ i = (i ≤ 64) × (every (λ p. slotFormed (counted n) (slotOf places p)) (numbers i) ≡ true)
 
 abbrev μ-loop : tie.MeasureT-loop
 μ-loop n places i₀ i = 64 - i

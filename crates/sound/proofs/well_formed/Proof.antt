@@ -4,10 +4,9 @@ use mathlib.Core.Bool.{true}
 use borrow.Author.Needs.{needs}
 use borrow.Author.Tests.{le-leb, lt-leb, not-true, not-false}
 use Rattle.rules.specs.Creation.{isCreation}
-use Rattle.rules.specs.Formed.{hostAt, chunkAt}
-use Rattle.rules.specs.Limits.{hostLimit, chunkLimit, greatestClock}
+use Rattle.rules.specs.Formed.{hostsFormed, chunksFormed}
+use Rattle.rules.specs.Limits.{greatestClock}
 use Rattle.rules.specs.Timestamps.{isEpoch}
-use Rattle.rules.specs.Words.{every, numbers}
 use Rattle.sound.proofs.Laws.{no-creation, no-epoch, no-host, no-chunk, no-record, by-places}
 use Rattle.sound.proofs.well_formed.Statement.{statement}
 use Rattle.sound.proofs.well_formed.Tie as tie
@@ -18,10 +17,10 @@ creation-is c = sym (c .before .is-creation .ensures) ∙ not-false _ (c .if1 .l
 epoch-is : (c : tie.Else2) → isEpoch (c .before .before .before .before .before .args .t .epoch) ≡ true
 epoch-is c = le-leb _ greatestClock (c .if2 .left)
 
-hosts-are : (c : tie.Else3) → every (hostAt (c .before .before .before .before .before .before .before .before .args .t)) (numbers hostLimit) ≡ true
+hosts-are : (c : tie.Else3) → let t = c .before .before .before .before .before .before .before .before .args .t in hostsFormed (t .creation) (t .hosts) ≡ true
 hosts-are c = sym (c .before .hosts-formed .ensures) ∙ not-false _ (c .if3 .left)
 
-chunks-are : (c : tie.Else4) → every (chunkAt (c .before .before .before .before .before .before .before .before .before .before .before .args .t)) (numbers chunkLimit) ≡ true
+chunks-are : (c : tie.Else4) → let t = c .before .before .before .before .before .before .before .before .before .before .before .args .t in chunksFormed (t .creation) (t .epoch) (t .chunks) ≡ true
 chunks-are c = sym (c .before .chunks-formed .ensures) ∙ not-false _ (c .if4 .left)
 
 is-creation-requires : tie.Need-is-creation-requires
