@@ -3,7 +3,7 @@ use Rattle.rules.specs.declared.Table.{Table}
 use Rattle.rules.specs.declared.Answer.{Answer}
 use Rattle.rules.specs.Events.{step, refused}
 use Rattle.rules.specs.Words.{if_then_else_}
-use Rattle.meanings.specs.declared.Asked.{Asked}
+use Rattle.text_meanings.specs.declared.Asked.{Asked}
 
 -- "A bad event line .. writes `1 0 0 0 0` and is passed over"
 abbrev pub answerTo : Table → Asked → Answer

@@ -1,16 +1,16 @@
 // The store driver: a session from standard input to standard output. Document 01, "One session, whole".
-// What a line says and what an answer looks like is promised by `lines`, what an event does by `engine`; here is what reads and
+// What a line says and what an answer looks like is promised by `text_lines`, what an event does by `engine`; here is what reads and
 // writes, and that it is safe and ends. Memory does not grow with the input: of a line that is too long no more is kept than shows it.
 ghost use Prim.Native.Nat.{_+_, _≤_, min};
 ghost use mathlib.Core.Path.{_≡_};
 ghost use lib.ListN.{length};
 ghost use lib.Seq.{paste};
 ghost use Rattle.driver.specs.Answers.{answerTo};
-use lines::Text;
-use meanings::Asked;
 use rules::Answer;
 use rules::Outcome;
 use rules::Table;
+use text_lines::Text;
+use text_meanings::Asked;
 
 // The bytes of the block of input that are not looked at yet.
 struct Unread {
@@ -50,12 +50,12 @@ fn next_line(block: &mut [u8], unread: Unread) -> Next
     requires { ⌜ unread .end ≤ length (now block) ⌝ }
     ensures { λ r. ⌜ r .unread .end ≤ length (now (block .exit)) ⌝ }
 {
-    let mut text = lines::no_text();
+    let mut text = text_lines::no_text();
     let mut at = unread.at;
     let mut end = unread.end;
     let mut turns = u64::MAX;
     while turns > 0 {
-        let c = lines::cut_line(&block[..end], at, text);
+        let c = text_lines::cut_line(&block[..end], at, text);
         let t = c.text;
         if c.whole {
             return Next {
@@ -98,7 +98,7 @@ fn room(out: &[u8], used: usize) -> usize
     requires { ⌜ (used ≤ length (now out)) × (121 ≤ length (now out)) ⌝ }
     ensures { λ r. ⌜ r + 121 ≤ length (now (out .entry)) ⌝ }
 {
-    if lines::ROOM <= out.len() - used {
+    if text_lines::ROOM <= out.len() - used {
         return used;
     }
     io::write_all(libc::STDOUT_FILENO, &out[..used]);
@@ -116,7 +116,7 @@ fn put(out: &mut [u8], used: usize, t: Text) -> usize
     requires { ⌜ used + 121 ≤ length (now out) ⌝ }
     ensures { λ r. ⌜ (now (out .exit) ≡ paste (now (out .entry)) used (t .bytes) (min (t .count) 121)) × (r ≡ used + min (t .count) 121) ⌝ }
 {
-    let n = least(t.count, lines::ROOM);
+    let n = least(t.count, text_lines::ROOM);
     let mut i: usize = 0;
     while i < n {
         out[used + i] = t.bytes[i];
@@ -131,7 +131,7 @@ fn answer(out: &mut [u8], used: usize, code: u64, o: Outcome) -> usize
     ensures { λ r. ⌜ r ≤ length (now (out .exit)) ⌝ }
 {
     let at = room(out, used);
-    put(out, at, lines::answer_text(code, o))
+    put(out, at, text_lines::answer_text(code, o))
 }
 
 // "an event a line": each is answered, in its order.
@@ -148,7 +148,7 @@ fn run(table: Table, unread: Unread, block: &mut [u8], out: &mut [u8])
             break;
         }
         let text = line.text;
-        let a = answer_to(t, meanings::event_of(lines::parse_text(text)));
+        let a = answer_to(t, text_meanings::event_of(text_lines::parse_text(text)));
         let o = a.outcome;
         used = answer(out, used, a.code, o);
         let next = a.table;
@@ -162,9 +162,9 @@ fn run(table: Table, unread: Unread, block: &mut [u8], out: &mut [u8])
 
 // "bad first lines, or a refused creation, write that once and end"
 fn refuse() {
-    let t = lines::answer_text(1, Outcome::None);
+    let t = text_lines::answer_text(1, Outcome::None);
     let bytes = t.bytes;
-    let n = least(t.count, lines::ROOM);
+    let n = least(t.count, text_lines::ROOM);
     io::write_all(libc::STDOUT_FILENO, &bytes[..n]);
 }
 
@@ -175,7 +175,7 @@ fn main() {
     let second = next_line(&mut block, behind);
     let l1 = first.text;
     let l2 = second.text;
-    let named = meanings::creation_of(lines::parse_text(l1), lines::parse_text(l2));
+    let named = text_meanings::creation_of(text_lines::parse_text(l1), text_lines::parse_text(l2));
     if !named.good {
         refuse();
         return;

@@ -33,15 +33,15 @@ use Rattle.rules.specs.Zero.{noHost, noChunk, noRecord}
 use Rattle.rules.proofs.Events.{by-kind, refused-own, granted-own}
 use Rattle.rules.proofs.Formed.{one-to, creation-facts, formed, message-facts, host-place, chunk-place, block-place, front-block, queue-of}
 use Rattle.rules.proofs.Lists.{_&_, end, three, walk}
-use Rattle.chunk.specs.Changes.{changed}
-use Rattle.host.specs.Moves.{moved}
-use Rattle.attempts.specs.Moves.{finishes}
-use Rattle.attempts.proofs.Laws.{start-ruled}
-use Rattle.parts.specs.declared.Parts.{Parts}
-use Rattle.parts.specs.declared.Acted.{Acted}
-use Rattle.operands.specs.Address.{hasA, addressOf, placeAt, hostAt, chunkAt, blockAt}
-use Rattle.operands.proofs.Laws.{of-sort}
-use Rattle.parts.specs.Acts.{unchanged, byHost, byChunk, toChunk, toHost, delivered, acted}
+use Rattle.chunk_alone.specs.Changes.{changed}
+use Rattle.host_alone.specs.Moves.{moved}
+use Rattle.host_attempts.specs.Moves.{finishes}
+use Rattle.host_attempts.proofs.Laws.{start-ruled}
+use Rattle.event_parts.specs.declared.Parts.{Parts}
+use Rattle.event_parts.specs.declared.Acted.{Acted}
+use Rattle.event_operands.specs.Address.{hasA, addressOf, placeAt, hostAt, chunkAt, blockAt}
+use Rattle.event_operands.proofs.Laws.{of-sort}
+use Rattle.event_parts.specs.Acts.{unchanged, byHost, byChunk, toChunk, toHost, delivered, acted}
 use Rattle.engine.specs.declared.Touched.{Touched}
 use Rattle.engine.specs.Touches.{slotHere, hostHere, chunkHere, blockHere, partsOf, touched}
 

@@ -28,8 +28,8 @@ use Rattle.rules.specs.Zero.{zeroWaiting, noRecord}
 use Rattle.rules.proofs.Events.{refused-own, granted-own}
 use Rattle.rules.proofs.Formed.{formed, chunk-place}
 use Rattle.rules.proofs.Lists.{three, grid-at}
-use Rattle.chunk.specs.declared.Changed.{Changed}
-use Rattle.chunk.specs.Changes.{changed}
+use Rattle.chunk_alone.specs.declared.Changed.{Changed}
+use Rattle.chunk_alone.specs.Changes.{changed}
 
 -- ---- fail
 

@@ -4,9 +4,9 @@ use Rattle.rules.specs.declared.Slot.{Slot}
 use Rattle.rules.specs.declared.Table.{Table}
 use Rattle.rules.specs.declared.Event.{Event}
 use Rattle.rules.specs.Tables.{setOf, hostOf, chunkOf, recordOf, slotOf}
-use Rattle.operands.specs.Address.{placeAt, hostAt, chunkAt, blockAt}
-use Rattle.parts.specs.declared.Parts.{Parts}
-use Rattle.parts.specs.Acts.{acted}
+use Rattle.event_operands.specs.Address.{placeAt, hostAt, chunkAt, blockAt}
+use Rattle.event_parts.specs.declared.Parts.{Parts}
+use Rattle.event_parts.specs.Acts.{acted}
 use Rattle.engine.specs.declared.Touched.{Touched}
 
 -- whom it is about

@@ -7,8 +7,8 @@ ghost use Rattle.rules.specs.Events.{done, refused, withoutWaiting, ranges, ste
 ghost use Rattle.rules.specs.Formed.{wellFormed};
 ghost use Rattle.rules.specs.Limits.{chunkLimit};
 ghost use Rattle.engine.specs.Touches.{touched};
-use parts::Acted;
-use parts::Parts;
+use event_parts::Acted;
+use event_parts::Parts;
 use rules::Answer;
 use rules::Created;
 use rules::Creation;
@@ -22,7 +22,7 @@ use rules::Table;
 pub fn create(k: Creation) -> Created
     ensures { λ r. ⌜ r ≡ created k ⌝ }
 {
-    creation::create(k)
+    table_creation::create(k)
 }
 
 // "same table, zeros"
@@ -63,17 +63,17 @@ fn touch(t: Table, e: Event) -> Touched
     let k = t.creation;
     let epoch = t.epoch;
     let places = t.places;
-    let p = operands::place_at(e) as usize;
+    let p = event_operands::place_at(e) as usize;
     let place = places[p];
     let slot = place.slot;
-    let i = operands::host_at(e, slot);
-    let c = operands::chunk_at(e, slot);
+    let i = event_operands::host_at(e, slot);
+    let c = event_operands::chunk_at(e, slot);
     let host = t.hosts[i as usize];
-    let b = operands::block_at(e, slot, host);
+    let b = event_operands::block_at(e, slot, host);
     let set = k.sets[b as usize];
     let chunk = t.chunks[c as usize];
     let block = t.records[c as usize * rules::BLOCKS + b as usize];
-    let left = parts::act(
+    let left = event_parts::act(
         e,
         Parts {
             blocks: k.blocks,
@@ -100,7 +100,7 @@ fn without_waiting(records: [Record; rules::RECORDS], chunk: usize) -> [Record; 
     requires { ⌜ chunk < chunkLimit ⌝ }
     ensures { λ r. ⌜ r ≡ withoutWaiting records chunk ⌝ }
 {
-    let empty = zero::waiting();
+    let empty = table_zero::waiting();
     let mut out = records;
     let mut b: usize = 0;
     while b < rules::BLOCKS {
@@ -120,7 +120,7 @@ fn fail(mut t: Table, e: Event) -> Answer
 {
     let i = e.a as usize;
     let old = t.chunks[i];
-    let failed = chunk::fail(old);
+    let failed = chunk_alone::fail(old);
     if failed.code != 0 {
         return refuse(t, failed.code);
     }
@@ -140,14 +140,14 @@ fn change_epoch(mut t: Table, e: Event) -> Answer
     let k = t.creation;
     let epoch = t.epoch;
     let chunks = t.chunks;
-    let code = epoch::change_code(k, epoch, chunks);
+    let code = epoch_change::change_code(k, epoch, chunks);
     if code != 0 {
         return refuse(t, code);
     }
     let next = Epoch(epoch.0 + 1);
     let records = t.records;
-    let settled = epoch::settle_blocks(k, chunks, records);
-    let renewed = epoch::renew(k, next, chunks);
+    let settled = epoch_change::settle_blocks(k, chunks, records);
+    let renewed = epoch_change::renew(k, next, chunks);
     t.epoch = next;
     t.chunks = renewed;
     t.records = settled;
@@ -159,11 +159,11 @@ fn change_epoch(mut t: Table, e: Event) -> Answer
 pub fn step(mut t: Table, e: Event) -> Answer
     ensures { λ r. ⌜ r ≡ step t e ⌝ }
 {
-    if !sound::well_formed(t) {
+    if !table_sound::well_formed(t) {
         return refuse(t, 8);
     }
     let k = t.creation;
-    if !operands::in_range(k, e) {
+    if !event_operands::in_range(k, e) {
         return refuse(t, 1);
     }
     let kind = e.kind;

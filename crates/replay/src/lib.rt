@@ -79,7 +79,7 @@ fn run(table: Table, events: &[u64]) -> u64
 pub extern "C" fn kerzubian_replay(first: &[u8], second: &[u8], events: &[u64]) -> u64
     ensures { λ r. ⌜ r ≡ replayed (now (first .entry)) (now (second .entry)) (now (events .entry)) ⌝ }
 {
-    let named = meanings::creation_of(numbers::parse(first), numbers::parse(second));
+    let named = text_meanings::creation_of(text_numbers::parse(first), text_numbers::parse(second));
     let k = named.creation;
     let made = engine::create(k);
     let t = made.table;

@@ -355,7 +355,7 @@ fn header(host: u64, chunk: u64, block: u64, timestamp: u64) -> Header {
 }
 
 fn request(header: Header, epoch: u64, request: Request) -> Message {
-    messages::message_of(header, Sort::Request(Epoch(epoch), request))
+    network_messages::message_of(header, Sort::Request(Epoch(epoch), request))
 }
 
 fn message_case(n: u64) -> Message {
@@ -374,8 +374,11 @@ fn message_case(n: u64) -> Message {
         7 => request(header(0, 0, 0, 8), CLOCK, Request::Abort),
         8 => request(header(0, 0, 0, 8), CLOCK + 1, Request::Abort),
         // replies
-        9 => messages::message_of(header(1, 1, 15, 0), Sort::ReadReply(18446744073709551615)),
-        _ => messages::message_of(header(1, 2, 0, 8), Sort::Refusal(Refusal::Busy)),
+        9 => network_messages::message_of(
+            header(1, 1, 15, 0),
+            Sort::ReadReply(18446744073709551615),
+        ),
+        _ => network_messages::message_of(header(1, 2, 0, 8), Sort::Refusal(Refusal::Busy)),
     }
 }
 

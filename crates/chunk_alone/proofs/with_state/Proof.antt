@@ -1,0 +1,10 @@
+-- `chunk_alone::with_state` meets its contract
+use mathlib.Core.Path.{refl}
+use Rattle.chunk_alone.proofs.with_state.Statement.{statement}
+use Rattle.chunk_alone.proofs.with_state.Tie as tie
+
+returns : tie.Need-returns
+returns c = refl
+
+pub with-state-spec : {M : Type 1} → statement M
+with-state-spec = tie.close (tie.spec returns)

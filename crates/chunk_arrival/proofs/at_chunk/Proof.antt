@@ -1,0 +1,144 @@
+-- `chunk_arrival::at_chunk` meets its contract
+use borrow.Author.Needs.{needs}
+use Rattle.rules.specs.Chunks.{atChunk}
+use Rattle.chunk_arrival.proofs.at_chunk.Statement.{statement}
+use Rattle.chunk_arrival.proofs.at_chunk.Tie as tie
+
+header-of-requires : tie.Need-header-of-requires
+header-of-requires c κs = search needs
+
+enum-known-m : tie.Need-enum-known-m
+enum-known-m c = search needs
+
+read-or-prewrite-requires : tie.Need-read-or-prewrite-requires
+read-or-prewrite-requires c κs = search needs
+
+enum-known-m-2 : tie.Need-enum-known-m-2
+enum-known-m-2 c = search needs
+
+read-or-prewrite-requires-2 : tie.Need-read-or-prewrite-requires-2
+read-or-prewrite-requires-2 c κs = search needs
+
+enum-told : tie.Need-enum-told
+enum-told c = search needs
+
+commit-or-abort-requires : tie.Need-commit-or-abort-requires
+commit-or-abort-requires c κs = search needs
+
+enum-told-2 : tie.Need-enum-told-2
+enum-told-2 c = search needs
+
+commit-or-abort-requires-2 : tie.Need-commit-or-abort-requires-2
+commit-or-abort-requires-2 c κs = search needs
+
+enum-told-3 : tie.Need-enum-told-3
+enum-told-3 c = search needs
+
+silent-requires : tie.Need-silent-requires
+silent-requires c κs = search needs
+
+enum-told-4 : tie.Need-enum-told-4
+enum-told-4 c = search needs
+
+silent-requires-2 : tie.Need-silent-requires-2
+silent-requires-2 c κs = search needs
+
+enum-told-5 : tie.Need-enum-told-5
+enum-told-5 c = search needs
+
+silent-requires-3 : tie.Need-silent-requires-3
+silent-requires-3 c κs = search needs
+
+enum-told-6 : tie.Need-enum-told-6
+enum-told-6 c = search needs
+
+silent-requires-4 : tie.Need-silent-requires-4
+silent-requires-4 c κs = search needs
+
+enum-told-7 : tie.Need-enum-told-7
+enum-told-7 c = search needs
+
+silent-requires-5 : tie.Need-silent-requires-5
+silent-requires-5 c κs = search needs
+
+enum-told-8 : tie.Need-enum-told-8
+enum-told-8 c = search needs
+
+silent-requires-6 : tie.Need-silent-requires-6
+silent-requires-6 c κs = search needs
+
+returns : tie.Need-returns
+unfolding atChunk
+returns c = rw (← c .before .before .before .before .header-of .ensures, c .before .before .m .given .1) (c .read-or-prewrite .ensures)
+
+returns-2 : tie.Need-returns-2
+unfolding atChunk
+returns-2 c = rw (← c .before .before .before .before .header-of .ensures, c .before .before .m2 .given .1) (c .read-or-prewrite2 .ensures)
+
+returns-3 : tie.Need-returns-3
+unfolding atChunk
+returns-3 c = rw (← c .before .before .before .header-of .ensures, c .before .enum-told .given .1) (c .commit-or-abort .ensures)
+
+returns-4 : tie.Need-returns-4
+unfolding atChunk
+returns-4 c = rw (← c .before .before .before .header-of .ensures, c .before .enum-told2 .given .1) (c .commit-or-abort2 .ensures)
+
+returns-5 : tie.Need-returns-5
+unfolding atChunk
+returns-5 c = rw (c .before .enum-told3 .given .1) (c .silent .ensures)
+
+returns-6 : tie.Need-returns-6
+unfolding atChunk
+returns-6 c = rw (c .before .enum-told4 .given .1) (c .silent2 .ensures)
+
+returns-7 : tie.Need-returns-7
+unfolding atChunk
+returns-7 c = rw (c .before .enum-told5 .given .1) (c .silent3 .ensures)
+
+returns-8 : tie.Need-returns-8
+unfolding atChunk
+returns-8 c = rw (c .before .enum-told6 .given .1) (c .silent4 .ensures)
+
+returns-9 : tie.Need-returns-9
+unfolding atChunk
+returns-9 c = rw (c .before .enum-told7 .given .1) (c .silent5 .ensures)
+
+returns-10 : tie.Need-returns-10
+unfolding atChunk
+returns-10 c = rw (c .before .enum-told8 .given .1) (c .silent6 .ensures)
+
+pub at-chunk-spec : {M : Type 1} → statement M
+at-chunk-spec =
+    tie.close
+    (tie.spec
+    header-of-requires
+    enum-known-m
+    read-or-prewrite-requires
+    enum-known-m-2
+    read-or-prewrite-requires-2
+    enum-told
+    commit-or-abort-requires
+    enum-told-2
+    commit-or-abort-requires-2
+    enum-told-3
+    silent-requires
+    enum-told-4
+    silent-requires-2
+    enum-told-5
+    silent-requires-3
+    enum-told-6
+    silent-requires-4
+    enum-told-7
+    silent-requires-5
+    enum-told-8
+    silent-requires-6
+    returns
+    returns-2
+    returns-3
+    returns-4
+    returns-5
+    returns-6
+    returns-7
+    returns-8
+    returns-9
+    returns-10)

@@ -1,0 +1,16 @@
+-- `epoch_settle::with_write` meets its contract
+use borrow.Author.Needs.{needs}
+use Rattle.epoch_settle.proofs.with_write.Statement.{statement}
+use Rattle.epoch_settle.proofs.with_write.Tie as tie
+
+later-requires : tie.Need-later-requires
+later-requires c κs = search needs
+
+returns : tie.Need-returns
+returns c = rw (c .before .if1 .taken) (c .later .ensures)
+
+returns-2 : tie.Need-returns-2
+returns-2 c = search needs
+
+pub with-write-spec : {M : Type 1} → statement M
+with-write-spec = tie.close (tie.spec later-requires returns returns-2)

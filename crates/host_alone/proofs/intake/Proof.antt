@@ -1,0 +1,28 @@
+-- `host_alone::intake` meets its contract
+use mathlib.Core.Path.{ap, _∙_}
+use borrow.Author.Needs.{needs}
+use Rattle.rules.specs.Hosts.{intakeRefusals, withQueue, appended}
+use Rattle.host_alone.specs.Moves.{moved}
+use Rattle.host_alone.proofs.Laws.{unmoved, moves}
+use Rattle.host_alone.proofs.intake.Statement.{statement}
+use Rattle.host_alone.proofs.intake.Tie as tie
+
+intake-code-requires : tie.Need-intake-code-requires
+intake-code-requires c κs = search needs
+
+returns : tie.Need-returns
+returns c = unmoved _ _ _ _ (c .before .intake-code .ensures) (c .if1 .taken)
+
+with-last-requires : tie.Need-with-last-requires
+with-last-requires c κs = search needs
+
+returns-2 : tie.Need-returns-2
+unfolding appended
+returns-2 c =
+    let e = c .before .before in
+    let h = e .before .before .args .h in
+    moves _ _ _ _ (e .before .intake-code .ensures) (e .if1 .left)
+    ∙ ap (λ q. moved (intakeRefusals h) h (withQueue h q)) (c .with-last .ensures)
+
+pub intake-spec : {M : Type 1} → statement M
+intake-spec = tie.close (tie.spec intake-code-requires returns with-last-requires returns-2)

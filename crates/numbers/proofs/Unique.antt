@@ -1,6 +1,0 @@
--- Each public function's promise determines its answer
-use Rattle.rules.proofs.Unique.{unique, Determined}
-use Rattle.numbers.proofs.parse.Reads as parse-contract
-
-parse-unique : Determined parse-contract.Learnt
-parse-unique κs a x y s u = unique

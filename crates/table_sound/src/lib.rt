@@ -1,0 +1,453 @@
+// Code 8: the whole table is looked at. A part of the store's must be formed, an unused one zero.
+ghost use Prim.Native.Nat.{_-_};
+ghost use mathlib.Core.Path.{_≡_};
+ghost use mathlib.Core.Bool.{_&&_, not};
+ghost use Rattle.rules.specs.Creation.{isCreation, ofStore, isSetOf};
+ghost use Rattle.rules.specs.Formed.{operationFormed, operationAt, queueFormed, attemptFormed, hostFormed, chunkFormed, entryFormed, entryAt, waitingFormed, recordFormed, headerFormed, sortFormed, messageFormed, slotFormed, hostsFormed, chunksFormed, recordsFormed, placesFormed, wellFormed};
+ghost use Rattle.rules.specs.Limits.{blockLimit, operationLimit, waitingLimit};
+ghost use Rattle.rules.specs.Timestamps.{_above_};
+ghost use Rattle.rules.specs.Words.{if_then_else_, every, numbers};
+ghost use Rattle.rules.specs.Zero.{isEmpty, isZeroEntry, isZeroRecord, isZeroChunk, isZeroOperation, isZeroAttempt, isZeroHost};
+ghost use Rattle.table_sound.specs.Parts.{counted, ofBlocks};
+use rules::Attempt;
+use rules::Chunk;
+use rules::Creation;
+use rules::Entry;
+use rules::Epoch;
+use rules::Header;
+use rules::Host;
+use rules::Message;
+use rules::Operation;
+use rules::Place;
+use rules::Queue;
+use rules::Record;
+use rules::Set;
+use rules::Slot;
+use rules::Sort;
+use rules::Table;
+use rules::Timestamp;
+use rules::Waiting;
+
+// The store's counts: all that its parts are held to.
+struct Counts {
+    hosts: u64,
+    chunks: u64,
+    blocks: u64,
+}
+
+// ---- a set of chunks, and the creation
+
+// Every chunk in the set is one of the store's.
+fn of_store(n: Counts, s: Set) -> bool
+    ensures { λ r. ⌜ r ≡ ofStore (counted n) s ⌝ }
+{
+    let mut i: usize = 0;
+    while i < rules::CHUNKS {
+        if !(!s.chunks[i] | ((i as u64) < n.chunks)) {
+            return false;
+        }
+        i = i + 1;
+    }
+    true
+}
+
+// "Each block has a non-empty set of chunks that hold its copies"; a block that the store lacks has none.
+fn is_set_of(n: Counts, used: bool, s: Set) -> bool
+    ensures { λ r. ⌜ r ≡ if used then not (isEmpty s) && ofStore (counted n) s else isEmpty s ⌝ }
+{
+    let empty = table_sets::is_empty(s);
+    if used {
+        return !empty & of_store(n, s);
+    }
+    empty
+}
+
+// The set of every block, and of every place for one.
+fn sets_formed(k: Creation) -> bool
+    ensures { λ r. ⌜ r ≡ every (isSetOf k) (numbers blockLimit) ⌝ }
+{
+    let n = Counts {
+        hosts: k.hosts,
+        chunks: k.chunks,
+        blocks: k.blocks,
+    };
+    let mut i: usize = 0;
+    while i < rules::BLOCKS {
+        let s = k.sets[i];
+        if !is_set_of(n, (i as u64) < n.blocks, s) {
+            return false;
+        }
+        i = i + 1;
+    }
+    true
+}
+
+// "1 to 8 hosts, 1 to 8 chunks, 1 to 16 blocks .. with the age limit (0 to 4,294,967,295)"
+pub fn is_creation(k: Creation) -> bool
+    ensures { λ r. ⌜ r ≡ isCreation k ⌝ }
+{
+    ((1 <= k.hosts) & (k.hosts <= rules::HOSTS as u64))
+        & ((1 <= k.chunks) & (k.chunks <= rules::CHUNKS as u64))
+        & ((1 <= k.blocks) & (k.blocks <= rules::BLOCKS as u64))
+        & sets_formed(k)
+        & (k.age <= rules::GREATEST_CLOCK)
+}
+
+// ---- a host
+
+fn is_zero_operation(o: Operation) -> bool
+    ensures { λ r. ⌜ r ≡ isZeroOperation o ⌝ }
+{
+    let a = o.action;
+    (o.block == 0) & table_kinds::is_reading(a)
+}
+
+// One of the count, or an unused place.
+fn operation_at(n: Counts, used: bool, o: Operation) -> bool
+    ensures { λ r. ⌜ r ≡ if used then operationFormed (counted n) o else isZeroOperation o ⌝ }
+{
+    if used {
+        return o.block < n.blocks;
+    }
+    is_zero_operation(o)
+}
+
+fn operations_formed(n: Counts, q: Queue) -> bool
+    ensures { λ r. ⌜ r ≡ every (operationAt (counted n) q) (numbers operationLimit) ⌝ }
+{
+    let mut i: usize = 0;
+    while i < rules::OPERATIONS {
+        let o = q.operations[i];
+        if !operation_at(n, (i as u64) < q.count, o) {
+            return false;
+        }
+        i = i + 1;
+    }
+    true
+}
+
+// "up to 8 operations, counting the current one"
+fn queue_formed(n: Counts, q: Queue) -> bool
+    ensures { λ r. ⌜ r ≡ queueFormed (counted n) q ⌝ }
+{
+    (q.count <= rules::OPERATIONS as u64) & operations_formed(n, q)
+}
+
+// "current timestamp, outstanding chunks, okay, restart and result value all zero or false"
+fn is_zero_attempt(a: Attempt) -> bool
+    ensures { λ r. ⌜ r ≡ isZeroAttempt a ⌝ }
+{
+    let s = a.outstanding;
+    (a.timestamp.0 == 0) & table_sets::is_empty(s) & !a.okay & !a.restart & (a.result == 0)
+}
+
+// "A host without a current operation has [its attempt] zero .. With one, the current timestamp is above 0"
+fn attempt_formed(n: Counts, count: u64, a: Attempt) -> bool
+    ensures { λ r. ⌜ r ≡ attemptFormed (counted n) count a ⌝ }
+{
+    if 0 < a.timestamp.0 {
+        let s = a.outstanding;
+        return (1 <= count) & (a.timestamp.0 <= rules::GREATEST_TIMESTAMP) & of_store(n, s);
+    }
+    is_zero_attempt(a)
+}
+
+// "epoch known; .. last clock drawn", with the queue and the attempt.
+fn host_formed(n: Counts, h: Host) -> bool
+    ensures { λ r. ⌜ r ≡ hostFormed (counted n) h ⌝ }
+{
+    let q = h.queue;
+    let a = h.attempt;
+    queue_formed(n, q)
+        & attempt_formed(n, q.count, a)
+        & (h.epoch.0 <= rules::GREATEST_CLOCK)
+        & (h.clock <= rules::GREATEST_CLOCK)
+}
+
+// A queue of none has every place unused.
+fn is_zero_host(n: Counts, h: Host) -> bool
+    ensures { λ r. ⌜ r ≡ isZeroHost h ⌝ }
+{
+    let q = h.queue;
+    let a = h.attempt;
+    !h.working
+        & (q.count == 0)
+        & operations_formed(n, q)
+        & is_zero_attempt(a)
+        & (h.epoch.0 == 0)
+        & !h.mapped
+        & (h.clock == 0)
+}
+
+// One of the store's, or an unused place.
+fn host_at(n: Counts, used: bool, h: Host) -> bool
+    ensures { λ r. ⌜ r ≡ if used then hostFormed (counted n) h else isZeroHost h ⌝ }
+{
+    if used {
+        return host_formed(n, h);
+    }
+    is_zero_host(n, h)
+}
+
+fn hosts_formed(n: Counts, hosts: [Host; rules::HOSTS]) -> bool
+    ensures { λ r. ⌜ r ≡ hostsFormed (counted n) hosts ⌝ }
+{
+    let mut i: usize = 0;
+    while i < rules::HOSTS {
+        let h = hosts[i];
+        if !host_at(n, (i as u64) < n.hosts, h) {
+            return false;
+        }
+        i = i + 1;
+    }
+    true
+}
+
+// ---- a chunk
+
+// Every block in the chunk's reconciliation set is one of the store's.
+fn blocks_of_store(blocks: u64, c: Chunk) -> bool
+    ensures { λ r. ⌜ r ≡ every (ofBlocks blocks c) (numbers blockLimit) ⌝ }
+{
+    let mut i: usize = 0;
+    while i < rules::BLOCKS {
+        if !(!c.reconcile[i] | ((i as u64) < blocks)) {
+            return false;
+        }
+        i = i + 1;
+    }
+    true
+}
+
+// "all chunks have one epoch, the store's"
+fn chunk_formed(n: Counts, epoch: Epoch, c: Chunk) -> bool
+    ensures { λ r. ⌜ r ≡ chunkFormed (counted n) epoch c ⌝ }
+{
+    (c.epoch.0 == epoch.0) & blocks_of_store(n.blocks, c)
+}
+
+// The reconciliation set has only blocks of a store that has none: it is empty.
+fn is_zero_chunk(c: Chunk) -> bool
+    ensures { λ r. ⌜ r ≡ isZeroChunk c ⌝ }
+{
+    let s = c.state;
+    table_kinds::is_normal(s) & !c.lost & (c.epoch.0 == 0) & blocks_of_store(0, c)
+}
+
+// One of the store's, or an unused place.
+fn chunk_at(n: Counts, epoch: Epoch, used: bool, c: Chunk) -> bool
+    ensures { λ r. ⌜ r ≡ if used then chunkFormed (counted n) epoch c else isZeroChunk c ⌝ }
+{
+    if used {
+        return chunk_formed(n, epoch, c);
+    }
+    is_zero_chunk(c)
+}
+
+fn chunks_formed(n: Counts, epoch: Epoch, chunks: [Chunk; rules::CHUNKS]) -> bool
+    ensures { λ r. ⌜ r ≡ chunksFormed (counted n) epoch chunks ⌝ }
+{
+    let mut i: usize = 0;
+    while i < rules::CHUNKS {
+        let c = chunks[i];
+        if !chunk_at(n, epoch, (i as u64) < n.chunks, c) {
+            return false;
+        }
+        i = i + 1;
+    }
+    true
+}
+
+// ---- a record
+
+fn is_zero_entry(e: Entry) -> bool
+    ensures { λ r. ⌜ r ≡ isZeroEntry e ⌝ }
+{
+    let k = e.kind;
+    (e.timestamp.0 == 0) & (e.sender == 0) & (e.epoch.0 == 0) & table_kinds::is_read(k)
+}
+
+// "Beside its timestamp, sender and epoch": a kind, of which any is right.
+fn entry_formed(n: Counts, e: Entry) -> bool
+    ensures { λ r. ⌜ r ≡ entryFormed (counted n) e ⌝ }
+{
+    (e.timestamp.0 <= rules::GREATEST_TIMESTAMP)
+        & (e.sender < n.hosts)
+        & (e.epoch.0 <= rules::GREATEST_CLOCK)
+}
+
+// One of the count, not below the one ahead of it, or an unused place.
+fn entry_at(n: Counts, used: bool, ahead: Timestamp, e: Entry) -> bool
+    ensures { λ r. ⌜ r ≡ if used then entryFormed (counted n) e && not (ahead above e .timestamp) else isZeroEntry e ⌝ }
+{
+    if used {
+        return entry_formed(n, e) & !(e.timestamp.0 < ahead.0);
+    }
+    is_zero_entry(e)
+}
+
+// The place before i; the first has itself.
+fn before(i: usize) -> usize
+    ensures { λ r. ⌜ r ≡ i - 1 ⌝ }
+{
+    if i == 0 { 0 } else { i - 1 }
+}
+
+fn entries_formed(n: Counts, w: Waiting) -> bool
+    ensures { λ r. ⌜ r ≡ every (entryAt (counted n) w) (numbers waitingLimit) ⌝ }
+{
+    let mut i: usize = 0;
+    while i < rules::WAITING {
+        let e = w.entries[i];
+        let j = before(i);
+        let ahead = w.entries[j];
+        if !entry_at(n, (i as u64) < w.count, ahead.timestamp, e) {
+            return false;
+        }
+        i = i + 1;
+    }
+    true
+}
+
+// "up to 8 waiting entries in timestamp order"
+fn waiting_formed(n: Counts, w: Waiting) -> bool
+    ensures { λ r. ⌜ r ≡ waitingFormed (counted n) w ⌝ }
+{
+    (w.count <= rules::WAITING as u64) & entries_formed(n, w)
+}
+
+// "a value, last read, last write": a value is any 64-bit number.
+fn record_formed(n: Counts, x: Record) -> bool
+    ensures { λ r. ⌜ r ≡ recordFormed (counted n) x ⌝ }
+{
+    let w = x.waiting;
+    (x.read.0 <= rules::GREATEST_TIMESTAMP)
+        & (x.write.0 <= rules::GREATEST_TIMESTAMP)
+        & waiting_formed(n, w)
+}
+
+// A waiting list of none has every place unused.
+fn is_zero_record(n: Counts, x: Record) -> bool
+    ensures { λ r. ⌜ r ≡ isZeroRecord x ⌝ }
+{
+    let w = x.waiting;
+    (x.value == 0) & (x.read.0 == 0) & (x.write.0 == 0) & (w.count == 0) & entries_formed(n, w)
+}
+
+// Of a chunk and a block of the store's, or an unused place.
+fn record_at(n: Counts, used: bool, x: Record) -> bool
+    ensures { λ r. ⌜ r ≡ if used then recordFormed (counted n) x else isZeroRecord x ⌝ }
+{
+    if used {
+        return record_formed(n, x);
+    }
+    is_zero_record(n, x)
+}
+
+// "A chunk has a record for every block, held or not": that of chunk c and block b at c x 16 + b.
+fn records_formed(n: Counts, records: [Record; rules::RECORDS]) -> bool
+    ensures { λ r. ⌜ r ≡ recordsFormed (counted n) records ⌝ }
+{
+    let mut i: usize = 0;
+    while i < rules::RECORDS {
+        let c = (i / rules::BLOCKS) as u64;
+        let b = (i % rules::BLOCKS) as u64;
+        let x = records[i];
+        if !record_at(n, (c < n.chunks) & (b < n.blocks), x) {
+            return false;
+        }
+        i = i + 1;
+    }
+    true
+}
+
+// ---- a message
+
+// "a message's block may be 0 to 15 and a timestamp anything up to 34,359,738,367"
+fn header_formed(n: Counts, h: Header) -> bool
+    ensures { λ r. ⌜ r ≡ headerFormed (counted n) h ⌝ }
+{
+    (h.host < n.hosts)
+        & (h.chunk < n.chunks)
+        & (h.block < rules::BLOCKS as u64)
+        & (h.timestamp.0 <= rules::GREATEST_TIMESTAMP)
+}
+
+// "the first four also the epoch the host knows"
+fn sort_formed(s: Sort) -> bool
+    ensures { λ r. ⌜ r ≡ sortFormed s ⌝ }
+{
+    match s {
+        Sort::Request(epoch, _) => epoch.0 <= rules::GREATEST_CLOCK,
+        Sort::Refusal(_) => true,
+        Sort::ReadReply(_) => true,
+        Sort::PrewriteReply => true,
+    }
+}
+
+fn message_formed(n: Counts, m: Message) -> bool
+    ensures { λ r. ⌜ r ≡ messageFormed (counted n) m ⌝ }
+{
+    let header = network_messages::header_of(m);
+    let sort = network_messages::sort_of(m);
+    header_formed(n, header) & sort_formed(sort)
+}
+
+fn place_formed(n: Counts, p: Place) -> bool
+    ensures { λ r. ⌜ r ≡ slotFormed (counted n) (p .slot) ⌝ }
+{
+    let s = p.slot;
+    match s {
+        Slot::Empty => true,
+        Slot::Full(m) => message_formed(n, m),
+    }
+}
+
+fn places_formed(n: Counts, places: [Place; rules::PLACES]) -> bool
+    ensures { λ r. ⌜ r ≡ placesFormed (counted n) places ⌝ }
+{
+    let mut i: usize = 0;
+    while i < rules::PLACES {
+        let p = places[i];
+        if !place_formed(n, p) {
+            return false;
+        }
+        i = i + 1;
+    }
+    true
+}
+
+// ---- the table
+
+// "A table is well formed when every number is within the ranges above, counts are within limits, waiting entries are in
+// ascending timestamp order (equal allowed), all chunks have one epoch, the store's, and unused places are zero."
+pub fn well_formed(t: Table) -> bool
+    ensures { λ r. ⌜ r ≡ wellFormed t ⌝ }
+{
+    let k = t.creation;
+    if !is_creation(k) {
+        return false;
+    }
+    if rules::GREATEST_CLOCK < t.epoch.0 {
+        return false;
+    }
+    let n = Counts {
+        hosts: k.hosts,
+        chunks: k.chunks,
+        blocks: k.blocks,
+    };
+    let hosts = t.hosts;
+    if !hosts_formed(n, hosts) {
+        return false;
+    }
+    let chunks = t.chunks;
+    if !chunks_formed(n, t.epoch, chunks) {
+        return false;
+    }
+    let records = t.records;
+    if !records_formed(n, records) {
+        return false;
+    }
+    let places = t.places;
+    places_formed(n, places)
+}

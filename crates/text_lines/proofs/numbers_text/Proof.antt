@@ -1,0 +1,41 @@
+-- `text_lines::numbers_text` meets its contract
+use borrow.Author.Needs.{needs}
+use Rattle.text_lines.proofs.Texts.{five-line}
+use Rattle.text_lines.proofs.numbers_text.Statement.{statement}
+use Rattle.text_lines.proofs.numbers_text.Tie as tie
+
+no-text-requires : tie.Need-no-text-requires
+no-text-requires c κs = search needs
+
+push-number-requires : tie.Need-push-number-requires
+push-number-requires c κs = search needs
+
+push-number-requires-2 : tie.Need-push-number-requires-2
+push-number-requires-2 c κs = search needs
+
+push-number-requires-3 : tie.Need-push-number-requires-3
+push-number-requires-3 c κs = search needs
+
+push-number-requires-4 : tie.Need-push-number-requires-4
+push-number-requires-4 c κs = search needs
+
+push-number-requires-5 : tie.Need-push-number-requires-5
+push-number-requires-5 c κs = search needs
+
+returns : tie.Need-returns
+returns c =
+    let c1 = c .before .before .before .before in
+    five-line _ _ _ _ _ _ _ _ _ _ (rw (← c1 .before .no-text .ensures) (c1 .push-number .ensures)) (c .before .before .before .push-number2 .ensures)
+    (c .before .before .push-number3 .ensures) (c .before .push-number4 .ensures) (c .push-number5 .ensures)
+
+pub numbers-text-spec : {M : Type 1} → statement M
+numbers-text-spec =
+    tie.close
+    (tie.spec
+    no-text-requires
+    push-number-requires
+    push-number-requires-2
+    push-number-requires-3
+    push-number-requires-4
+    push-number-requires-5
+    returns)

@@ -1,0 +1,32 @@
+-- `text_numbers::say_also` meets its contract: past the last place a store changes nothing
+use mathlib.Core.Path.{_≡_}
+use native.Mathlib.Omega.{arith}
+use lib.ListN.{length, length-map}
+use borrow.Author.Needs.{needs}
+use Rattle.text_numbers.proofs.Laws.{said-past}
+use Rattle.text_numbers.proofs.say_also.Statement.{statement}
+use Rattle.text_numbers.proofs.say_also.Tie as tie
+
+len : (c : tie.Start) → length (c .args .l .numbers) ≡ 16
+len c = simp length-map at (c .good .0 .1 .1 .1 .1 .0 .1 .0 .1)
+
+add-out : tie.Need-add-out
+add-out c = search needs
+
+mul-out : tie.Need-mul-out
+mul-out c = search needs
+
+element-write-out : tie.Need-element-write-out
+element-write-out c = search needs
+
+returns : tie.Need-returns
+returns c = search needs
+
+returns-2 : tie.Need-returns-2
+returns-2 c =
+    let s = c .before .before in
+    let k = len s in
+    said-past (s .args .l) (s .args .n) (omega arith)
+
+pub say-also-spec : {M : Type 1} → statement M
+say-also-spec = tie.close (tie.spec add-out mul-out element-write-out returns returns-2)
