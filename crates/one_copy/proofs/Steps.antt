@@ -9,6 +9,7 @@ use lib.Dec.{eqb}
 use borrow.Author.Tests.{ltb-true, eqb-true}
 use Rattle.one_copy.specs.Types.{Action, Operation, Message, Slot, Table, Event, Outcome, Answer}
 use Rattle.one_copy.specs.Listed.{Write, byHost, byChange, committedAt}
+use Rattle.rules.specs.Built.{operationOf}
 use Rattle.rules.specs.Codes.{codeOf}
 use Rattle.rules.specs.Events.{Rule, EventKind, quietly, done, refused, holdersOf, startRule, finishRule, epochRule, kindOf, ranges, ruleOf, rows, step, takes, epochChanged, epochRefusals}
 use Rattle.rules.specs.Hosts.{front, openingTo, closingTo}
@@ -100,7 +101,7 @@ module _ (b : ℕ) (h : Hist) (blk : ℕ → ℕ) (t : Table) (lb : isBlock (t .
       let j = e .a in
       let d = e .b in
       let lj = three _ _ _ r .0 in
-      let o : Operation = record { block = d; action = Action.Read } in
+      let o = operationOf d Action.Read in
       plain _ (rw k refl) (ev-intake b h t f (i .shape) lb (i .good) j lj o (intake-place (hostOf t j) x))
       (intake-less t f j lj (i .shape) o (intake-place (hostOf t j) x)) refl
 
@@ -112,7 +113,7 @@ module _ (b : ℕ) (h : Hist) (blk : ℕ → ℕ) (t : Table) (lb : isBlock (t .
       let d = e .b in
       let v = e .c in
       let lj = three (isHost (t .creation) j) (isBlock (t .creation) d) true r .0 in
-      let o : Operation = record { block = d; action = Action.Write v } in
+      let o = operationOf d (Action.Write v) in
       plain _ (rw k refl) (ev-intake b h t f (i .shape) lb (i .good) j lj o (intake-place (hostOf t j) x))
       (intake-less t f j lj (i .shape) o (intake-place (hostOf t j) x)) refl
 

@@ -6,6 +6,7 @@ use lib.ListN.{replicate}
 use lib.Dec.{eqb}
 use Rattle.one_copy.specs.Types.{Set, Creation, Event, Outcome}
 use Rattle.one_copy.specs.Listed.{Write, listed, lastBefore}
+use Rattle.rules.specs.Built.{creationOf}
 use Rattle.rules.specs.Creation.{fresh}
 use Rattle.rules.specs.Limits.{hostLimit}
 use Rattle.rules.specs.Runs.{Told, told, Ledger, nothing, noted, lastOf, isNone}
@@ -69,10 +70,10 @@ abbrev onBoth : Set
 onBoth = record { chunks = true ∷ true ∷ replicate 6 false }
 
 abbrev pub oneBlock : Creation
-oneBlock = record { hosts = 2; chunks = 2; blocks = 1; age = 100; sets = onBoth ∷ replicate 15 zeroSet }
+oneBlock = creationOf 2 2 1 100 (onBoth ∷ replicate 15 zeroSet)
 
 abbrev pub twoBlocks : Creation
-twoBlocks = record { hosts = 2; chunks = 2; blocks = 2; age = 100; sets = onBoth ∷ onBoth ∷ replicate 14 zeroSet }
+twoBlocks = creationOf 2 2 2 100 (onBoth ∷ onBoth ∷ replicate 14 zeroSet)
 
 abbrev event : (kind a b c : ℕ) → Event
 event kind a b c = record { kind = kind; a = a; b = b; c = c }

@@ -10,6 +10,7 @@ use lib.Dec.{eqb}
 use lib.Seq.{getD-set-same, getD-set-other}
 use borrow.Author.Tests.{lt-ltb, eqb-true, eqb-false, eq-eqb, ne-eqb}
 use Rattle.rules.specs.Types.{Timestamp, Set, Creation, Action, Operation, Queue, Host, Message, Slot, Table, Event, Outcome, Answer}
+use Rattle.rules.specs.Built.{operationOf}
 use Rattle.rules.specs.Codes.{codeOf}
 use Rattle.rules.specs.Creation.{freshHost, fresh}
 use Rattle.rules.specs.Events.{EventKind, quietly, holdersOf, readRule, writeRule, startRule, takes, kindOf, ranges, ruleOf, rows, done, step}
@@ -349,14 +350,14 @@ module _ (l : Ledger) (t : Table) (i : Kept l t) (e : Event) where
   reads : e .kind ≡ 1 → Grants (kindOf 1)
   unfolding kindOf place
   reads k f r c =
-      let o : Operation = record { block = e .b; action = Action.Read } in
+      let o = operationOf (e .b) Action.Read in
       let row : readRule t (e .a) (e .b) (e .c) .effect .table .hosts ≡ withHost t (e .a) (appended (hostOf t (e .a)) o) .hosts = refl in
       rw k (still _ _ _ (same _ _ row) (took l t f i (e .a) (three _ _ _ r .0) o c))
 
   writes : e .kind ≡ 2 → Grants (kindOf 2)
   unfolding kindOf place
   writes k f r c =
-      let o : Operation = record { block = e .b; action = Action.Write (e .c) } in
+      let o = operationOf (e .b) (Action.Write (e .c)) in
       let row : writeRule t (e .a) (e .b) (e .c) .effect .table .hosts ≡ withHost t (e .a) (appended (hostOf t (e .a)) o) .hosts = refl in
       rw k (still _ _ _ (same _ _ row) (took l t f i (e .a) (three _ _ _ r .0) o c))
 

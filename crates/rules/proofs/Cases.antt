@@ -6,6 +6,7 @@ use mathlib.Core.List.{List, [], _∷_}
 use lib.ListN.{drop, replicate}
 use lib.Dec.{eqb}
 use Rattle.rules.specs.Types.{Timestamp, Set, Kind, Entry, Record, State, Action, Message, Request, Refusal, Sort, Slot, Table, Event, Answer}
+use Rattle.rules.specs.Built.{creationOf, operationOf}
 use Rattle.rules.specs.Chunks.{atChunk, arrived}
 use Rattle.rules.specs.Codes.{codeOf}
 use Rattle.rules.specs.Creation.{fresh, firstEpoch, isCreation}
@@ -26,7 +27,7 @@ abbrev onBoth : Set
 onBoth = record { chunks = true ∷ true ∷ replicate 6 false }
 
 abbrev store : Table
-store = fresh (record { hosts = 1; chunks = 2; blocks = 1; age = 100; sets = onBoth ∷ replicate 15 zeroSet })
+store = fresh (creationOf 1 2 1 100 (onBoth ∷ replicate 15 zeroSet))
 
 abbrev stamped : ℕ → Timestamp
 stamped t = record { 0 = t }
@@ -126,7 +127,7 @@ overdue-at now gives x ⨾ more =
 -- P12: "last clock drawn 5"
 abbrev starting-at_gives_⨾_ : (clock : ℕ) → Seen → List Case → List Case
 starting-at clock gives x ⨾ more =
-    let h = withClock (refreshed (appended (hostOf store 0) (record { block = 0; action = Action.Read })) firstEpoch) 5 in
+    let h = withClock (refreshed (appended (hostOf store 0) (operationOf 0 Action.Read)) firstEpoch) 5 in
     record { table = withHost store 0 h; event = event 3 0 clock 0; look = codeIn; expected = x } ∷ more
 
 abbrev end : List Case

@@ -11,7 +11,7 @@ use Rattle.rules.specs.Types.{Timestamp, Epoch, Creation, Kind, Entry, W
 use Rattle.rules.specs.Chunks.{withState, withValue, withRead, withWrite, withWaiting, answering, silent, entryOf, arrived, decides, atChunk, runs, ran, failed, emptied, recoverRefusals, takeLeaseRefusals, giveLeaseRefusals, overdue, arrives}
 use Rattle.rules.specs.Codes.{Row}
 use Rattle.rules.specs.Creation.{isCreation}
-use Rattle.rules.specs.Events.{chunkTakes, hostTakes, takes, chunkRule, _does_, kindOf}
+use Rattle.rules.specs.Events.{chunkTakes, hostTakes, takes, chunkRule, _does_, kindOf, withArrived}
 use Rattle.rules.specs.Formed.{chunkFormed, entryFormed, waitingFormed, recordFormed, messageFormed, slotFormed, sortFormed}
 use Rattle.rules.specs.Hosts.{hears}
 use Rattle.rules.specs.Kinds.{isWrite, isNormal}
@@ -102,24 +102,27 @@ module _ (k : Creation) where
           let f = five (eqb (r .value) 0) (r .read is never) (r .write is never) (eqb (w .count) 0) (allUnused w) h in
           rw (f .0, f .1, f .2) none-used
 
-  -- ---- what a message or a run makes of chunk c's record of block b: a record that may stand there, and a formed reply
+  -- ---- what a message or a run makes of chunk c and its record of block b: a formed chunk, a record that may stand there, and a
+  -- formed reply
 
-  record Arrives (c b : ℕ) (a : Arrived) : Type 0 where
-    block : RecordAt k c b (a .block)
+  record Arrives (now : Epoch) (c b : ℕ) (a : Arrived) : Type 0 where
+    chunk : chunkFormed k now (a .chunk) ≡ true
+    held : RecordAt k c b (a .held)
     reply : slotFormed k (a .reply) ≡ true
 
-  module _ (c b : ℕ) where
+  module _ (now : Epoch) (x : Chunk) (o : chunkFormed k now x ≡ true) (c b : ℕ) where
     -- a formed reply
     answers : (r : Record) (header : Header) (s : Sort) → RecordAt k c b r → FormedHeader k header → sortFormed s ≡ true
-        → Arrives c b (answering r header s)
-    answers r header s h f e = record { block = h; reply = message-formed k header s f e }
+        → Arrives now c b (answering x r header s)
+    answers r header s h f e = record { chunk = o; held = h; reply = message-formed k header s f e }
 
     -- no reply
-    is-silent : (r : Record) → RecordAt k c b r → Arrives c b (silent r)
-    is-silent r h = record { block = h; reply = refl }
+    is-silent : (r : Record) → RecordAt k c b r → Arrives now c b (silent x r)
+    is-silent r h = record { chunk = o; held = h; reply = refl }
 
   -- a message at the record of its chunk and block
-  module _ (r : Record) (header : Header) (h : RecordAt k (header .chunk) (header .block) r) (f : FormedHeader k header) where
+  module _ (now : Epoch) (x : Chunk) (o : chunkFormed k now x ≡ true) (r : Record) (header : Header)
+      (h : RecordAt k (header .chunk) (header .block) r) (f : FormedHeader k header) where
     abbrev c : ℕ
     c = header .chunk
 
@@ -131,77 +134,79 @@ module _ (k : Creation) where
         → RecordAt k c b (withWaiting r w)
     waits-at l w g =
         let e = lt-ltb b (k .blocks) l in
-        let now : recordFormed k r ≡ true = rw (f .chunk, e) at h in
-        rw (f .chunk, e) (rewaited r w now (g (record-facts k r now .waiting)))
+        let formed : recordFormed k r ≡ true = rw (f .chunk, e) at h in
+        rw (f .chunk, e) (rewaited r w formed (g (record-facts k r formed .waiting)))
 
     -- a read or a prewrite
-    arrived-at : (current epoch : Epoch) (kind : Kind) → isEpoch epoch ≡ true
-        → Arrives c b (arrived (k .blocks) current r header epoch kind)
-    arrived-at current epoch kind e =
-        let x = entryOf header epoch kind in
-        let now = withWaiting r (inserted (r .waiting) x) in
-        let formed : entryFormed k x ≡ true = rw (f .timestamp, f .host, e) refl in
-        arrived-walk (Arrives c b) (k .blocks) current r header epoch kind (λ why. answers c b r header (Sort.Refusal why) h f refl) (λ p.
-        let z = waits-at (p .block) (inserted (r .waiting) x) (λ w. inserted-formed (r .waiting) x w formed (p .room)) in
-        walk (Arrives c b) (isWrite kind) _ _ (λ _. answers c b now header Sort.PrewriteReply z f refl) (λ _. is-silent c b now z))
+    arrived-at : (epoch : Epoch) (kind : Kind) → isEpoch epoch ≡ true → Arrives now c b (arrived (k .blocks) x r header epoch kind)
+    arrived-at epoch kind e =
+        let y = entryOf header epoch kind in
+        let longer = withWaiting r (inserted (r .waiting) y) in
+        let formed : entryFormed k y ≡ true = rw (f .timestamp, f .host, e) refl in
+        arrived-walk (Arrives now c b) (k .blocks) x r header epoch kind (λ why. answers now x o c b r header (Sort.Refusal why) h f refl) (λ p.
+        let z = waits-at (p .block) (inserted (r .waiting) y) (λ w. inserted-formed (r .waiting) y w formed (p .room)) in
+        walk (Arrives now c b) (isWrite kind) _ _ (λ _. answers now x o c b longer header Sort.PrewriteReply z f refl)
+        (λ _. is-silent now x o c b longer z))
 
     -- a commit or an abort
-    decides-at : (commit : Bool) → Arrives c b (decides (k .blocks) r header commit)
+    decides-at : (commit : Bool) → Arrives now c b (decides (k .blocks) x r header commit)
     decides-at commit =
         let w = marked commit (header .timestamp) (r .waiting) in
-        decides-walk (Arrives c b) (k .blocks) r header commit
-        (λ inside. is-silent c b (withWaiting r w) (waits-at inside w (marked-formed commit (header .timestamp) (r .waiting))))
-        (is-silent c b r h)
+        decides-walk (Arrives now c b) (k .blocks) x r header commit
+        (λ inside. is-silent now x o c b (withWaiting r w) (waits-at inside w (marked-formed commit (header .timestamp) (r .waiting))))
+        (is-silent now x o c b r h)
 
     -- any sort
-    at-chunk : (current : Epoch) (s : Sort) → sortFormed s ≡ true → Arrives c b (atChunk (k .blocks) current r header s)
+    at-chunk : (s : Sort) → sortFormed s ≡ true → Arrives now c b (atChunk (k .blocks) x r header s)
     unfolding atChunk
-    at-chunk current (Sort.Request epoch Request.Read) g = arrived-at current epoch Kind.Read g
-    at-chunk current (Sort.Request epoch (Request.Prewrite v)) g = arrived-at current epoch (Kind.Undecided v) g
-    at-chunk current (Sort.Request epoch Request.Commit) g = decides-at true
-    at-chunk current (Sort.Request epoch Request.Abort) g = decides-at false
-    at-chunk current (Sort.Refusal x) g = is-silent c b r h
-    at-chunk current (Sort.ReadReply v) g = is-silent c b r h
-    at-chunk current Sort.PrewriteReply g = is-silent c b r h
+    at-chunk (Sort.Request epoch Request.Read) g = arrived-at epoch Kind.Read g
+    at-chunk (Sort.Request epoch (Request.Prewrite v)) g = arrived-at epoch (Kind.Undecided v) g
+    at-chunk (Sort.Request epoch Request.Commit) g = decides-at true
+    at-chunk (Sort.Request epoch Request.Abort) g = decides-at false
+    at-chunk (Sort.Refusal y) g = is-silent now x o c b r h
+    at-chunk (Sort.ReadReply v) g = is-silent now x o c b r h
+    at-chunk Sort.PrewriteReply g = is-silent now x o c b r h
 
   -- any message, at a chunk in any state
-  arrives-at : (x : Chunk) (r : Record) (m : Message) → RecordAt k (headerOf m .chunk) (headerOf m .block) r → messageFormed k m ≡ true
-      → Arrives (headerOf m .chunk) (headerOf m .block) (arrives (k .blocks) x r m)
-  arrives-at x r m h g =
+  arrives-at : (now : Epoch) (x : Chunk) (r : Record) (m : Message) → chunkFormed k now x ≡ true
+      → RecordAt k (headerOf m .chunk) (headerOf m .block) r → messageFormed k m ≡ true
+      → Arrives now (headerOf m .chunk) (headerOf m .block) (arrives (k .blocks) x r m)
+  arrives-at now x r m o h g =
       let f = message-facts k m g in
-      walk (Arrives (headerOf m .chunk) (headerOf m .block)) (isNormal (x .state)) _ _
-      (λ _. at-chunk r (headerOf m) h (f .header) (x .epoch) (sortOf m) (f .sort))
-      (λ _. is-silent (headerOf m .chunk) (headerOf m .block) r h)
+      walk (Arrives now (headerOf m .chunk) (headerOf m .block)) (isNormal (x .state)) _ _
+      (λ _. at-chunk now x o r (headerOf m) h (f .header) (sortOf m) (f .sort))
+      (λ _. is-silent now x o (headerOf m .chunk) (headerOf m .block) r h)
 
   -- a run at the record of a chunk and block of the store's
-  module _ (w : isCreation k ≡ true) (c b : ℕ) (d : isChunk k c ≡ true) (e : isBlock k b ≡ true) where
+  module _ (w : isCreation k ≡ true) (now : Epoch) (x : Chunk) (o : chunkFormed k now x ≡ true)
+      (c b : ℕ) (d : isChunk k c ≡ true) (e : isBlock k b ≡ true) where
     -- a formed record stands there
     stands : (r : Record) → FormedRecord k r → RecordAt k c b r
     stands r f = rw (d, e) (record-formed k r f)
 
     -- an entry of each kind, out of the waiting list
-    runs-at : (r : Record) (x : Entry) (kind : Kind) → FormedRecord k r → entryFormed k x ≡ true → Arrives c b (runs c b r x kind)
-    runs-at r x (Kind.Aborted v) f g = is-silent c b r (stands r f)
-    runs-at r x (Kind.Undecided v) f g = is-silent c b r (stands r f)
-    runs-at r x (Kind.Committed v) f g =
-        let t = three (isTimestamp (x .timestamp)) (isHost k (x .sender)) (isEpoch (x .epoch)) g in
-        let now = withWrite (withValue r v) (later (r .write) (x .timestamp)) in
-        let up = later-formed (r .write) (x .timestamp) (f .write) (t .0) in
-        is-silent c b now (stands now (record { read = f .read; write = up; waiting = f .waiting }))
-    runs-at r x Kind.Read f g =
-        let t = three (isTimestamp (x .timestamp)) (isHost k (x .sender)) (isEpoch (x .epoch)) g in
-        let header = headed (x .sender) c b (x .timestamp) in
-        let now = withRead r (later (r .read) (x .timestamp)) in
+    runs-at : (r : Record) (y : Entry) (kind : Kind) → FormedRecord k r → entryFormed k y ≡ true → Arrives now c b (runs c b x r y kind)
+    runs-at r y (Kind.Aborted v) f g = is-silent now x o c b r (stands r f)
+    runs-at r y (Kind.Undecided v) f g = is-silent now x o c b r (stands r f)
+    runs-at r y (Kind.Committed v) f g =
+        let t = three (isTimestamp (y .timestamp)) (isHost k (y .sender)) (isEpoch (y .epoch)) g in
+        let written = withWrite (withValue r v) (later (r .write) (y .timestamp)) in
+        let up = later-formed (r .write) (y .timestamp) (f .write) (t .0) in
+        is-silent now x o c b written (stands written (record { read = f .read; write = up; waiting = f .waiting }))
+    runs-at r y Kind.Read f g =
+        let t = three (isTimestamp (y .timestamp)) (isHost k (y .sender)) (isEpoch (y .epoch)) g in
+        let header = headed (y .sender) c b (y .timestamp) in
+        let seen = withRead r (later (r .read) (y .timestamp)) in
         let l = lt-ltb b blockLimit (block-place k b e w) in
         let fits : FormedHeader k header = record { host = t .1; chunk = d; block = l; timestamp = t .0 } in
-        let up = later-formed (r .read) (x .timestamp) (f .read) (t .0) in
-        let raised = stands now (record { read = up; write = f .write; waiting = f .waiting }) in
-        walk (Arrives c b) (x .timestamp below r .write) _ _
-        (λ _. answers c b r header (Sort.Refusal Refusal.OutOfOrder) (stands r f) fits refl)
-        (λ _. answers c b now header (Sort.ReadReply (r .value)) raised fits refl)
+        let up = later-formed (r .read) (y .timestamp) (f .read) (t .0) in
+        let raised = stands seen (record { read = up; write = f .write; waiting = f .waiting }) in
+        walk (Arrives now c b) (y .timestamp below r .write) _ _
+        (λ _. answers now x o c b r header (Sort.Refusal Refusal.OutOfOrder) (stands r f) fits refl)
+        (λ _. answers now x o c b seen header (Sort.ReadReply (r .value)) raised fits refl)
 
     -- the head
-    ran-at : (r : Record) → recordFormed k r ≡ true → 0 < r .waiting .count → Arrives c b (ran c b r)
+    ran-at : (r : Record) → recordFormed k r ≡ true → 0 < r .waiting .count → Arrives now c b (ran c b x r)
     unfolding ran
     ran-at r h n =
         let f = record-facts k r h in
@@ -231,6 +236,14 @@ module _ (k : Creation) where
 -- ---- the network's events
 
 module _ (t : Table) (f : Formed t) where
+  -- what a message or a run leaves
+  arrived-kept : (c b : ℕ) (a : Arrived) → isChunk (t .creation) c ≡ true → b < blockLimit → Arrives (t .creation) (t .epoch) c b a
+      → Formed (withArrived t c b a)
+  arrived-kept c b a d l r =
+      let u = withChunk t c (a .chunk) in
+      replied-kept (withRecord u c b (a .held)) (record-kept u (chunk-kept t f c (a .chunk) d (r .chunk)) c b (a .held) l (r .held))
+      (a .reply) (r .reply)
+
   -- a message at its chunk
   chunk-takes : (m : Message) → messageFormed (t .creation) m ≡ true → Formed (chunkTakes t (headerOf m) m)
   chunk-takes m g =
@@ -239,9 +252,8 @@ module _ (t : Table) (f : Formed t) where
       let h = message-facts (t .creation) m g .header in
       let l = ltb-true b blockLimit (h .block) in
       let old = f .records c b (chunk-place (t .creation) c (h .chunk) (f .creation)) l in
-      let r = arrives-at (t .creation) (chunkOf t c) (recordOf t c b) m old g in
-      let a = arrives (t .creation .blocks) (chunkOf t c) (recordOf t c b) m in
-      replied-kept (withRecord t c b (a .block)) (record-kept t f c b (a .block) l (r .block)) (a .reply) (r .reply)
+      arrived-kept c b (arrives (t .creation .blocks) (chunkOf t c) (recordOf t c b) m) (h .chunk) l
+      (arrives-at (t .creation) (t .epoch) (chunkOf t c) (recordOf t c b) m (chunk-of t f c (h .chunk)) old g)
 
   -- a reply at its host
   host-takes : (m : Message) → messageFormed (t .creation) m ≡ true → Formed (hostTakes t (headerOf m) m)
@@ -278,14 +290,14 @@ module _ (t : Table) where
   pub run-kept : Keeps t (kindOf 9)
   unfolding kindOf place
   run-kept chunk block _ f e p =
+      let x = chunkOf t chunk in
       let r = recordOf t chunk block in
-      let a = ran chunk block r in
       let s = three _ _ _ e in
       let l = block-place creation block (s .1) (f .creation) in
-      let some = run-head (chunkOf t chunk .state) (r .waiting) (freePlaces (t .places)) p in
+      let some = run-head (x .state) (r .waiting) (freePlaces (t .places)) p in
       let old = record-of t f chunk block (chunk-place creation chunk (s .0) (f .creation)) l in
-      let g = ran-at creation (f .creation) chunk block (s .0) (s .1) r old some in
-      replied-kept (withRecord t chunk block (a .block)) (record-kept t f chunk block (a .block) l (g .block)) (a .reply) (g .reply)
+      arrived-kept t f chunk block (ran chunk block x r) (s .0) l
+      (ran-at creation (f .creation) (t .epoch) x (chunk-of t f chunk (s .0)) chunk block (s .0) (s .1) r old some)
 
   -- 11 fail
   pub fail-kept : Keeps t (kindOf 11)

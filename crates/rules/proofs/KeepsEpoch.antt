@@ -31,16 +31,16 @@ greatest-formed l h = fold-keeps isTimestamp (λ (x : Timestamp). isTimestamp x 
 module _ (k : Creation) where
   -- a copy with a formed record
   abbrev copyFormed : Copy → Bool
-  copyFormed c = recordFormed k (c .block)
+  copyFormed c = recordFormed k (c .held)
 
   -- the writes that wait in a copy have timestamps
   writes-of-formed : (c : Copy) → copyFormed c ≡ true → every isTimestamp (writesOf c) ≡ true
   writes-of-formed c h =
-      let w = c .block .waiting in
+      let w = c .held .waiting in
       every-each isTimestamp (entryFormed k) (λ (e : Entry). e .timestamp) (those (λ e. isWrite (e .kind)) (waiting c))
       (λ e g. three (isTimestamp (e .timestamp)) (isHost k (e .sender)) (isEpoch (e .epoch)) g .0)
       (every-of-all (entryFormed k) (λ e. isWrite (e .kind)) (waiting c)
-      (entries-formed k w (waiting-facts k w (record-facts k (c .block) h .waiting))))
+      (entries-formed k w (waiting-facts k w (record-facts k (c .held) h .waiting))))
 
   module _ (copies : List Copy) (h : every copyFormed copies ≡ true) where
     -- the greatest over the set
@@ -53,7 +53,7 @@ module _ (k : Creation) where
     -- W, the latest committed one, and the settled record
     W-formed : isTimestamp (W copies) ≡ true
     unfolding W
-    W-formed = over-set lastWrite (λ c g. record-facts k (c .block) g .write)
+    W-formed = over-set lastWrite (λ c g. record-facts k (c .held) g .write)
 
     latest-formed : isTimestamp (latest copies) ≡ true
     unfolding latest commits writes
@@ -66,7 +66,7 @@ module _ (k : Creation) where
     settled-formed : recordFormed k (settledRecord copies) ≡ true
     unfolding settledRecord
     settled-formed = record-formed k (settledRecord copies) (record {
-      read = over-set lastRead (λ c g. record-facts k (c .block) g .read);
+      read = over-set lastRead (λ c g. record-facts k (c .held) g .read);
       write = walk (λ (x : Timestamp). isTimestamp x ≡ true) (some (committed copies) (writes copies)) (latest copies) (W copies)
           (λ _. latest-formed) (λ _. W-formed);
       waiting = none-waiting k;
@@ -79,13 +79,13 @@ module _ (t : Table) (f : Formed t) where
   creation = t .creation
 
   -- a copy in the set is the settled record; any other is emptied
-  settled-at : (c b : ℕ) → c < chunkLimit → b < blockLimit → RecordAt creation c b (getD (settled (copiesOf t b)) c noCopy .block)
+  settled-at : (c b : ℕ) → c < chunkLimit → b < blockLimit → RecordAt creation c b (getD (settled (copiesOf t b)) c noCopy .held)
   unfolding settled
   settled-at c b l m =
       let copies = copiesOf t b in
       let s = setOf creation b in
-      let after : Copy → Record = λ x. cond (inSet x) (settledRecord copies) (emptied (x .block)) in
-      let now : Copy → Copy = λ x. record { member = x .member; lost = x .lost; block = after x } in
+      let after : Copy → Record = λ x. cond (inSet x) (settledRecord copies) (emptied (x .held)) in
+      let now : Copy → Copy = λ x. record { member = x .member; lost = x .lost; held = after x } in
       rw (each-each-number now (copyIn creation (t .chunks) (t .records) b) chunkLimit c noCopy l)
       (walk (RecordAt creation c b) (c among s) (settledRecord copies) (emptied (recordOf t c b))
       (λ e.
@@ -114,7 +114,7 @@ module _ (t : Table) (f : Formed t) where
     epoch = e;
     hosts = f .hosts;
     chunks = λ c l. rw (each-number now chunkLimit c noChunk l) (renewed-at c l);
-    records = records-kept t f (λ c b. getD (settled (copiesOf t b)) c noCopy .block) settled-at .records;
+    records = records-kept t f (λ c b. getD (settled (copiesOf t b)) c noCopy .held) settled-at .records;
     places = f .places;
   }
 

@@ -4,7 +4,7 @@ use mathlib.Core.Path.{_≡_, refl}
 use mathlib.Core.Bool.{Bool, false, not}
 use lib.Dec.{ltb, leb}
 use borrow.Author.Tests.{ltb-true, leb-false, eqb-true, not-false}
-use Rattle.rules.specs.Types.{Epoch, Kind, Record, Attempt, Host, Header, Message, Request, Refusal, Sort, Arrived}
+use Rattle.rules.specs.Types.{Epoch, Kind, Record, Attempt, Host, Header, Message, Request, Refusal, Sort, Arrived, Chunk}
 use Rattle.rules.specs.Chunks.{withWaiting, refusing, silent, isOutOfOrder, waits, arrived, decides}
 use Rattle.rules.specs.Hosts.{answeredBy, heard, counts, atHost, hears}
 use Rattle.rules.specs.Limits.{waitingLimit}
@@ -29,35 +29,35 @@ made h Sort.PrewriteReply = (refl, refl)
 -- ---- at a chunk
 
 -- what a read or a prewrite that waits has passed
-pub record Passed (blocks : ℕ) (now : Epoch) (r : Record) (header : Header) (epoch : Epoch) (kind : Kind) : Type 0 where
-  pub current : epoch .0 ≡ now .0
+pub record Passed (blocks : ℕ) (c : Chunk) (r : Record) (header : Header) (epoch : Epoch) (kind : Kind) : Type 0 where
+  pub current : epoch .0 ≡ c .epoch .0
   pub block : header .block < blocks
   pub order : isOutOfOrder kind (header .timestamp) r ≡ false
   pub room : r .waiting .count < waitingLimit
 
 -- a read or a prewrite is refused, or it waits
-pub arrived-walk : (P : Arrived → Type 0) (blocks : ℕ) (current : Epoch) (r : Record) (header : Header) (epoch : Epoch) (kind : Kind)
-    → ((x : Refusal) → P (refusing r header x)) → (Passed blocks current r header epoch kind → P (waits r header epoch kind))
-    → P (arrived blocks current r header epoch kind)
+pub arrived-walk : (P : Arrived → Type 0) (blocks : ℕ) (c : Chunk) (r : Record) (header : Header) (epoch : Epoch) (kind : Kind)
+    → ((x : Refusal) → P (refusing c r header x)) → (Passed blocks c r header epoch kind → P (waits c r header epoch kind))
+    → P (arrived blocks c r header epoch kind)
 unfolding arrived
-arrived-walk P blocks current r header epoch kind refuse wait =
-    walk P (not (epoch same current)) _ _ (λ _. refuse Refusal.Mismatch) (λ e.
+arrived-walk P blocks c r header epoch kind refuse wait =
+    walk P (not (epoch same c .epoch)) _ _ (λ _. refuse Refusal.Mismatch) (λ e.
     walk P (not (ltb (header .block) blocks)) _ _ (λ _. refuse Refusal.Error) (λ l.
     walk P (isOutOfOrder kind (header .timestamp) r) _ _ (λ _. refuse Refusal.OutOfOrder) (λ o.
     walk P (leb waitingLimit (r .waiting .count)) _ _ (λ _. refuse Refusal.Busy) (λ n.
     wait (record {
-      current = eqb-true (epoch .0) (current .0) (not-false (epoch same current) e);
+      current = eqb-true (epoch .0) (c .epoch .0) (not-false (epoch same c .epoch) e);
       block = ltb-true (header .block) blocks (not-false (ltb (header .block) blocks) l);
       order = o;
       room = leb-false waitingLimit (r .waiting .count) n;
     })))))
 
 -- a commit or an abort marks, or does nothing
-pub decides-walk : (P : Arrived → Type 0) (blocks : ℕ) (r : Record) (header : Header) (commit : Bool)
-    → (header .block < blocks → P (silent (withWaiting r (marked commit (header .timestamp) (r .waiting))))) → P (silent r)
-    → P (decides blocks r header commit)
+pub decides-walk : (P : Arrived → Type 0) (blocks : ℕ) (c : Chunk) (r : Record) (header : Header) (commit : Bool)
+    → (header .block < blocks → P (silent c (withWaiting r (marked commit (header .timestamp) (r .waiting))))) → P (silent c r)
+    → P (decides blocks c r header commit)
 unfolding decides
-decides-walk P blocks r header commit mark none =
+decides-walk P blocks c r header commit mark none =
     walk P (ltb (header .block) blocks) _ _ (λ l. mark (ltb-true (header .block) blocks l)) (λ _. none)
 
 -- ---- at a host

@@ -36,15 +36,15 @@ withWrite r x = record { value = r .value; read = r .read; write = x; waiting = 
 abbrev pub withWaiting : Record → Waiting → Record
 withWaiting r x = record { value = r .value; read = r .read; write = r .write; waiting = x }
 
--- the record, with a reply or with none. A reply has its request's header
-abbrev pub answering : Record → Header → Sort → Arrived
-answering r header s = record { block = r; reply = Slot.Full (messageOf header s) }
+-- the chunk and its record, with a reply or with none. A reply has its request's header
+abbrev pub answering : Chunk → Record → Header → Sort → Arrived
+answering c r header s = record { chunk = c; held = r; reply = Slot.Full (messageOf header s) }
 
-abbrev pub refusing : Record → Header → Refusal → Arrived
-refusing r header x = answering r header (Sort.Refusal x)
+abbrev pub refusing : Chunk → Record → Header → Refusal → Arrived
+refusing c r header x = answering c r header (Sort.Refusal x)
 
-abbrev pub silent : Record → Arrived
-silent r = record { block = r; reply = Slot.Empty }
+abbrev pub silent : Chunk → Record → Arrived
+silent c r = record { chunk = c; held = r; reply = Slot.Empty }
 
 -- ---- "Read or prewrite at a chunk, in this order"
 
@@ -57,42 +57,42 @@ abbrev pub entryOf : Header → Epoch → Kind → Entry
 entryOf header epoch kind = record { timestamp = header .timestamp; sender = header .host; epoch = epoch; kind = kind }
 
 -- "else it waits, after its equals, and a prewrite is answered with a prewrite reply"
-abbrev pub waits : Record → Header → Epoch → Kind → Arrived
-waits r header epoch kind =
+abbrev pub waits : Chunk → Record → Header → Epoch → Kind → Arrived
+waits c r header epoch kind =
     let now = withWaiting r (inserted (r .waiting) (entryOf header epoch kind)) in
-    if isWrite kind then answering now header Sort.PrewriteReply else silent now
+    if isWrite kind then answering c now header Sort.PrewriteReply else silent c now
 
-unfoldable pub arrived : (blocks : ℕ) → Epoch → Record → Header → Epoch → Kind → Arrived
-arrived blocks current r header epoch kind =
+unfoldable pub arrived : (blocks : ℕ) → Chunk → Record → Header → Epoch → Kind → Arrived
+arrived blocks c r header epoch kind =
     -- "epoch differs, version mismatch"
-    if not (epoch same current) then refusing r header Refusal.Mismatch else
+    if not (epoch same c .epoch) then refusing c r header Refusal.Mismatch else
     -- "block outside 0 to blocks-1, error"
-    if not (ltb (header .block) blocks) then refusing r header Refusal.Error else
-    if isOutOfOrder kind (header .timestamp) r then refusing r header Refusal.OutOfOrder else
+    if not (ltb (header .block) blocks) then refusing c r header Refusal.Error else
+    if isOutOfOrder kind (header .timestamp) r then refusing c r header Refusal.OutOfOrder else
     -- "8 waiting, busy"
-    if leb waitingLimit (r .waiting .count) then refusing r header Refusal.Busy else
-    waits r header epoch kind
+    if leb waitingLimit (r .waiting .count) then refusing c r header Refusal.Busy else
+    waits c r header epoch kind
 
 -- "Commit and abort ignore the epoch and act on the first entry in waiting order with that timestamp ..; otherwise, or for a
 -- block outside, nothing changes"
-unfoldable pub decides : (blocks : ℕ) → Record → Header → (commit : Bool) → Arrived
-decides blocks r header commit =
-    if ltb (header .block) blocks then silent (withWaiting r (marked commit (header .timestamp) (r .waiting))) else
-    silent r
+unfoldable pub decides : (blocks : ℕ) → Chunk → Record → Header → (commit : Bool) → Arrived
+decides blocks c r header commit =
+    if ltb (header .block) blocks then silent c (withWaiting r (marked commit (header .timestamp) (r .waiting))) else
+    silent c r
 
--- a message at a chunk of the given epoch, with its record of the message's block. (Replies go to hosts.)
-unfoldable pub atChunk : (blocks : ℕ) → Epoch → Record → Header → Sort → Arrived
-atChunk blocks current r header (Sort.Request epoch Request.Read) = arrived blocks current r header epoch Kind.Read
-atChunk blocks current r header (Sort.Request epoch (Request.Prewrite v)) = arrived blocks current r header epoch (Kind.Undecided v)
-atChunk blocks current r header (Sort.Request epoch Request.Commit) = decides blocks r header true
-atChunk blocks current r header (Sort.Request epoch Request.Abort) = decides blocks r header false
-atChunk blocks current r header (Sort.Refusal x) = silent r
-atChunk blocks current r header (Sort.ReadReply v) = silent r
-atChunk blocks current r header Sort.PrewriteReply = silent r
+-- a message at a chunk, with its record of the message's block. (Replies go to hosts.)
+unfoldable pub atChunk : (blocks : ℕ) → Chunk → Record → Header → Sort → Arrived
+atChunk blocks c r header (Sort.Request epoch Request.Read) = arrived blocks c r header epoch Kind.Read
+atChunk blocks c r header (Sort.Request epoch (Request.Prewrite v)) = arrived blocks c r header epoch (Kind.Undecided v)
+atChunk blocks c r header (Sort.Request epoch Request.Commit) = decides blocks c r header true
+atChunk blocks c r header (Sort.Request epoch Request.Abort) = decides blocks c r header false
+atChunk blocks c r header (Sort.Refusal x) = silent c r
+atChunk blocks c r header (Sort.ReadReply v) = silent c r
+atChunk blocks c r header Sort.PrewriteReply = silent c r
 
 -- "A failed or nolease chunk .. take no notice"
 abbrev pub arrives : (blocks : ℕ) → Chunk → Record → Message → Arrived
-arrives blocks c r m = if isNormal (c .state) then atChunk blocks (c .epoch) r (headerOf m) (sortOf m) else silent r
+arrives blocks c r m = if isNormal (c .state) then atChunk blocks c r (headerOf m) (sortOf m) else silent c r
 
 -- ---- "9 run (chunk, block): normal, head exists and isn't undecided (2); room if the head is a read (5)"
 
@@ -106,18 +106,18 @@ runRefusals state w free =
 
 -- "The head is removed; for an aborted one that is all. Committed: value set, last write raised to its timestamp. Read: below
 -- last write, out of order goes to the sender; else last read is raised and a read reply goes"
-abbrev pub runs : (chunk block : ℕ) → Record → Entry → Kind → Arrived
-runs chunk block r e (Kind.Aborted v) = silent r
-runs chunk block r e (Kind.Committed v) = silent (withWrite (withValue r v) (later (r .write) (e .timestamp)))
-runs chunk block r e Kind.Read =
+abbrev pub runs : (chunk block : ℕ) → Chunk → Record → Entry → Kind → Arrived
+runs chunk block c r e (Kind.Aborted v) = silent c r
+runs chunk block c r e (Kind.Committed v) = silent c (withWrite (withValue r v) (later (r .write) (e .timestamp)))
+runs chunk block c r e Kind.Read =
     let header = headed (e .sender) chunk block (e .timestamp) in
-    if e .timestamp below r .write then refusing r header Refusal.OutOfOrder else
-    answering (withRead r (later (r .read) (e .timestamp))) header (Sort.ReadReply (r .value))
+    if e .timestamp below r .write then refusing c r header Refusal.OutOfOrder else
+    answering c (withRead r (later (r .read) (e .timestamp))) header (Sort.ReadReply (r .value))
 -- (never: an undecided head is refused)
-runs chunk block r e (Kind.Undecided v) = silent r
+runs chunk block c r e (Kind.Undecided v) = silent c r
 
-unfoldable pub ran : (chunk block : ℕ) → Record → Arrived
-ran chunk block r = runs chunk block (withWaiting r (headRemoved (r .waiting))) (head (r .waiting)) (head (r .waiting) .kind)
+unfoldable pub ran : (chunk block : ℕ) → Chunk → Record → Arrived
+ran chunk block c r = runs chunk block c (withWaiting r (headRemoved (r .waiting))) (head (r .waiting)) (head (r .waiting) .kind)
 
 -- ---- the chunk's own events; each is refused with 2 out of its state
 

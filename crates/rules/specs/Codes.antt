@@ -2,6 +2,7 @@
 use Prim.Native.Nat.{ℕ}
 use mathlib.Core.Bool.{Bool}
 use mathlib.Core.List.{List, [], _∷_}
+use lib.Dec.{eqb}
 use Rattle.rules.specs.Types.{Outcome}
 use Rattle.rules.specs.Words.{if_then_else_}
 
@@ -22,6 +23,10 @@ granted = []
 unfoldable pub codeOf : List Row → ℕ
 codeOf [] = 0
 codeOf (r ∷ rs) = if r .holds then r .code else codeOf rs
+
+-- what a refusal leaves as it was, and a granted event changes: "same", or its effect
+abbrev pub unlessRefused : {A : Type 0} → List Row → (same effect : A) → A
+unlessRefused rows same effect = if eqb (codeOf rows) 0 then effect else same
 
 -- ---- outcomes: "none 0, read done 1, write done 2, read failed 3, write failed 4;
 -- then host, block, value (all 0 for none; value 0 unless read done)"

@@ -4,8 +4,9 @@ use mathlib.Core.Bool.{Bool, false, not, _&&_}
 use mathlib.Core.List.{List, []}
 use lib.ListN.{getD}
 use lib.Dec.{eqb}
-use Rattle.rules.specs.Types.{Epoch, Set, Creation, Record, State, Chunk, Action, Operation, Host, Header, Message, Slot, Table, Copy, Event, Operands, Outcome, Answer}
+use Rattle.rules.specs.Types.{Epoch, Set, Creation, Record, State, Chunk, Action, Operation, Host, Header, Message, Slot, Table, Arrived, Copy, Event, Operands, Outcome, Answer}
 use Rattle.rules.specs.declared.Operand.the-variants.{Unknown as unknown, Unused as unused, Host as aHost, Chunk as aChunk, Block as aBlock, Place as aPlace, Clock as aClock, Now as aTime, Value as aValue}
+use Rattle.rules.specs.Built.{operationOf}
 use Rattle.rules.specs.Chunks.{runRefusals, ran, failRefusals, failed, emptied, recoverRefusals, recovered, takeLeaseRefusals, leaseTaken, giveLeaseRefusals, leaseGiven, overdueRefusals, overdue, arrives}
 use Rattle.rules.specs.Codes.{Row, _gives_⨾_, granted, codeOf}
 use Rattle.rules.specs.Formed.{wellFormed}
@@ -63,11 +64,11 @@ module _ (t : Table) where
 
   -- "1 read (host, block)"
   abbrev pub readRule : (host block c : ℕ) → Rule
-  readRule host block _ = intakeRule host (record { block = block; action = Action.Read })
+  readRule host block _ = intakeRule host (operationOf block Action.Read)
 
   -- "2 write (host, block, value)"
   abbrev pub writeRule : (host block value : ℕ) → Rule
-  writeRule host block value = intakeRule host (record { block = block; action = Action.Write value })
+  writeRule host block value = intakeRule host (operationOf block (Action.Write value))
 
   -- ---- hosts: start and finish
 
@@ -121,13 +122,16 @@ module _ (t : Table) where
 
   -- ---- the network
 
+  -- what a message or a run leaves: the chunk, its record, and the reply, if any, in the network
+  abbrev pub withArrived : (chunk block : ℕ) → Arrived → Table
+  withArrived c b a = withPlaces (withRecord (withChunk t c (a .chunk)) c b (a .held)) (replied (t .places) (a .reply))
+
   -- a request at its chunk, and its reply, if any
   abbrev pub chunkTakes : Header → Message → Table
   chunkTakes header m =
       let c = header .chunk in
       let b = header .block in
-      let a = arrives (t .creation .blocks) (chunkOf t c) (recordOf t c b) m in
-      withPlaces (withRecord t c b (a .block)) (replied (t .places) (a .reply))
+      withArrived c b (arrives (t .creation .blocks) (chunkOf t c) (recordOf t c b) m)
 
   -- a reply at its host
   abbrev pub hostTakes : Header → Message → Table
@@ -157,11 +161,11 @@ module _ (t : Table) where
   -- "9 run (chunk, block)"
   abbrev pub runRule : (chunk block c : ℕ) → Rule
   runRule chunk block _ =
+      let c = chunkOf t chunk in
       let r = recordOf t chunk block in
-      let a = ran chunk block r in
       record {
-        refusals = runRefusals (chunkOf t chunk .state) (r .waiting) (freePlaces (t .places));
-        effect = quietly (withPlaces (withRecord t chunk block (a .block)) (replied (t .places) (a .reply)));
+        refusals = runRefusals (c .state) (r .waiting) (freePlaces (t .places));
+        effect = quietly (withArrived t chunk block (ran chunk block c r));
       }
 
   -- "11 fail (chunk)"
@@ -198,7 +202,7 @@ module _ (t : Table) where
 
 -- a block's copies, one a chunk
 abbrev pub copyIn : Creation → List Chunk → List Record → (block chunk : ℕ) → Copy
-copyIn k chunks records b c = record { member = c among setOf k b; lost = getD chunks c noChunk .lost; block = getD records (at c b) noRecord }
+copyIn k chunks records b c = record { member = c among setOf k b; lost = getD chunks c noChunk .lost; held = getD records (at c b) noRecord }
 
 abbrev pub copiesIn : Creation → List Chunk → List Record → (block : ℕ) → List Copy
 copiesIn k chunks records b = each (copyIn k chunks records b) (numbers chunkLimit)
@@ -207,7 +211,7 @@ abbrev pub copiesOf : Table → (block : ℕ) → List Copy
 copiesOf t = copiesIn (t .creation) (t .chunks) (t .records)
 
 abbrev pub settledIn : Creation → List Chunk → List Record → List Record
-settledIn k chunks records = recordsBy (λ c b. getD (settled (copiesIn k chunks records b)) c noCopy .block)
+settledIn k chunks records = recordsBy (λ c b. getD (settled (copiesIn k chunks records b)) c noCopy .held)
 
 -- "reconciliation sets and lost marks cleared, the epoch grows by one in every chunk, and every chunk is normal"
 abbrev pub anew : (next : Epoch) → Chunk

@@ -4,6 +4,7 @@ pub mod Limits
 pub mod Timestamps
 pub mod Kinds
 pub mod Messages
+pub mod Built
 pub mod Zero
 pub mod Tables
 pub mod Codes

@@ -29,6 +29,10 @@ placeLimit = 64
 abbrev pub greatestClock : ℕ
 greatestClock = 4294967295
 
+-- "A timestamp is clock x 8 + host number"
+abbrev pub clockFactor : ℕ
+clockFactor = 8
+
 -- "a timestamp anything up to 34,359,738,367"
 abbrev pub greatestTimestamp : ℕ
 greatestTimestamp = 34359738367

@@ -6,6 +6,7 @@ use mathlib.Core.List.{List, [], _∷_, _++_}
 use lib.ListN.{getD, drop}
 use lib.Dec.{eqb}
 use Rattle.rules.specs.Types.{Timestamp, Action, Operation, Host, Table, Event, Outcome, Answer}
+use Rattle.rules.specs.Built.{operationOf}
 use Rattle.rules.specs.Events.{step}
 use Rattle.rules.specs.Hosts.{queueOf}
 use Rattle.rules.specs.Kinds.{isReading}
@@ -103,8 +104,8 @@ noted l m =
     let c = m .event .c in
     let x = l .accounts host in
     if not (eqb (m .code) 0) then l else
-    if eqb kind 1 then withAccount l host (takenIn x (record { block = b; action = Action.Read })) else
-    if eqb kind 2 then withAccount l host (takenIn x (record { block = b; action = Action.Write c })) else
+    if eqb kind 1 then withAccount l host (takenIn x (operationOf b Action.Read)) else
+    if eqb kind 2 then withAccount l host (takenIn x (operationOf b (Action.Write c))) else
     if eqb kind 3 then record {
       accounts = withAccount l host (tried x) .accounts;
       begun = l .begun ++ attempt (stamp b host) host x ∷ [];

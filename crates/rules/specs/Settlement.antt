@@ -23,13 +23,13 @@ abbrev pub notLost : Copy → Bool
 notLost c = c .member && not (c .lost)
 
 abbrev pub lastRead : Copy → Timestamp
-lastRead c = c .block .read
+lastRead c = c .held .read
 
 abbrev pub lastWrite : Copy → Timestamp
-lastWrite c = c .block .write
+lastWrite c = c .held .write
 
 abbrev pub waiting : Copy → List Entry
-waiting c = inOrder (c .block .waiting)
+waiting c = inOrder (c .held .waiting)
 
 -- "a write with it", and "an aborted one"
 abbrev pub writeWith : Timestamp → Entry → Bool
@@ -57,7 +57,7 @@ module _ (copies : List Copy) where
 
   -- "V the value beside it (lowest chunk if several)"
   unfoldable pub besideW : ℕ
-  besideW = first noCopy (λ c. inSet c && lastWrite c is W) copies .block .value
+  besideW = first noCopy (λ c. inSet c && lastWrite c is W) copies .held .value
 
   -- "every chunk not lost holds a write with it, none an aborted one, and it is above the last read of every lost chunk"
   unfoldable pub agreed : Timestamp → Bool
@@ -97,4 +97,4 @@ module _ (copies : List Copy) where
 
   -- "All queues of all chunks are emptied without messages"; copies outside the set keep the rest
   unfoldable pub settled : List Copy
-  settled = each (λ c. record { member = c .member; lost = c .lost; block = if inSet c then settledRecord else emptied (c .block) }) copies
+  settled = each (λ c. record { member = c .member; lost = c .lost; held = if inSet c then settledRecord else emptied (c .held) }) copies

@@ -4,15 +4,15 @@ use mathlib.Core.Bool.{Bool}
 use mathlib.Core.List.{List}
 use lib.Dec.{eqb, ltb}
 use Rattle.rules.specs.Types.{Timestamp, Epoch}
-use Rattle.rules.specs.Limits.{upTo, greatestClock, greatestTimestamp}
+use Rattle.rules.specs.Limits.{upTo, greatestClock, clockFactor, greatestTimestamp}
 use Rattle.rules.specs.Words.{if_then_else_, fold}
 
 -- "A timestamp is clock x 8 + host number"
 abbrev pub stamp : (clock host : ℕ) → Timestamp
-stamp clock host = record { 0 = clock * 8 + host }
+stamp clock host = record { 0 = clock * clockFactor + host }
 
 abbrev pub clockOf : Timestamp → ℕ
-clockOf t = t .0 / 8
+clockOf t = t .0 / clockFactor
 
 -- "0 means 'never'"
 abbrev pub never : Timestamp

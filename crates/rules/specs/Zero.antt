@@ -5,6 +5,7 @@ use mathlib.Core.List.{List, []}
 use lib.ListN.{getD, replicate}
 use lib.Dec.{eqb}
 use Rattle.rules.specs.Types.{Set, Creation, Kind, Entry, Waiting, Record, State, Chunk, Action, Operation, Queue, Attempt, Host, Slot, Place, Table, Copy}
+use Rattle.rules.specs.Built.{creationOf, operationOf}
 use Rattle.rules.specs.Kinds.{isRead, isNormal, isReading}
 use Rattle.rules.specs.Limits.{hostLimit, chunkLimit, blockLimit, operationLimit, waitingLimit, placeLimit}
 use Rattle.rules.specs.Timestamps.{never, noEpoch, _is_, _same_}
@@ -58,7 +59,7 @@ isZeroChunk c =
 -- ---- an operation, an attempt, a host
 
 abbrev pub zeroOperation : Operation
-zeroOperation = record { block = 0; action = Action.Read }
+zeroOperation = operationOf 0 Action.Read
 
 abbrev pub isZeroOperation : Operation → Bool
 isZeroOperation o = eqb (o .block) 0 && isReading (o .action)
@@ -90,7 +91,7 @@ zeroPlace = record { slot = Slot.Empty }
 -- ---- the whole table
 
 abbrev pub zeroCreation : Creation
-zeroCreation = record { hosts = 0; chunks = 0; blocks = 0; age = 0; sets = replicate blockLimit zeroSet }
+zeroCreation = creationOf 0 0 0 0 (replicate blockLimit zeroSet)
 
 abbrev pub zeroTable : Table
 zeroTable = record {
@@ -111,7 +112,7 @@ abbrev pub noRecord : Record
 noRecord = record { value = 0; read = never; write = never; waiting = record { count = 0; entries = [] } }
 
 abbrev pub noCopy : Copy
-noCopy = record { member = false; lost = false; block = noRecord }
+noCopy = record { member = false; lost = false; held = noRecord }
 
 abbrev pub noChunk : Chunk
 noChunk = record { state = State.Normal; lost = false; epoch = noEpoch; reconcile = [] }

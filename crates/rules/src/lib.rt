@@ -16,12 +16,15 @@ pub const PLACES: usize = 64;
 
 pub const RECORDS: usize = 128;
 
-// "Clocks and epochs go up to 4,294,967,295"; a timestamp is clock x 8 + host number.
+// "Clocks and epochs go up to 4,294,967,295".
 pub const GREATEST_CLOCK: u64 = 4294967295;
+
+// "A timestamp is clock x 8 + host number".
+pub const CLOCK_FACTOR: u64 = 8;
 
 pub const GREATEST_TIMESTAMP: u64 = 34359738367;
 
-// Clock x 8 + host number; 0 means "never".
+// 0 means "never".
 pub struct Timestamp(pub u64);
 
 pub struct Epoch(pub u64);
@@ -247,9 +250,10 @@ pub struct Created {
     pub code: u64,
 }
 
-// What a message or a run makes of a record, and the reply, if any.
+// What a message or a run makes of a chunk and its record, and the reply, if any.
 pub struct Arrived {
-    pub block: Record,
+    pub chunk: Chunk,
+    pub held: Record,
     pub reply: Slot,
 }
 
@@ -257,7 +261,7 @@ pub struct Arrived {
 pub struct Copy {
     pub member: bool,
     pub lost: bool,
-    pub block: Record,
+    pub held: Record,
 }
 
 // An event's number and three operands; an operand that its kind does not use is 0.
