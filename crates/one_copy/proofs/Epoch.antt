@@ -85,15 +85,15 @@ aborted-is u v e h = and-true (e .timestamp is u) (isAborted (e .kind)) (eq-eqb 
 -- ---- the settled copy of a chunk
 
 -- a copy of the set is settled, any other is emptied
-pub settled-at : (t : Table) (b c : ℕ) → c < chunkLimit → getD (settled (copiesOf t b)) c noCopy .block ≡ cond
+pub settled-at : (t : Table) (b c : ℕ) → c < chunkLimit → getD (settled (copiesOf t b)) c noCopy .held ≡ cond
     (c among setOf (t .creation) b) (settledRecord (copiesOf t b)) (emptied (recordOf t c b))
 unfolding settled
-settled-at t b c l = ap (λ (x : Copy). x .block)
+settled-at t b c l = ap (λ (x : Copy). x .held)
     (each-each-number (λ (x : Copy). record {
       member = x .member;
       lost = x .lost;
-      block =
-          cond (inSet x) (settledRecord (copiesOf t b)) (emptied (x .block));
+      held =
+          cond (inSet x) (settledRecord (copiesOf t b)) (emptied (x .held));
     }) (copyIn (t .creation) (t .chunks) (t .records) b) chunkLimit c noCopy l)
 
 module _ (t : Table) (f : Formed t) (b : ℕ) (lb : isBlock (t .creation) b ≡ true) where
@@ -202,7 +202,7 @@ module _ (t : Table) (f : Formed t) (b : ℕ) (lb : isBlock (t .creation) b ≡ 
   -- its value is the one beside W
   W-value : recordOf t atW b .value ≡ besideW copies
   unfolding besideW
-  W-value = ap (λ (x : Copy). x .block .value) (sym (copy-at atW (W-place .0)))
+  W-value = ap (λ (x : Copy). x .held .value) (sym (copy-at atW (W-place .0)))
 
   -- ---- what is committed, as a test and as a fact
 

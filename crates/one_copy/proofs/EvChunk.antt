@@ -11,6 +11,7 @@ use borrow.Author.Tests.{ltb-false, not-false}
 use Rattle.one_copy.specs.Types.{Timestamp, Kind, Entry, Waiting, Record, Chunk, Header, Message, Refusal, Sort, Slot, Place, Table, Arrived, Outcome}
 use Rattle.rules.specs.Chunks.{withWaiting, emptied, runRefusals, runs, ran, failed, leaseGiven, leaseTaken, recovered, overdue, giveLeaseRefusals}
 use Rattle.rules.specs.Codes.{codeOf}
+use Rattle.rules.specs.Events.{withArrived}
 use Rattle.rules.specs.Kinds.{isUndecided, isNormal}
 use Rattle.rules.specs.Limits.{chunkLimit, blockLimit}
 use Rattle.rules.specs.Messages.{headed, messageOf}
@@ -22,6 +23,7 @@ use Rattle.rules.specs.Words.{every}
 use Rattle.rules.specs.Zero.{zeroEntry, noChunk}
 use Rattle.rules.proofs.Formed.{Formed, FormedWaiting, chunk-place, block-place, waiting-of}
 use Rattle.rules.proofs.Lists.{walk, upper-left, upper-right, upper-one}
+use Rattle.rules.proofs.Messages.{ran-same, left-as}
 use Rattle.rules.proofs.Refusals.{granted-exactly}
 use Rattle.rules.proofs.Relies.{run-head}
 use Rattle.one_copy.proofs.Tests.{at, at-pair, eq-or-ne}
@@ -122,22 +124,22 @@ module _ (b : ℕ) (h : Hist) (t : Table) (f : Formed t) (s : Shape t) (lb : isB
 
     -- what a run leaves is good
     abbrev Ran : Arrived → Type 0
-    Ran a = Good b h (withPlaces (withRecord t c d (a .block)) (replied (t .places) (a .reply)))
+    Ran a = Good b h (withPlaces (withRecord t c d (a .held)) (replied (t .places) (a .reply)))
 
     -- at another block
-    run-far : (d ≡ b → ⊥) → (a : Arrived) → Plain b (a .reply) → Ran a
-    run-far far a p = good-far b h t s c d (a .block) _ place-b place-d far
+    run-far : (d ≡ b → ⊥) → (x : Record) (y : Slot) → Plain b y → Good b h (withPlaces (withRecord t c d x) (replied (t .places) y))
+    run-far far x y p = good-far b h t s c d x _ place-b place-d far
         (net-only S b h (t .epoch .0) (seatsOf t) (partOf t b) (t .places) i _
-        (net-replied b (t .places) (t .places) (λ P z. z) (a .reply) p))
+        (net-replied b (t .places) (t .places) (λ P z. z) y p))
 
     -- the head of another block, by its kind
-    far-as : (d ≡ b → ⊥) → (k : Kind) → Ran (runs c d (withWaiting r (headRemoved (r .waiting))) (head (r .waiting)) k)
-    far-as far (Kind.Aborted v) = run-far far _ tt
-    far-as far (Kind.Committed v) = run-far far _ tt
-    far-as far (Kind.Undecided v) = run-far far _ tt
+    far-as : (d ≡ b → ⊥) → (k : Kind) → Ran (runs c d (chunkOf t c) (withWaiting r (headRemoved (r .waiting))) (head (r .waiting)) k)
+    far-as far (Kind.Aborted v) = run-far far _ _ tt
+    far-as far (Kind.Committed v) = run-far far _ _ tt
+    far-as far (Kind.Undecided v) = run-far far _ _ tt
     far-as far Kind.Read = walk Ran (head (r .waiting) .timestamp below r .write) _ _
-        (λ _. run-far far _ (plain b (headed (head (r .waiting) .sender) c d (head (r .waiting) .timestamp)) Refusal.OutOfOrder))
-        (λ _. run-far far _ (far-message b (headed (head (r .waiting) .sender) c d (head (r .waiting) .timestamp))
+        (λ _. run-far far _ _ (plain b (headed (head (r .waiting) .sender) c d (head (r .waiting) .timestamp)) Refusal.OutOfOrder))
+        (λ _. run-far far _ _ (far-message b (headed (head (r .waiting) .sender) c d (head (r .waiting) .timestamp))
         (Sort.ReadReply (r .value)) far))
 
   -- at this block
@@ -161,7 +163,7 @@ module _ (b : ℕ) (h : Hist) (t : Table) (f : Formed t) (s : Shape t) (lb : isB
 
     -- the head of this block, by its kind
     here-as : (k : Kind) → head w .kind ≡ k → isUndecided k ≡ false → Ran b lb free e
-        (runs c b (withWaiting (recordOf t c b) (headRemoved w)) (head w) k)
+        (runs c b (chunkOf t c) (withWaiting (recordOf t c b) (headRemoved w)) (head w) k)
     unfolding replied
     here-as (Kind.Undecided v) ek u = absurd (true≢false u)
     here-as (Kind.Aborted v) ek u = good-record b h t s c _ (t .places) place-c place-b (put (withQueue (partOf t b c)) (t .places)
@@ -191,18 +193,17 @@ module _ (b : ℕ) (h : Hist) (t : Table) (f : Formed t) (s : Shape t) (lb : isB
   -- a run, at this block or another
   pub ev-run : (d : ℕ) → isBlock (t .creation) d ≡ true → (free : ℕ) → codeOf
       (runRefusals (chunkOf t c .state) (recordOf t c d .waiting) free) ≡ 0
-      → Next b h t [] Outcome.None (withPlaces (withRecord t c d (ran c d (recordOf t c d) .block))
-      (replied (t .places) (ran c d (recordOf t c d) .reply)))
+      → Next b h t [] Outcome.None (withArrived t c d (ran c d (chunkOf t c) (recordOf t c d)))
   unfolding ran
-  ev-run d ld free e = unnoted b h t _ (elim (eq-or-ne d b) [
+  ev-run d ld free e = unnoted b h t _ (subst⁻¹ (Good b h) (left-as t c d _ (ran-same (chunkOf t c) c d (recordOf t c d))) (elim (eq-or-ne d b) [
     | inl q ↦ subst⁻¹ (λ d. codeOf (runRefusals (chunkOf t c .state) (recordOf t c d .waiting) free) ≡ 0
-        → Good b h (withPlaces (withRecord t c d (runs c d (withWaiting (recordOf t c d) (headRemoved (recordOf t c d .waiting)))
-        (head (recordOf t c d .waiting)) (head (recordOf t c d .waiting) .kind) .block))
-        (replied (t .places) (runs c d (withWaiting (recordOf t c d) (headRemoved (recordOf t c d .waiting)))
+        → Good b h (withPlaces (withRecord t c d (runs c d (chunkOf t c) (withWaiting (recordOf t c d) (headRemoved (recordOf t c d .waiting)))
+        (head (recordOf t c d .waiting)) (head (recordOf t c d .waiting) .kind) .held))
+        (replied (t .places) (runs c d (chunkOf t c) (withWaiting (recordOf t c d) (headRemoved (recordOf t c d .waiting)))
         (head (recordOf t c d .waiting)) (head (recordOf t c d .waiting) .kind) .reply)))) q
         (λ e. here-as free e (head (recordOf t c b .waiting) .kind) refl (decided b lb free e)) e
     | inr far ↦ far-as d ld free e far (head (recordOf t c d .waiting) .kind)
-  ])
+  ]))
 
   -- ---- the chunk's own events
 

@@ -41,9 +41,9 @@ module _ (t : Table) where
   pub none-wait : (c b : ℕ) → b < blockLimit → inOrder (recordOf (epochChanged t) c b .waiting) ≡ []
   unfolding settledRecord
   none-wait c b lb = elim (le-or-lt chunkLimit c) [
-    | inl q ↦ ap (λ (r : Record). inOrder (r .waiting)) (records-beyond (λ c b. getD (settled (copiesOf t b)) c noCopy .block) c b q)
+    | inl q ↦ ap (λ (r : Record). inOrder (r .waiting)) (records-beyond (λ c b. getD (settled (copiesOf t b)) c noCopy .held) c b q)
     | inr q ↦ ap (λ (r : Record). inOrder (r .waiting))
-        (grid-at (λ c b. getD (settled (copiesOf t b)) c noCopy .block) chunkLimit blockLimit c b noRecord q lb ∙ settled-at t b c q)
+        (grid-at (λ c b. getD (settled (copiesOf t b)) c noCopy .held) chunkLimit blockLimit c b noRecord q lb ∙ settled-at t b c q)
         ∙ go (c among setOf (t .creation) b)
   ]
     where
@@ -97,7 +97,7 @@ module _ (b : ℕ) (h : Hist) (t : Table) (f : Formed t) (lb : isBlock (t .creat
         reconcile =
             noBlocks;
       } = each-number (renewed (t .creation) (next (t .epoch)) (t .chunks)) chunkLimit c noChunk l ∙ rw (m .0) refl in
-      let er : recordOf (epochChanged t) c b ≡ r = grid-at (λ c b. getD (settled (copiesOf t b)) c noCopy .block) chunkLimit blockLimit
+      let er : recordOf (epochChanged t) c b ≡ r = grid-at (λ c b. getD (settled (copiesOf t b)) c noCopy .held) chunkLimit blockLimit
       c b noRecord l (small t f b lb) ∙ settled-at t b c l ∙ rw (m .1) refl in
       rw (ec, er) refl
 
@@ -193,7 +193,7 @@ epoch-less t = record {
 }
   where
     f : ℕ → ℕ → Record
-    f c b = getD (settled (copiesOf t b)) c noCopy .block
+    f c b = getD (settled (copiesOf t b)) c noCopy .held
 
     go : (c b : ℕ) (m : Bool) → length (cond m (settledRecord (copiesOf t b)) (emptied (recordOf t c b)) .waiting .entries) ≡ 8
     go c b true = refl

@@ -1,6 +1,6 @@
 -- No event but a start mentions a new timestamp of a block
 use Prim.Native.Nat.{ℕ, _<_}
-use mathlib.Core.Path.{_≡_, refl, subst, _∙_, ap}
+use mathlib.Core.Path.{_≡_, refl, subst, _∙_, ap, subst⁻¹}
 use mathlib.Core.Logic.{inl, inr}
 use mathlib.Core.Bool.{Bool, true, false, cond}
 use mathlib.Core.List.{List, [], _∷_}
@@ -11,7 +11,7 @@ use borrow.Author.Tests.{ltb-true, leb-false}
 use Rattle.one_copy.specs.Types.{Timestamp, Epoch, Set, Kind, Entry, Waiting, Record, Operation, Queue, Host, Message, Request, Sort, Slot, Place, Table, Arrived}
 use Rattle.rules.specs.Chunks.{withWaiting, emptied, failed, answering, silent, entryOf, waits, arrived, decides, atChunk, arrives, runs, ran}
 use Rattle.rules.specs.Codes.{codeOf}
-use Rattle.rules.specs.Events.{holdersOf, hostTakes, takes}
+use Rattle.rules.specs.Events.{holdersOf, hostTakes, takes, withArrived}
 use Rattle.rules.specs.Hosts.{front, operationsOf, queueOf, appended, startRefusals, openingTo, opening, started, finishRefusals, closingTo, closing, goesBack, finished, ended, withQueue, timedOut, refreshed, stopped}
 use Rattle.rules.specs.Kinds.{isWrite, isNormal}
 use Rattle.rules.specs.Limits.{hostLimit, chunkLimit, blockLimit, operationLimit, placeLimit, waitingLimit}
@@ -24,7 +24,7 @@ use Rattle.rules.specs.Words.{every}
 use Rattle.rules.specs.Zero.{zeroEntry, zeroOperation, noRecord}
 use Rattle.rules.proofs.Formed.{Formed, FormedWaiting, FormedMessage, host-place, chunk-place, waiting-of, message-facts}
 use Rattle.rules.proofs.Lists.{walk, grid-at}
-use Rattle.rules.proofs.Messages.{arrived-walk, decides-walk, hears-keeps}
+use Rattle.rules.proofs.Messages.{arrived-walk, decides-walk, hears-keeps, left-as, ran-same, arrives-same}
 use Rattle.rules.proofs.Order.{mark-timestamps}
 use Rattle.rules.proofs.Refusals.{granted-exactly}
 use Rattle.rules.proofs.Relies.{finish-current}
@@ -145,7 +145,7 @@ module _ (t : Table) (f : Formed t) (c d : ℕ) (lc : c < chunkLimit) (ld : d < 
 
   -- a run mentions nothing new
   abbrev Ran : Arrived → Type 0
-  Ran a = Less (withPlaces (withRecord t c d (a .block)) (replied (t .places) (a .reply))) t
+  Ran a = Less (withPlaces (withRecord t c d (a .held)) (replied (t .places) (a .reply))) t
 
   -- what waits is mentioned
   waits-here : (u : ℕ) → Any (atTs u) (inOrder (r .waiting)) → Mention t u d
@@ -169,7 +169,7 @@ module _ (t : Table) (f : Formed t) (c d : ℕ) (lc : c < chunkLimit) (ld : d < 
       go (x ∷ q) l e = inl e
 
   -- the head, by its kind
-  ran-as : 0 < length (inOrder (r .waiting)) → (k : Kind) → Ran (runs c d (withWaiting r (headRemoved (r .waiting))) (head (r .waiting)) k)
+  ran-as : 0 < length (inOrder (r .waiting)) → (k : Kind) → Ran (runs c d (chunkOf t c) (withWaiting r (headRemoved (r .waiting))) (head (r .waiting)) k)
   unfolding replied
   ran-as l (Kind.Aborted v) = less-record t c d _ (t .places) ld rest (λ _. rest-length) (same-net t)
   ran-as l (Kind.Committed v) = less-record t c d _ (t .places) ld rest (λ _. rest-length) (same-net t)
@@ -179,9 +179,9 @@ module _ (t : Table) (f : Formed t) (c d : ℕ) (lc : c < chunkLimit) (ld : d < 
       (λ _. less-record t c d _ _ ld rest (λ _. rest-length) (one-ok t _ (t .places) (same-net t) (its l)))
 
   -- run
-  pub run-less : 0 < length (inOrder (r .waiting)) → Ran (ran c d r)
+  pub run-less : 0 < length (inOrder (r .waiting)) → Less (withArrived t c d (ran c d (chunkOf t c) r)) t
   unfolding ran
-  run-less l = ran-as l (head (r .waiting) .kind)
+  run-less l = subst⁻¹ (λ (x : Table). Less x t) (left-as t c d _ (ran-same (chunkOf t c) c d r)) (ran-as l (head (r .waiting) .kind))
 
 -- ---- a message that arrives
 
@@ -225,10 +225,10 @@ module _ (t : Table) (f : Formed t) (p : ℕ) (lp : p < placeLimit) where
 
     -- an arrival mentions nothing new
     abbrev Took : Arrived → Type 0
-    Took a = Less (withPlaces (withRecord t c d (a .block)) (replied n1 (a .reply))) t
+    Took a = Less (withPlaces (withRecord t c d (a .held)) (replied n1 (a .reply))) t
 
     -- a reply, the record as it was
-    answer : (s : Sort) → Took (answering (recordOf t c d) (headerOf m) s)
+    answer : (s : Sort) → Took (answering (chunkOf t c) (recordOf t c d) (headerOf m) s)
     unfolding replied
     answer s = less-record t c d _ _ place-d (λ u z. inr (inr (c, place-d, z))) (λ s. s .entries c d place-c place-d)
         (one-ok t (messageOf (headerOf m) s) n1 ok1 (λ u a z. its-own u a (made-both (headerOf m) s a u z)))
@@ -249,7 +249,7 @@ module _ (t : Table) (f : Formed t) (p : ℕ) (lp : p < placeLimit) where
 
     -- it waits
     took-waits : (k : Epoch) (kind : Kind) → recordOf t c d .waiting .count < waitingLimit
-        → Took (waits (recordOf t c d) (headerOf m) k kind)
+        → Took (waits (chunkOf t c) (recordOf t c d) (headerOf m) k kind)
     unfolding replied
     took-waits k kind room = walk Took (isWrite kind) _ _
         (λ _. less-record t c d _ _ place-d (inserts k kind room) (λ _. inserted-length (recordOf t c d .waiting)
@@ -258,12 +258,12 @@ module _ (t : Table) (f : Formed t) (p : ℕ) (lp : p < placeLimit) where
         (entryOf (headerOf m) k kind)) ok1)
 
     -- a read or a prewrite
-    took-arrived : (blocks : ℕ) (current k : Epoch) (kind : Kind) → Took (arrived blocks current (recordOf t c d) (headerOf m) k kind)
-    took-arrived blocks current k kind = arrived-walk Took blocks current (recordOf t c d) (headerOf m) k kind
+    took-arrived : (blocks : ℕ) (k : Epoch) (kind : Kind) → Took (arrived blocks (chunkOf t c) (recordOf t c d) (headerOf m) k kind)
+    took-arrived blocks k kind = arrived-walk Took blocks (chunkOf t c) (recordOf t c d) (headerOf m) k kind
         (λ x. answer (Sort.Refusal x)) (λ z. took-waits k kind (z .room))
 
     -- nothing happens
-    same : Took (silent (recordOf t c d))
+    same : Took (silent (chunkOf t c) (recordOf t c d))
     unfolding replied
     same = less-record t c d _ n1 place-d (λ u z. inr (inr (c, place-d, z))) (λ s. s .entries c d place-c place-d) ok1
 
@@ -273,9 +273,9 @@ module _ (t : Table) (f : Formed t) (p : ℕ) (lp : p < placeLimit) where
     marked-length commit a w = holding-length (mark commit a (inOrder w))
 
     -- a commit or an abort
-    took-decides : (blocks : ℕ) (commit : Bool) → Took (decides blocks (recordOf t c d) (headerOf m) commit)
+    took-decides : (blocks : ℕ) (commit : Bool) → Took (decides blocks (chunkOf t c) (recordOf t c d) (headerOf m) commit)
     unfolding replied
-    took-decides blocks commit = decides-walk Took blocks (recordOf t c d) (headerOf m) commit
+    took-decides blocks commit = decides-walk Took blocks (chunkOf t c) (recordOf t c d) (headerOf m) commit
         (λ _. less-record t c d _ n1 place-d
         (λ u z. inr (inr (
           c,
@@ -288,19 +288,19 @@ module _ (t : Table) (f : Formed t) (p : ℕ) (lp : p < placeLimit) where
         same
 
     -- at a chunk, by its sort
-    took-at : (blocks : ℕ) (current : Epoch) (s : Sort) → Took (atChunk blocks current (recordOf t c d) (headerOf m) s)
+    took-at : (blocks : ℕ) (s : Sort) → Took (atChunk blocks (chunkOf t c) (recordOf t c d) (headerOf m) s)
     unfolding atChunk
-    took-at blocks current (Sort.Request k Request.Read) = took-arrived blocks current k Kind.Read
-    took-at blocks current (Sort.Request k (Request.Prewrite v)) = took-arrived blocks current k (Kind.Undecided v)
-    took-at blocks current (Sort.Request k Request.Commit) = took-decides blocks true
-    took-at blocks current (Sort.Request k Request.Abort) = took-decides blocks false
-    took-at blocks current (Sort.Refusal x) = same
-    took-at blocks current (Sort.ReadReply v) = same
-    took-at blocks current Sort.PrewriteReply = same
+    took-at blocks (Sort.Request k Request.Read) = took-arrived blocks k Kind.Read
+    took-at blocks (Sort.Request k (Request.Prewrite v)) = took-arrived blocks k (Kind.Undecided v)
+    took-at blocks (Sort.Request k Request.Commit) = took-decides blocks true
+    took-at blocks (Sort.Request k Request.Abort) = took-decides blocks false
+    took-at blocks (Sort.Refusal x) = same
+    took-at blocks (Sort.ReadReply v) = same
+    took-at blocks Sort.PrewriteReply = same
 
     -- .. in any state
     chunk-takes : Took (arrives (t .creation .blocks) (chunkOf t c) (recordOf t c d) m)
-    chunk-takes = walk Took (isNormal (chunkOf t c .state)) _ _ (λ _. took-at (t .creation .blocks) (chunkOf t c .epoch) (sortOf m)) (λ _. same)
+    chunk-takes = walk Took (isNormal (chunkOf t c .state)) _ _ (λ _. took-at (t .creation .blocks) (sortOf m)) (λ _. same)
 
     -- at a host
     host-takes : Less (hostTakes (withPlaces t n1) (headerOf m) m) t
@@ -314,7 +314,9 @@ module _ (t : Table) (f : Formed t) (p : ℕ) (lp : p < placeLimit) where
 
     -- deliver
     pub deliver-less : Less (takes (withPlaces t n1) (Slot.Full m)) t
-    deliver-less = walk (λ (x : Table). Less x t) (isForChunk (sortOf m)) _ _ (λ _. chunk-takes) (λ _. host-takes)
+    deliver-less = walk (λ (x : Table). Less x t) (isForChunk (sortOf m)) _ _
+        (λ _. subst⁻¹ (λ (x : Table). Less x t) (left-as (withPlaces t n1) c d _ (arrives-same (chunkOf t c) (t .creation .blocks) (recordOf t c d) m)) chunk-takes)
+        (λ _. host-takes)
 
 -- ---- a failure: what waits at other chunks stays
 

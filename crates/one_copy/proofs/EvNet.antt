@@ -22,7 +22,7 @@ use Rattle.rules.specs.Waiting.{inserted, marked}
 use Rattle.rules.specs.Zero.{_among_, zeroOperation}
 use Rattle.rules.proofs.Formed.{Formed, FormedMessage, host-place, chunk-place, block-place, chunk-of, chunk-facts, waiting-of, message-facts}
 use Rattle.rules.proofs.Lists.{three, walk}
-use Rattle.rules.proofs.Messages.{Passed, arrived-walk, decides-walk, heard-refusal}
+use Rattle.rules.proofs.Messages.{Passed, arrived-walk, decides-walk, heard-refusal, left-as, arrives-same}
 use Rattle.one_copy.proofs.Tests.{at, at-id, eq-or-ne, not-both}
 use Rattle.one_copy.proofs.Abs.{cmt, abt}
 use Rattle.one_copy.proofs.Net.{ofRead, ofPre, ofCommit, ofAbort, ofValue, ofAck, ofBoth, Sent, sent-one, sent-taken, sent-at}
@@ -91,45 +91,45 @@ module _ (b : ℕ) (h : Hist) (t : Table) (f : Formed t) (s : Shape t) (lb : isB
 
     -- what the arrival leaves is good
     abbrev Took : Arrived → Type 0
-    Took a = Good b h (withPlaces (withRecord t c (hd .block) (a .block)) (replied n1 (a .reply)))
+    Took a = Good b h (withPlaces (withRecord t c (hd .block) (a .held)) (replied n1 (a .reply)))
 
     -- a reply that says nothing of block b, at another block or with the record as it was
     far : (a : Arrived) → Plain b (a .reply) → (hd .block ≡ b → ⊥) → Took a
-    far a q n = good-far b h t s c (hd .block) (a .block) _ place-b place-d n
+    far a q n = good-far b h t s c (hd .block) (a .held) _ place-b place-d n
         (net-only S b h (t .epoch .0) (seatsOf t) (partOf t b) (t .places) i _ (net-replied b n1 (t .places) taken (a .reply) q))
 
     -- the record as it was
-    as-was : (reply : Slot) → Plain b reply → Took (record { block = recordOf t c (hd .block); reply = reply })
+    as-was : (reply : Slot) → Plain b reply → Took (record { chunk = chunkOf t c; held = recordOf t c (hd .block); reply = reply })
     as-was reply q = elim (eq-or-ne (hd .block) b) [
       | inl db ↦ subst⁻¹ (λ (d : ℕ). Good b h (withPlaces (withRecord t c d (recordOf t c d)) (replied n1 reply))) db
           (good-record b h t s c (recordOf t c b) _ place-c place-b
           (subst⁻¹ (λ (g : ℕ → Part). CInv S b h (t .epoch .0) (seatsOf t) g (replied n1 reply)) (at-id c (partOf t b))
           (net-only S b h (t .epoch .0) (seatsOf t) (partOf t b) (t .places) i _ (net-replied b n1 (t .places) taken reply q))))
-      | inr n ↦ far (record { block = recordOf t c (hd .block); reply = reply }) q n
+      | inr n ↦ far (record { chunk = chunkOf t c; held = recordOf t c (hd .block); reply = reply }) q n
     ]
 
     -- a commit or an abort
     took-decides : (blocks : ℕ) (commit : Bool) → isNormal (chunkOf t c .state) ≡ true
         → (hd .block ≡ b → ((markOf commit ≡ cmt) × Sent (t .places) (ofCommit b (hd .timestamp .0)))
         ⊎ ((markOf commit ≡ abt) × Sent (t .places) (ofAbort b (hd .timestamp .0))))
-        → Took (decides blocks (recordOf t c (hd .block)) hd commit)
+        → Took (decides blocks (chunkOf t c) (recordOf t c (hd .block)) hd commit)
     unfolding replied
-    took-decides blocks commit nm msg = decides-walk Took blocks (recordOf t c (hd .block)) hd commit (λ _. elim (eq-or-ne (hd .block) b) [
+    took-decides blocks commit nm msg = decides-walk Took blocks (chunkOf t c) (recordOf t c (hd .block)) hd commit (λ _. elim (eq-or-ne (hd .block) b) [
       | inl db ↦ subst⁻¹ (λ (d : ℕ). Good b h
           (withPlaces (withRecord t c d (withWaiting (recordOf t c d) (marked commit (hd .timestamp) (recordOf t c d .waiting)))) n1)) db
           (good-record b h t s c _ n1 place-c place-b
           (subst⁻¹ (λ (q : List Entry). CInv S b h (t .epoch .0) (seatsOf t) (at c (withQueue (partOf t b c) q) (partOf t b)) n1)
           (marked-order (recordOf t c b .waiting) commit (hd .timestamp) (waiting-of t f c b place-c place-b .count))
           (marks S b h (t .epoch .0) (seatsOf t) (partOf t b) (t .places) i c nm commit (hd .timestamp) n1 less1 (msg db))))
-      | inr n ↦ far (silent (withWaiting (recordOf t c (hd .block)) (marked commit (hd .timestamp)
+      | inr n ↦ far (silent (chunkOf t c) (withWaiting (recordOf t c (hd .block)) (marked commit (hd .timestamp)
           (recordOf t c (hd .block) .waiting)))) tt n
     ]) (as-was Slot.Empty tt)
 
     -- a read or a prewrite
-    took-arrived : (k : Epoch) (kind : Kind) → (Passed (t .creation .blocks) (chunkOf t c .epoch) (recordOf t c (hd .block)) hd k kind
-        → Took (waits (recordOf t c (hd .block)) hd k kind))
-        → Took (arrived (t .creation .blocks) (chunkOf t c .epoch) (recordOf t c (hd .block)) hd k kind)
-    took-arrived k kind g = arrived-walk Took (t .creation .blocks) (chunkOf t c .epoch) (recordOf t c (hd .block)) hd k kind
+    took-arrived : (k : Epoch) (kind : Kind) → (Passed (t .creation .blocks) (chunkOf t c) (recordOf t c (hd .block)) hd k kind
+        → Took (waits (chunkOf t c) (recordOf t c (hd .block)) hd k kind))
+        → Took (arrived (t .creation .blocks) (chunkOf t c) (recordOf t c (hd .block)) hd k kind)
+    took-arrived k kind g = arrived-walk Took (t .creation .blocks) (chunkOf t c) (recordOf t c (hd .block)) hd k kind
         (λ x. as-was (Slot.Full (messageOf hd (Sort.Refusal x))) (plain b hd x)) g
 
     -- the chunk's epoch is the store's
@@ -139,8 +139,8 @@ module _ (b : ℕ) (h : Hist) (t : Table) (f : Formed t) (s : Shape t) (lb : isB
 
     -- a read waits
     read-waits : (k : Epoch) → isNormal (chunkOf t c .state) ≡ true → (hd .block ≡ b → Sent (t .places) (ofRead b c (hd .timestamp .0)))
-        → Passed (t .creation .blocks) (chunkOf t c .epoch) (recordOf t c (hd .block)) hd k Kind.Read
-        → Took (waits (recordOf t c (hd .block)) hd k Kind.Read)
+        → Passed (t .creation .blocks) (chunkOf t c) (recordOf t c (hd .block)) hd k Kind.Read
+        → Took (waits (chunkOf t c) (recordOf t c (hd .block)) hd k Kind.Read)
     unfolding replied
     read-waits k nm msg ps = elim (eq-or-ne (hd .block) b) [
       | inl db ↦ subst⁻¹ (λ (d : ℕ). recordOf t c d .waiting .count < waitingLimit
@@ -150,14 +150,14 @@ module _ (b : ℕ) (h : Hist) (t : Table) (f : Formed t) (s : Shape t) (lb : isB
           (subst⁻¹ (λ (q : List Entry). CInv S b h (t .epoch .0) (seatsOf t) (at c (withQueue (partOf t b c) q) (partOf t b)) n1)
           (inserted-order (recordOf t c b .waiting) (entryOf hd k Kind.Read) room)
           (takes-read S b h (t .epoch .0) (seatsOf t) (partOf t b) (t .places) i c nm hd k n1 less1 (msg db)))) (ps .room)
-      | inr n ↦ far (waits (recordOf t c (hd .block)) hd k Kind.Read) tt n
+      | inr n ↦ far (waits (chunkOf t c) (recordOf t c (hd .block)) hd k Kind.Read) tt n
     ]
 
     -- a prewrite waits and is answered
     write-waits : (k : Epoch) (v : ℕ) → isNormal (chunkOf t c .state) ≡ true
         → (hd .block ≡ b → Sent (t .places) (ofPre b c (hd .timestamp .0) (k .0) v))
-        → Passed (t .creation .blocks) (chunkOf t c .epoch) (recordOf t c (hd .block)) hd k (Kind.Undecided v)
-        → Took (waits (recordOf t c (hd .block)) hd k (Kind.Undecided v))
+        → Passed (t .creation .blocks) (chunkOf t c) (recordOf t c (hd .block)) hd k (Kind.Undecided v)
+        → Took (waits (chunkOf t c) (recordOf t c (hd .block)) hd k (Kind.Undecided v))
     unfolding replied
     write-waits k v nm msg ps = elim (eq-or-ne (hd .block) b) [
       | inl db ↦ subst⁻¹ (λ (d : ℕ). recordOf t c d .waiting .count < waitingLimit
@@ -173,13 +173,13 @@ module _ (b : ℕ) (h : Hist) (t : Table) (f : Formed t) (s : Shape t) (lb : isB
           (λ P z. elim (sent-one P (messageOf hd Sort.PrewriteReply) n1 z) [ inl q ↦ inl (taken P q) | inr q ↦ inr q ]) (msg db)
           (ps .current ∙ one-epoch) (ltb-false (hd .timestamp .0) (recordOf t c b .write .0) (o .0))
           (ltb-false (hd .timestamp .0) (recordOf t c b .read .0) (o .1))))) (ps .room) (ps .order)
-      | inr n ↦ far (waits (recordOf t c (hd .block)) hd k (Kind.Undecided v)) (far-message b hd Sort.PrewriteReply n) n
+      | inr n ↦ far (waits (chunkOf t c) (recordOf t c (hd .block)) hd k (Kind.Undecided v)) (far-message b hd Sort.PrewriteReply n) n
     ]
 
   -- a message at a chunk, by its sort
   took-at : (m : Message) (e : slotOf (t .places) p ≡ Slot.Full m) (s : Sort) → sortOf m ≡ s
       → isNormal (chunkOf t (headerOf m .chunk) .state) ≡ true
-      → Took m e (atChunk (t .creation .blocks) (chunkOf t (headerOf m .chunk) .epoch)
+      → Took m e (atChunk (t .creation .blocks) (chunkOf t (headerOf m .chunk))
       (recordOf t (headerOf m .chunk) (headerOf m .block)) (headerOf m) s)
   unfolding atChunk
   took-at m e (Sort.Request k Request.Read) es nm = took-arrived m e k Kind.Read
@@ -291,7 +291,10 @@ module _ (b : ℕ) (h : Hist) (t : Table) (f : Formed t) (s : Shape t) (lb : isB
 
     -- deliver
     pub ev-deliver : (m : Message) → slotOf (t .places) p ≡ Slot.Full m → Next b h t [] Outcome.None (takes (withPlaces t n1) (Slot.Full m))
-    ev-deliver m e = unnoted b h t _ (walk (Good b h) (isForChunk (sortOf m)) _ _ (λ _. chunk-takes m e) (λ _. host-takes m e))
+    ev-deliver m e = unnoted b h t _ (walk (Good b h) (isForChunk (sortOf m)) _ _
+        (λ _. subst⁻¹ (Good b h) (left-as (withPlaces t n1) (headerOf m .chunk) (headerOf m .block) _
+        (arrives-same (chunkOf t (headerOf m .chunk)) (t .creation .blocks) (recordOf t (headerOf m .chunk) (headerOf m .block)) m)) (chunk-takes m e))
+        (λ _. host-takes m e))
 
   -- drop
   pub ev-drop : Next b h t [] Outcome.None (withPlaces t n1)

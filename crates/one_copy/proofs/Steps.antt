@@ -7,7 +7,7 @@ use native.Mathlib.Omega.{arith}
 use lib.ListN.{length-take}
 use lib.Dec.{eqb}
 use borrow.Author.Tests.{ltb-true, eqb-true}
-use Rattle.one_copy.specs.Types.{Action, Operation, Message, Slot, Table, Event, Outcome, Answer}
+use Rattle.one_copy.specs.Types.{Action, Message, Slot, Table, Event, Outcome, Answer}
 use Rattle.one_copy.specs.Listed.{Write, byHost, byChange, committedAt}
 use Rattle.rules.specs.Built.{operationOf}
 use Rattle.rules.specs.Codes.{codeOf}

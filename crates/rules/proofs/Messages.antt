@@ -1,16 +1,22 @@
 -- A message is its header and its sort; what each sort does at a chunk and at a host
 use Prim.Native.Nat.{ℕ, _<_}
 use mathlib.Core.Path.{_≡_, refl}
-use mathlib.Core.Bool.{Bool, false, not}
+use mathlib.Core.Bool.{Bool, true, false, not}
 use lib.Dec.{ltb, leb}
+use lib.Seq.{set-getD}
 use borrow.Author.Tests.{ltb-true, leb-false, eqb-true, not-false}
-use Rattle.rules.specs.Types.{Epoch, Kind, Record, Attempt, Host, Header, Message, Request, Refusal, Sort, Arrived, Chunk}
-use Rattle.rules.specs.Chunks.{withWaiting, refusing, silent, isOutOfOrder, waits, arrived, decides}
+use Rattle.rules.specs.Types.{Epoch, Kind, Record, Attempt, Host, Header, Message, Request, Refusal, Sort, Arrived, Chunk, Entry, Table}
+use Rattle.rules.specs.Chunks.{withWaiting, refusing, silent, isOutOfOrder, waits, arrived, decides, atChunk, arrives, ran, runs}
+use Rattle.rules.specs.Events.{withArrived}
 use Rattle.rules.specs.Hosts.{answeredBy, heard, counts, atHost, hears}
+use Rattle.rules.specs.Kinds.{isNormal}
 use Rattle.rules.specs.Limits.{waitingLimit}
 use Rattle.rules.specs.Messages.{headerOf, sortOf, messageOf}
-use Rattle.rules.specs.Timestamps.{_same_}
-use Rattle.rules.specs.Waiting.{marked}
+use Rattle.rules.specs.Network.{replied}
+use Rattle.rules.specs.Tables.{chunkOf, withRecord, withPlaces}
+use Rattle.rules.specs.Timestamps.{_below_, _same_}
+use Rattle.rules.specs.Waiting.{head, headRemoved, marked}
+use Rattle.rules.specs.Zero.{noChunk}
 use Rattle.rules.proofs.Lists.{walk}
 
 -- the message of a sort with a header has that header and is of that sort
@@ -59,6 +65,43 @@ pub decides-walk : (P : Arrived → Type 0) (blocks : ℕ) (c : Chunk) (r : Reco
 unfolding decides
 decides-walk P blocks c r header commit mark none =
     walk P (ltb (header .block) blocks) _ _ (λ l. mark (ltb-true (header .block) blocks l)) (λ _. none)
+
+-- ---- neither an arrival nor a run changes the chunk beside its record
+
+module _ (c : Chunk) where
+  -- a chunk as it was
+  abbrev Same : Arrived → Type 0
+  Same a = a .chunk ≡ c
+
+  at-chunk-same : (blocks : ℕ) (r : Record) (header : Header) (s : Sort) → Same (atChunk blocks c r header s)
+  unfolding atChunk
+  at-chunk-same blocks r header (Sort.Request epoch Request.Read) = arrived-walk Same blocks c r header epoch Kind.Read (λ _. refl) (λ _. refl)
+  at-chunk-same blocks r header (Sort.Request epoch (Request.Prewrite v)) =
+      arrived-walk Same blocks c r header epoch (Kind.Undecided v) (λ _. refl) (λ _. refl)
+  at-chunk-same blocks r header (Sort.Request epoch Request.Commit) = decides-walk Same blocks c r header true (λ _. refl) refl
+  at-chunk-same blocks r header (Sort.Request epoch Request.Abort) = decides-walk Same blocks c r header false (λ _. refl) refl
+  at-chunk-same blocks r header (Sort.Refusal x) = refl
+  at-chunk-same blocks r header (Sort.ReadReply v) = refl
+  at-chunk-same blocks r header Sort.PrewriteReply = refl
+
+  pub arrives-same : (blocks : ℕ) (r : Record) (m : Message) → Same (arrives blocks c r m)
+  arrives-same blocks r m = walk Same (isNormal (c .state)) _ _ (λ _. at-chunk-same blocks r (headerOf m) (sortOf m)) (λ _. refl)
+
+  runs-same : (chunk block : ℕ) (r : Record) (e : Entry) (k : Kind) → Same (runs chunk block c r e k)
+  runs-same chunk block r e (Kind.Aborted v) = refl
+  runs-same chunk block r e (Kind.Committed v) = refl
+  runs-same chunk block r e (Kind.Undecided v) = refl
+  runs-same chunk block r e Kind.Read = walk Same (e .timestamp below r .write) _ _ (λ _. refl) (λ _. refl)
+
+  pub ran-same : (chunk block : ℕ) (r : Record) → Same (ran chunk block c r)
+  unfolding ran
+  ran-same chunk block r =
+      runs-same chunk block (withWaiting r (headRemoved (r .waiting))) (head (r .waiting)) (head (r .waiting) .kind)
+
+-- so the record and the network are all that they leave changed
+pub left-as : (t : Table) (c b : ℕ) (a : Arrived) → a .chunk ≡ chunkOf t c
+    → withArrived t c b a ≡ withPlaces (withRecord t c b (a .held)) (replied (t .places) (a .reply))
+left-as t c b a e = rw (e, set-getD (t .chunks) c noChunk) refl
 
 -- ---- at a host
 
