@@ -1,10 +1,9 @@
 // One chunk by itself: it fails, recovers, takes and gives its lease.
 ghost use mathlib.Core.Path.{_≡_};
 ghost use lib.Dec.{eqb};
-ghost use Rattle.rules.specs.Codes.{codeOf};
+ghost use Rattle.rules.specs.Codes.{codeOf, unlessRefused};
 ghost use Rattle.rules.specs.Chunks.{withState, failRefusals, failed, recoverRefusals, recovered, takeLeaseRefusals, leaseTaken, giveLeaseRefusals, leaseGiven};
 ghost use Rattle.rules.specs.Words.{if_then_else_};
-ghost use Rattle.chunk_alone.specs.Changes.{changed};
 use rules::Chunk;
 use rules::State;
 
@@ -70,7 +69,7 @@ fn failed(c: Chunk) -> Chunk
 
 // The chunk fails.
 pub fn fail(c: Chunk) -> Changed
-    ensures { λ r. ⌜ r ≡ changed (failRefusals (c .state)) c (failed c) ⌝ }
+    ensures { λ r. ⌜ r ≡ record { code = codeOf (failRefusals (c .state)); chunk = unlessRefused (failRefusals (c .state)) c (failed c) } ⌝ }
 {
     let state = c.state;
     unless_refused(fail_code(state), c, failed(c))
@@ -89,7 +88,7 @@ fn recover_code(state: State) -> u64
 
 // "failed to nolease": what it lost stays lost.
 pub fn recover(c: Chunk) -> Changed
-    ensures { λ r. ⌜ r ≡ changed (recoverRefusals (c .state)) c (recovered c) ⌝ }
+    ensures { λ r. ⌜ r ≡ record { code = codeOf (recoverRefusals (c .state)); chunk = unlessRefused (recoverRefusals (c .state)) c (recovered c) } ⌝ }
 {
     let state = c.state;
     unless_refused(recover_code(state), c, with_state(c, State::Nolease))
@@ -108,7 +107,7 @@ fn take_lease_code(state: State) -> u64
 
 // "normal to nolease".
 pub fn take_lease(c: Chunk) -> Changed
-    ensures { λ r. ⌜ r ≡ changed (takeLeaseRefusals (c .state)) c (leaseTaken c) ⌝ }
+    ensures { λ r. ⌜ r ≡ record { code = codeOf (takeLeaseRefusals (c .state)); chunk = unlessRefused (takeLeaseRefusals (c .state)) c (leaseTaken c) } ⌝ }
 {
     let state = c.state;
     unless_refused(take_lease_code(state), c, with_state(c, State::Nolease))
@@ -127,7 +126,7 @@ fn give_lease_code(state: State, lost: bool) -> u64
 
 // "nolease to normal".
 pub fn give_lease(c: Chunk) -> Changed
-    ensures { λ r. ⌜ r ≡ changed (giveLeaseRefusals (c .state) (c .lost)) c (leaseGiven c) ⌝ }
+    ensures { λ r. ⌜ r ≡ record { code = codeOf (giveLeaseRefusals (c .state) (c .lost)); chunk = unlessRefused (giveLeaseRefusals (c .state) (c .lost)) c (leaseGiven c) } ⌝ }
 {
     let state = c.state;
     unless_refused(

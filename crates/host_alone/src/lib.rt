@@ -1,8 +1,7 @@
 // One host by itself: operations come in, it times out, refreshes its map, stops.
 ghost use mathlib.Core.Path.{_≡_};
-ghost use Rattle.rules.specs.Codes.{codeOf};
+ghost use Rattle.rules.specs.Codes.{codeOf, unlessRefused};
 ghost use Rattle.rules.specs.Hosts.{intakeRefusals, appended, timeoutRefusals, timedOut, workingRefusals, refreshed, stopped};
-ghost use Rattle.host_alone.specs.Moves.{moved};
 use rules::Epoch;
 use rules::Host;
 use rules::Operation;
@@ -30,7 +29,7 @@ fn intake_code(h: Host) -> u64
 
 // "1 read (host, block); 2 write (host, block, value) .. Else appended".
 pub fn intake(h: Host, o: Operation) -> Moved
-    ensures { λ r. ⌜ r ≡ moved (intakeRefusals h) h (appended h o) ⌝ }
+    ensures { λ r. ⌜ r ≡ record { code = codeOf (intakeRefusals h); host = unlessRefused (intakeRefusals h) h (appended h o) } ⌝ }
 {
     let code = intake_code(h);
     if code != 0 {
@@ -63,7 +62,7 @@ fn timeout_code(h: Host) -> u64
 
 // "Okay false, nothing outstanding".
 pub fn time_out(h: Host) -> Moved
-    ensures { λ r. ⌜ r ≡ moved (timeoutRefusals h) h (timedOut h) ⌝ }
+    ensures { λ r. ⌜ r ≡ record { code = codeOf (timeoutRefusals h); host = unlessRefused (timeoutRefusals h) h (timedOut h) } ⌝ }
 {
     let code = timeout_code(h);
     if code != 0 {
@@ -93,7 +92,7 @@ fn working_code(h: Host) -> u64
 
 // "Epoch known becomes the store's, map current".
 pub fn refresh(h: Host, epoch: Epoch) -> Moved
-    ensures { λ r. ⌜ r ≡ moved (workingRefusals h) h (refreshed h epoch) ⌝ }
+    ensures { λ r. ⌜ r ≡ record { code = codeOf (workingRefusals h); host = unlessRefused (workingRefusals h) h (refreshed h epoch) } ⌝ }
 {
     let code = working_code(h);
     if code != 0 {
@@ -110,7 +109,7 @@ pub fn refresh(h: Host, epoch: Epoch) -> Moved
 
 // "its other fields stay".
 pub fn stop(h: Host) -> Moved
-    ensures { λ r. ⌜ r ≡ moved (workingRefusals h) h (stopped h) ⌝ }
+    ensures { λ r. ⌜ r ≡ record { code = codeOf (workingRefusals h); host = unlessRefused (workingRefusals h) h (stopped h) } ⌝ }
 {
     let code = working_code(h);
     if code != 0 {
