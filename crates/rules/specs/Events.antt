@@ -4,7 +4,7 @@ use mathlib.Core.Bool.{Bool, false, not, _&&_}
 use mathlib.Core.List.{List, []}
 use lib.ListN.{getD}
 use lib.Dec.{eqb}
-use Rattle.rules.specs.Types.{Epoch, Set, Creation, Record, State, Chunk, Action, Operation, Host, Header, Message, Slot, Table, Arrived, Copy, Event, Operands, Outcome, Answer}
+use Rattle.rules.specs.Types.{Epoch, Set, Creation, Record, State, Chunk, Action, Operation, Host, Header, Message, Slot, Table, Arrived, Copy, Event, Operands, Outcome, Answer, Reply}
 use Rattle.rules.specs.declared.Operand.the-variants.{Unknown as unknown, Unused as unused, Host as aHost, Chunk as aChunk, Block as aBlock, Place as aPlace, Clock as aClock, Now as aTime, Value as aValue}
 use Rattle.rules.specs.Built.{operationOf}
 use Rattle.rules.specs.Chunks.{runRefusals, ran, failRefusals, failed, emptied, recoverRefusals, recovered, takeLeaseRefusals, leaseTaken, giveLeaseRefusals, leaseGiven, overdueRefusals, overdue, arrives}
@@ -300,3 +300,7 @@ unfoldable pub step : Table → Event → Answer
 step t e =
     let code = codeOf (rows t e) in
     if eqb code 0 then done (ruleOf t e .effect) else refused t code
+
+-- an answer without its table
+abbrev pub replyOf : Answer → Reply
+replyOf a = record { code = a .code; outcome = a .outcome }

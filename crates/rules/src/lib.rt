@@ -301,3 +301,9 @@ pub struct Answer {
     pub code: u64,
     pub outcome: Outcome,
 }
+
+// An answer without its table: what the caller of an event is told.
+pub struct Reply {
+    pub code: u64,
+    pub outcome: Outcome,
+}
