@@ -31,7 +31,7 @@ fn with_state(c: Chunk, state: State) -> Chunk
 fn unless_refused(code: u64, old: Chunk, new: Chunk) -> Changed
     ensures { λ r. ⌜ r ≡ record { code = code; chunk = if eqb code 0 then new else old } ⌝ }
 {
-    if code != 0 {
+    if code != rules::DONE {
         return Changed {
             code: code,
             chunk: old,
@@ -48,9 +48,9 @@ fn fail_code(state: State) -> u64
     ensures { λ r. ⌜ r ≡ codeOf (failRefusals state) ⌝ }
 {
     match state {
-        State::Normal => 0,
-        State::Nolease => 0,
-        State::Failed => 2,
+        State::Normal => rules::DONE,
+        State::Nolease => rules::DONE,
+        State::Failed => rules::NOT_IN_STATE,
     }
 }
 
@@ -80,9 +80,9 @@ fn recover_code(state: State) -> u64
     ensures { λ r. ⌜ r ≡ codeOf (recoverRefusals state) ⌝ }
 {
     match state {
-        State::Normal => 2,
-        State::Nolease => 2,
-        State::Failed => 0,
+        State::Normal => rules::NOT_IN_STATE,
+        State::Nolease => rules::NOT_IN_STATE,
+        State::Failed => rules::DONE,
     }
 }
 
@@ -99,9 +99,9 @@ fn take_lease_code(state: State) -> u64
     ensures { λ r. ⌜ r ≡ codeOf (takeLeaseRefusals state) ⌝ }
 {
     match state {
-        State::Normal => 0,
-        State::Nolease => 2,
-        State::Failed => 2,
+        State::Normal => rules::DONE,
+        State::Nolease => rules::NOT_IN_STATE,
+        State::Failed => rules::NOT_IN_STATE,
     }
 }
 
@@ -118,9 +118,13 @@ fn give_lease_code(state: State, lost: bool) -> u64
     ensures { λ r. ⌜ r ≡ codeOf (giveLeaseRefusals state lost) ⌝ }
 {
     match state {
-        State::Normal => 2,
-        State::Nolease => if lost { 2 } else { 0 },
-        State::Failed => 2,
+        State::Normal => rules::NOT_IN_STATE,
+        State::Nolease => if lost {
+            rules::NOT_IN_STATE
+        } else {
+            rules::DONE
+        },
+        State::Failed => rules::NOT_IN_STATE,
     }
 }
 

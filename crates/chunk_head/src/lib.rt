@@ -50,20 +50,20 @@ fn run_code(state: State, w: Waiting, free: u64) -> u64
     ensures { λ r. ⌜ r ≡ codeOf (runRefusals state w free) ⌝ }
 {
     if !table_kinds::is_normal(state) {
-        return 2;
+        return rules::NOT_IN_STATE;
     }
     if w.count == 0 {
-        return 2;
+        return rules::NOT_IN_STATE;
     }
     let e = chunk_waiting::head(w);
     let k = e.kind;
     if is_undecided(k) {
-        return 2;
+        return rules::NOT_IN_STATE;
     }
     if table_kinds::is_read(k) & (free == 0) {
-        return 5;
+        return rules::NO_ROOM;
     }
-    0
+    rules::DONE
 }
 
 // A last read or last write is raised.
@@ -154,7 +154,7 @@ pub fn run(chunk: u64, block: u64, c: Chunk, r: Record, free: u64) -> Ran
     let state = c.state;
     let w = r.waiting;
     let code = run_code(state, w, free);
-    if code != 0 {
+    if code != rules::DONE {
         let same = silent(c, r);
         return Ran {
             code: code,
@@ -199,18 +199,18 @@ fn overdue_code(state: State, w: Waiting, now: u64, age: u64) -> u64
     ensures { λ r. ⌜ r ≡ codeOf (overdueRefusals state w now age) ⌝ }
 {
     if !table_kinds::is_normal(state) {
-        return 2;
+        return rules::NOT_IN_STATE;
     }
     let e = chunk_waiting::head(w);
     let k = e.kind;
     if !is_undecided(k) {
-        return 2;
+        return rules::NOT_IN_STATE;
     }
     let t = e.timestamp;
     if !is_overdue(now, t, age) {
-        return 2;
+        return rules::NOT_IN_STATE;
     }
-    0
+    rules::DONE
 }
 
 // "The block joins the set". (A store's block is below 16; of any other there is no mark.)
@@ -231,7 +231,7 @@ pub fn overdue(c: Chunk, block: u64, w: Waiting, now: u64, age: u64) -> Changed
 {
     let state = c.state;
     let code = overdue_code(state, w, now, age);
-    if code != 0 {
+    if code != rules::DONE {
         return Changed {
             code: code,
             chunk: c,
