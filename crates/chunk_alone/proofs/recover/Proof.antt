@@ -5,18 +5,9 @@ use Rattle.chunk_alone.proofs.Laws.{changed-as}
 use Rattle.chunk_alone.proofs.recover.Statement.{statement}
 use Rattle.chunk_alone.proofs.recover.Tie as tie
 
-recover-code-requires : tie.Need-recover-code-requires
-recover-code-requires c κs = search needs
-
-with-state-requires : tie.Need-with-state-requires
-with-state-requires c κs = search needs
-
-unless-refused-requires : tie.Need-unless-refused-requires
-unless-refused-requires c κs = search needs
-
 returns : tie.Need-returns
 returns c = c .unless-refused .ensures ∙ changed-as _ _ (c .before .before .recover-code .ensures) _ _ _ (c .before .with-state .ensures)
 
 pub recover-spec : {M : Type 1} → statement M
 recover-spec =
-    tie.close (tie.spec recover-code-requires with-state-requires unless-refused-requires returns)
+    tie.close (tie.spec (λ c κs. search needs) (λ c κs. search needs) (λ c κs. search needs) returns)

@@ -5,19 +5,10 @@ use Rattle.chunk_alone.proofs.Laws.{changed-as}
 use Rattle.chunk_alone.proofs.take_lease.Statement.{statement}
 use Rattle.chunk_alone.proofs.take_lease.Tie as tie
 
-take-lease-code-requires : tie.Need-take-lease-code-requires
-take-lease-code-requires c κs = search needs
-
-with-state-requires : tie.Need-with-state-requires
-with-state-requires c κs = search needs
-
-unless-refused-requires : tie.Need-unless-refused-requires
-unless-refused-requires c κs = search needs
-
 returns : tie.Need-returns
 returns c = c .unless-refused .ensures ∙ changed-as _ _ (c .before .before .take-lease-code .ensures) _ _ _ (c .before .with-state .ensures)
 
 pub take-lease-spec : {M : Type 1} → statement M
 take-lease-spec =
     tie.close
-    (tie.spec take-lease-code-requires with-state-requires unless-refused-requires returns)
+    (tie.spec (λ c κs. search needs) (λ c κs. search needs) (λ c κs. search needs) returns)

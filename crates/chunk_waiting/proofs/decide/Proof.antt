@@ -4,11 +4,8 @@ use borrow.Author.Needs.{needs}
 use Rattle.chunk_waiting.proofs.decide.Statement.{statement}
 use Rattle.chunk_waiting.proofs.decide.Tie as tie
 
-decide-kind-requires : tie.Need-decide-kind-requires
-decide-kind-requires c κs = search needs
-
 returns : tie.Need-returns
 returns c = rw (c .decide-kind .ensures) refl
 
 pub decide-spec : {M : Type 1} → statement M
-decide-spec = tie.close (tie.spec decide-kind-requires returns)
+decide-spec = tie.close (tie.spec (λ c κs. search needs) returns)

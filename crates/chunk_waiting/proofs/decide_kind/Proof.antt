@@ -4,18 +4,6 @@ use borrow.Author.Needs.{needs}
 use Rattle.chunk_waiting.proofs.decide_kind.Statement.{statement}
 use Rattle.chunk_waiting.proofs.decide_kind.Tie as tie
 
-enum-told : tie.Need-enum-told
-enum-told c = search needs
-
-enum-known-k : tie.Need-enum-known-k
-enum-known-k c = search needs
-
-enum-known-k-2 : tie.Need-enum-known-k-2
-enum-known-k-2 c = search needs
-
-enum-known-k-3 : tie.Need-enum-known-k-3
-enum-known-k-3 c = search needs
-
 returns : tie.Need-returns
 returns c = search needs
 
@@ -35,10 +23,10 @@ pub decide-kind-spec : {M : Type 1} → statement M
 decide-kind-spec =
     tie.close
     (tie.spec
-    enum-told
-    enum-known-k
-    enum-known-k-2
-    enum-known-k-3
+    (λ c. search needs)
+    (λ c. search needs)
+    (λ c. search needs)
+    (λ c. search needs)
     returns
     returns-2
     returns-3

@@ -19,23 +19,8 @@ Inv-loop t w n i₀ i = (i ≤ n) × (place (stamped t) (inOrder w) ≡ i + plac
 abbrev μ-loop : tie.MeasureT-loop
 μ-loop t w n i₀ i = n - i
 
-used-requires : tie.Need-used-requires Inv-loop μ-loop
-used-requires c κs = search needs
-
 loop-holds : tie.Need-loop-holds Inv-loop μ-loop
 loop-holds c = omega arith
-
-mul-e : tie.Need-mul-e Inv-loop μ-loop
-mul-e c = search needs
-
-element-copy-out-e : tie.Need-element-copy-out-e Inv-loop μ-loop
-element-copy-out-e c = search needs
-
-add-i : tie.Need-add-i Inv-loop μ-loop
-add-i c = search needs
-
-loop-less : tie.Need-loop-less Inv-loop μ-loop
-loop-less c = search needs
 
 loop-again : tie.Need-loop-again Inv-loop μ-loop
 loop-again c =
@@ -63,12 +48,12 @@ find-spec =
     (tie.spec
     Inv-loop
     μ-loop
-    used-requires
+    (λ c κs. search needs)
     loop-holds
-    mul-e
-    element-copy-out-e
-    add-i
-    loop-less
+    (λ c. search needs)
+    (λ c. search needs)
+    (λ c. search needs)
+    (λ c. search needs)
     loop-again
     returns
     returns-2)

@@ -7,14 +7,8 @@ use Rattle.rules.specs.Zero.{zeroEntry}
 use Rattle.chunk_waiting.proofs.head.Statement.{statement}
 use Rattle.chunk_waiting.proofs.head.Tie as tie
 
-entry-requires : tie.Need-entry-requires
-entry-requires c κs = search needs
-
 returns : tie.Need-returns
 returns c = search needs
-
-element-copy-out-result : tie.Need-element-copy-out-result
-element-copy-out-result c = search needs
 
 returns-2 : tie.Need-returns-2
 returns-2 c =
@@ -22,4 +16,4 @@ returns-2 c =
     sym (getD-take (a .t1 .count) (a .t1 .entries) 0 zeroEntry (omega arith))
 
 pub head-spec : {M : Type 1} → statement M
-head-spec = tie.close (tie.spec entry-requires returns element-copy-out-result returns-2)
+head-spec = tie.close (tie.spec (λ c κs. search needs) returns (λ c. search needs) returns-2)

@@ -29,12 +29,6 @@ fits c =
     let n = count-is _ _ (t .0) in
     omega (arith, place-inside (a .w) (c .tidy .result) (t .0) (a .e) (c .before .behind .result) (c .before .behind .ensures))
 
-behind-requires : tie.Need-behind-requires Inv-loop μ-loop
-behind-requires c κs = search needs
-
-tidy-requires : tie.Need-tidy-requires Inv-loop μ-loop
-tidy-requires c κs = search needs
-
 loop-holds : tie.Need-loop-holds Inv-loop μ-loop
 loop-holds c =
     let e = c .before .before .args .e in
@@ -43,24 +37,6 @@ loop-holds c =
     let k = len c in
     let f = fits c in
     (omega arith, omega arith, refl, opened-start zeroEntry e (t .entries) p f, sym (opened-here zeroEntry e (t .entries) p f))
-
-mul-x : tie.Need-mul-x Inv-loop μ-loop
-mul-x c = search needs
-
-element-copy-out-x : tie.Need-element-copy-out-x Inv-loop μ-loop
-element-copy-out-x c = search needs
-
-mul-held : tie.Need-mul-held Inv-loop μ-loop
-mul-held c = search needs
-
-element-set-from-held : tie.Need-element-set-from-held Inv-loop μ-loop
-element-set-from-held c = search needs
-
-add-i : tie.Need-add-i Inv-loop μ-loop
-add-i c = search needs
-
-loop-less : tie.Need-loop-less Inv-loop μ-loop
-loop-less c = search needs
 
 loop-again : tie.Need-loop-again Inv-loop μ-loop
 loop-again c =
@@ -80,9 +56,6 @@ loop-again c =
       rw (inv .3) (mixed-at zeroEntry (opened p e old) old i (omega arith) i (omega arith) ∙ sym (opened-later zeroEntry e old p f i (inv .0))),
     )
 
-add-out : tie.Need-add-out Inv-loop μ-loop
-add-out c = search needs
-
 returns : tie.Need-returns Inv-loop μ-loop
 returns c =
     let l = c .before in
@@ -97,15 +70,15 @@ insert-spec =
     (tie.spec
     Inv-loop
     μ-loop
-    behind-requires
-    tidy-requires
+    (λ c κs. search needs)
+    (λ c κs. search needs)
     loop-holds
-    mul-x
-    element-copy-out-x
-    mul-held
-    element-set-from-held
-    add-i
-    loop-less
+    (λ c. search needs)
+    (λ c. search needs)
+    (λ c. search needs)
+    (λ c. search needs)
+    (λ c. search needs)
+    (λ c. search needs)
     loop-again
-    add-out
+    (λ c. search needs)
     returns)

@@ -4,27 +4,6 @@ use Rattle.chunk_waiting.proofs.Laws.{marked-here, marked-none}
 use Rattle.chunk_waiting.proofs.mark.Statement.{statement}
 use Rattle.chunk_waiting.proofs.mark.Tie as tie
 
-find-requires : tie.Need-find-requires
-find-requires c κs = search needs
-
-tidy-requires : tie.Need-tidy-requires
-tidy-requires c κs = search needs
-
-mul-e : tie.Need-mul-e
-mul-e c = search needs
-
-element-copy-out-e : tie.Need-element-copy-out-e
-element-copy-out-e c = search needs
-
-decide-requires : tie.Need-decide-requires
-decide-requires c κs = search needs
-
-mul-d : tie.Need-mul-d
-mul-d c = search needs
-
-element-set-from-d : tie.Need-element-set-from-d
-element-set-from-d c = search needs
-
 returns : tie.Need-returns
 returns c =
     let u = c .before .before .before in
@@ -39,12 +18,12 @@ pub mark-spec : {M : Type 1} → statement M
 mark-spec =
     tie.close
     (tie.spec
-    find-requires
-    tidy-requires
-    mul-e
-    element-copy-out-e
-    decide-requires
-    mul-d
-    element-set-from-d
+    (λ c κs. search needs)
+    (λ c κs. search needs)
+    (λ c. search needs)
+    (λ c. search needs)
+    (λ c κs. search needs)
+    (λ c. search needs)
+    (λ c. search needs)
     returns
     returns-2)

@@ -19,38 +19,11 @@ abbrev μ-loop : tie.MeasureT-loop
 len : (c : tie.After-tidy Inv-loop μ-loop) → length (c .tidy .result .entries) ≡ 8
 len c = entries-length _ _ (c .tidy .ensures .0)
 
-tidy-requires : tie.Need-tidy-requires Inv-loop μ-loop
-tidy-requires c κs = search needs
-
 returns : tie.Need-returns Inv-loop μ-loop
 returns c = none-removed _ _ (c .before .tidy .ensures .0) (c .before .tidy .ensures .1) (c .if1 .taken)
 
 loop-holds : tie.Need-loop-holds Inv-loop μ-loop
 loop-holds c = (omega arith, refl, refl)
-
-sub-loop : tie.Need-sub-loop Inv-loop μ-loop
-sub-loop c = search needs
-
-add-x : tie.Need-add-x Inv-loop μ-loop
-add-x c = search needs
-
-mul-x : tie.Need-mul-x Inv-loop μ-loop
-mul-x c = search needs
-
-element-copy-out-x : tie.Need-element-copy-out-x Inv-loop μ-loop
-element-copy-out-x c = search needs
-
-mul-x-2 : tie.Need-mul-x-2 Inv-loop μ-loop
-mul-x-2 c = search needs
-
-element-set-from-x : tie.Need-element-set-from-x Inv-loop μ-loop
-element-set-from-x c = search needs
-
-add-i : tie.Need-add-i Inv-loop μ-loop
-add-i c = search needs
-
-loop-less : tie.Need-loop-less Inv-loop μ-loop
-loop-less c = search needs
 
 loop-again : tie.Need-loop-again Inv-loop μ-loop
 loop-again c =
@@ -62,21 +35,6 @@ loop-again c =
       inv .1,
       rw (inv .2) (forward old k (l .loop .i) (omega arith) _ (mixed-at zeroEntry (places (drop 1 old)) old (l .loop .i) (omega (arith, filled-length zeroEntry 8 (drop 1 old))) (l .loop .i + 1) (omega arith))),
     )
-
-entry-requires : tie.Need-entry-requires Inv-loop μ-loop
-entry-requires c κs = search needs
-
-sub-t17 : tie.Need-sub-t17 Inv-loop μ-loop
-sub-t17 c = search needs
-
-mul-t18 : tie.Need-mul-t18 Inv-loop μ-loop
-mul-t18 c = search needs
-
-element-set-from-out : tie.Need-element-set-from-out Inv-loop μ-loop
-element-set-from-out c = search needs
-
-sub-out : tie.Need-sub-out Inv-loop μ-loop
-sub-out c = search needs
 
 returns-2 : tie.Need-returns-2 Inv-loop μ-loop
 returns-2 c =
@@ -94,21 +52,21 @@ remove-head-spec =
     (tie.spec
     Inv-loop
     μ-loop
-    tidy-requires
+    (λ c κs. search needs)
     returns
     loop-holds
-    sub-loop
-    add-x
-    mul-x
-    element-copy-out-x
-    mul-x-2
-    element-set-from-x
-    add-i
-    loop-less
+    (λ c. search needs)
+    (λ c. search needs)
+    (λ c. search needs)
+    (λ c. search needs)
+    (λ c. search needs)
+    (λ c. search needs)
+    (λ c. search needs)
+    (λ c. search needs)
     loop-again
-    entry-requires
-    sub-t17
-    mul-t18
-    element-set-from-out
-    sub-out
+    (λ c κs. search needs)
+    (λ c. search needs)
+    (λ c. search needs)
+    (λ c. search needs)
+    (λ c. search needs)
     returns-2)

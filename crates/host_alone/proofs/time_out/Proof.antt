@@ -4,14 +4,8 @@ use Rattle.host_alone.proofs.Laws.{unmoved, moves}
 use Rattle.host_alone.proofs.time_out.Statement.{statement}
 use Rattle.host_alone.proofs.time_out.Tie as tie
 
-timeout-code-requires : tie.Need-timeout-code-requires
-timeout-code-requires c κs = search needs
-
 returns : tie.Need-returns
 returns c = unmoved _ _ _ _ (c .before .timeout-code .ensures) (c .if1 .taken)
-
-set-requires : tie.Need-set-requires
-set-requires c κs = search needs
 
 returns-2 : tie.Need-returns-2
 returns-2 c =
@@ -19,4 +13,4 @@ returns-2 c =
     rw (c .before .set .ensures) (moves _ _ _ _ (e .before .timeout-code .ensures) (e .if1 .left))
 
 pub time-out-spec : {M : Type 1} → statement M
-time-out-spec = tie.close (tie.spec timeout-code-requires returns set-requires returns-2)
+time-out-spec = tie.close (tie.spec (λ c κs. search needs) returns (λ c κs. search needs) returns-2)

@@ -9,9 +9,6 @@ returns : tie.Need-returns
 unfolding codeOf
 returns c = rw (c .if1 .taken) refl
 
-is-empty-requires : tie.Need-is-empty-requires
-is-empty-requires c κs = search needs
-
 returns-2 : tie.Need-returns-2
 unfolding codeOf
 returns-2 c = rw (c .before .before .if1 .left, ← c .before .is-empty .ensures, c .if2 .taken) refl
@@ -21,4 +18,4 @@ unfolding codeOf
 returns-3 c = rw (c .before .before .if1 .left, ← c .before .is-empty .ensures, c .if2 .left) refl
 
 pub timeout-code-spec : {M : Type 1} → statement M
-timeout-code-spec = tie.close (tie.spec returns is-empty-requires returns-2 returns-3)
+timeout-code-spec = tie.close (tie.spec returns (λ c κs. search needs) returns-2 returns-3)

@@ -12,9 +12,6 @@ use Rattle.host_keeper.proofs.handed_by.Tie as tie
 abbrev out : Drawn → Handed
 out d = record { code = d .code; timestamp = d .timestamp }
 
-draw-code-requires : tie.Need-draw-code-requires
-draw-code-requires c κs = search needs
-
 returns : tie.Need-returns
 returns c = ap out (draw-refused _ _ _ (c .before .draw-code .ensures) (c .if1 .taken))
 
@@ -32,4 +29,4 @@ returns-2 : tie.Need-returns-2
 returns-2 c = ap out (draw-granted _ _ _ (c .before .before .draw-code .ensures) (c .before .if1 .left))
 
 pub handed-by-spec : {M : Type 1} → statement M
-handed-by-spec = tie.close (tie.spec draw-code-requires returns mul-t6 add-t7 returns-2)
+handed-by-spec = tie.close (tie.spec (λ c κs. search needs) returns mul-t6 add-t7 returns-2)

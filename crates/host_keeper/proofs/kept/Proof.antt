@@ -6,9 +6,6 @@ use Rattle.host_keeper.proofs.Laws.{draw-refused, draw-granted}
 use Rattle.host_keeper.proofs.kept.Statement.{statement}
 use Rattle.host_keeper.proofs.kept.Tie as tie
 
-draw-code-requires : tie.Need-draw-code-requires
-draw-code-requires c κs = search needs
-
 returns : tie.Need-returns
 returns c = ap (λ (d : Drawn). d .keeper) (draw-refused _ _ _ (c .before .draw-code .ensures) (c .if1 .taken))
 
@@ -16,4 +13,4 @@ returns-2 : tie.Need-returns-2
 returns-2 c = ap (λ (d : Drawn). d .keeper) (draw-granted _ _ _ (c .before .draw-code .ensures) (c .if1 .left))
 
 pub kept-spec : {M : Type 1} → statement M
-kept-spec = tie.close (tie.spec draw-code-requires returns returns-2)
+kept-spec = tie.close (tie.spec (λ c κs. search needs) returns returns-2)

@@ -3,11 +3,8 @@ use borrow.Author.Needs.{needs}
 use Rattle.host_operations.proofs.front.Statement.{statement}
 use Rattle.host_operations.proofs.front.Tie as tie
 
-operation-requires : tie.Need-operation-requires
-operation-requires c κs = search needs
-
 returns : tie.Need-returns
 returns c = c .operation .ensures
 
 pub front-spec : {M : Type 1} → statement M
-front-spec = tie.close (tie.spec operation-requires returns)
+front-spec = tie.close (tie.spec (λ c κs. search needs) returns)

@@ -9,24 +9,12 @@ use Rattle.rules.specs.Zero.{zeroOperation}
 use Rattle.host_operations.proofs.operation.Statement.{statement}
 use Rattle.host_operations.proofs.operation.Tie as tie
 
-held-requires : tie.Need-held-requires
-held-requires c κs = search needs
-
-mul-result : tie.Need-mul-result
-mul-result c = search needs
-
-element-copy-out-result : tie.Need-element-copy-out-result
-element-copy-out-result c = search needs
-
 returns : tie.Need-returns
 returns c =
     let h = c .before .before in
     let a = h .before .args in
     let k : a .i < a .t1 .count = omega (arith, length-take (a .t1 .count) (a .t1 .operations), h .held .ensures .0) in
     sym (getD-take (a .t1 .count) (a .t1 .operations) (a .i) zeroOperation k)
-
-operation-requires : tie.Need-operation-requires
-operation-requires c κs = search needs
 
 returns-2 : tie.Need-returns-2
 returns-2 c =
@@ -38,4 +26,4 @@ returns-2 c =
 
 pub operation-spec : {M : Type 1} → statement M
 operation-spec =
-    tie.close (tie.spec held-requires mul-result element-copy-out-result returns operation-requires returns-2)
+    tie.close (tie.spec (λ c κs. search needs) (λ c. search needs) (λ c. search needs) returns (λ c κs. search needs) returns-2)

@@ -24,24 +24,6 @@ len c = simp length-map at (c .good .0 .1 .1 .1 .0 .1 .0 .1)
 loop-holds : tie.Need-loop-holds Inv-loop μ-loop
 loop-holds c = (search needs, refl)
 
-add-operation : tie.Need-add-operation Inv-loop μ-loop
-add-operation c = search needs
-
-operation-requires : tie.Need-operation-requires Inv-loop μ-loop
-operation-requires c κs = search needs
-
-mul-out : tie.Need-mul-out Inv-loop μ-loop
-mul-out c = search needs
-
-array-set-from-out : tie.Need-array-set-from-out Inv-loop μ-loop
-array-set-from-out c = search needs
-
-add-i : tie.Need-add-i Inv-loop μ-loop
-add-i c = search needs
-
-loop-less : tie.Need-loop-less Inv-loop μ-loop
-loop-less c = search needs
-
 loop-again : tie.Need-loop-again Inv-loop μ-loop
 loop-again c =
     let l = c .before .before in
@@ -71,11 +53,11 @@ operations-from-spec =
     Inv-loop
     μ-loop
     loop-holds
-    add-operation
-    operation-requires
-    mul-out
-    array-set-from-out
-    add-i
-    loop-less
+    (λ c. search needs)
+    (λ c κs. search needs)
+    (λ c. search needs)
+    (λ c. search needs)
+    (λ c. search needs)
+    (λ c. search needs)
     loop-again
     returns)

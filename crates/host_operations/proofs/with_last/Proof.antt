@@ -14,21 +14,6 @@ use Rattle.host_operations.proofs.Laws.{queue-is}
 use Rattle.host_operations.proofs.with_last.Statement.{statement}
 use Rattle.host_operations.proofs.with_last.Tie as tie
 
-held-requires : tie.Need-held-requires
-held-requires c κs = search needs
-
-operations-from-requires : tie.Need-operations-from-requires
-operations-from-requires c κs = search needs
-
-mul-out : tie.Need-mul-out
-mul-out c = search needs
-
-array-set-from-out : tie.Need-array-set-from-out
-array-set-from-out c = search needs
-
-add-t11 : tie.Need-add-t11
-add-t11 c = search needs
-
 returns : tie.Need-returns
 returns c =
     let f = c .before in
@@ -48,4 +33,4 @@ returns c =
 pub with-last-spec : {M : Type 1} → statement M
 with-last-spec =
     tie.close
-    (tie.spec held-requires operations-from-requires mul-out array-set-from-out add-t11 returns)
+    (tie.spec (λ c κs. search needs) (λ c κs. search needs) (λ c. search needs) (λ c. search needs) (λ c. search needs) returns)

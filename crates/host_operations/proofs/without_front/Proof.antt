@@ -6,20 +6,11 @@ use Rattle.host_operations.proofs.Laws.{queue-is}
 use Rattle.host_operations.proofs.without_front.Statement.{statement}
 use Rattle.host_operations.proofs.without_front.Tie as tie
 
-held-requires : tie.Need-held-requires
-held-requires c κs = search needs
-
-operations-from-requires : tie.Need-operations-from-requires
-operations-from-requires c κs = search needs
-
 returns : tie.Need-returns
 returns c =
     let h = c .before .before in
     let l = take (h .before .args .q .count) (h .before .args .q .operations) in
     queue-is (drop 1 l) 0 _ (omega (arith, length-drop 1 l, h .held .ensures .0)) (c .before .operations-from .ensures)
-
-sub-t5 : tie.Need-sub-t5
-sub-t5 c = search needs
 
 returns-2 : tie.Need-returns-2
 returns-2 c =
@@ -29,4 +20,4 @@ returns-2 c =
 
 pub without-front-spec : {M : Type 1} → statement M
 without-front-spec =
-    tie.close (tie.spec held-requires operations-from-requires returns sub-t5 returns-2)
+    tie.close (tie.spec (λ c κs. search needs) (λ c κs. search needs) returns (λ c. search needs) returns-2)

@@ -4,11 +4,8 @@ use borrow.Author.Needs.{needs}
 use Rattle.host_replies.proofs.answered_by.Statement.{statement}
 use Rattle.host_replies.proofs.answered_by.Tie as tie
 
-without-requires : tie.Need-without-requires
-without-requires c κs = search needs
-
 returns : tie.Need-returns
 returns c = rw (c .without .ensures) refl
 
 pub answered-by-spec : {M : Type 1} → statement M
-answered-by-spec = tie.close (tie.spec without-requires returns)
+answered-by-spec = tie.close (tie.spec (λ c κs. search needs) returns)

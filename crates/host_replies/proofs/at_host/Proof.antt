@@ -4,18 +4,6 @@ use Rattle.host_replies.proofs.Laws.{noticed, unnoticed}
 use Rattle.host_replies.proofs.at_host.Statement.{statement}
 use Rattle.host_replies.proofs.at_host.Tie as tie
 
-counts-requires : tie.Need-counts-requires
-counts-requires c κs = search needs
-
-header-of-requires : tie.Need-header-of-requires
-header-of-requires c κs = search needs
-
-answered-by-requires : tie.Need-answered-by-requires
-answered-by-requires c κs = search needs
-
-heard-requires : tie.Need-heard-requires
-heard-requires c κs = search needs
-
 returns : tie.Need-returns
 returns c =
     let m = c .before .before .before in
@@ -32,9 +20,9 @@ pub at-host-spec : {M : Type 1} → statement M
 at-host-spec =
     tie.close
     (tie.spec
-    counts-requires
-    header-of-requires
-    answered-by-requires
-    heard-requires
+    (λ c κs. search needs)
+    (λ c κs. search needs)
+    (λ c κs. search needs)
+    (λ c κs. search needs)
     returns
     returns-2)

@@ -4,24 +4,6 @@ use borrow.Author.Needs.{needs}
 use Rattle.host_replies.proofs.counts.Statement.{statement}
 use Rattle.host_replies.proofs.counts.Tie as tie
 
-header-of-requires : tie.Need-header-of-requires
-header-of-requires c κs = search needs
-
-sort-of-requires : tie.Need-sort-of-requires
-sort-of-requires c κs = search needs
-
-front-requires : tie.Need-front-requires
-front-requires c κs = search needs
-
-among-requires : tie.Need-among-requires
-among-requires c κs = search needs
-
-is-reading-requires : tie.Need-is-reading-requires
-is-reading-requires c κs = search needs
-
-suits-requires : tie.Need-suits-requires
-suits-requires c κs = search needs
-
 returns : tie.Need-returns
 returns c =
     let i = c .before in
@@ -41,10 +23,10 @@ pub counts-spec : {M : Type 1} → statement M
 counts-spec =
     tie.close
     (tie.spec
-    header-of-requires
-    sort-of-requires
-    front-requires
-    among-requires
-    is-reading-requires
-    suits-requires
+    (λ c κs. search needs)
+    (λ c κs. search needs)
+    (λ c κs. search needs)
+    (λ c κs. search needs)
+    (λ c κs. search needs)
+    (λ c κs. search needs)
     returns)

@@ -12,9 +12,6 @@ use Rattle.host_replies.proofs.without.Tie as tie
 len : (c : tie.Start) → length (c .args .s .chunks) ≡ 8
 len c = simp length-map at (c .good .0 .1 .1 .0 .1 .0 .1)
 
-element-write-out : tie.Need-element-write-out
-element-write-out c = search needs
-
 returns : tie.Need-returns
 returns c = search needs
 
@@ -25,4 +22,4 @@ returns-2 c =
     rw (set-out (a .s .chunks) (a .chunk) false k) refl
 
 pub without-spec : {M : Type 1} → statement M
-without-spec = tie.close (tie.spec element-write-out returns returns-2)
+without-spec = tie.close (tie.spec (λ c. search needs) returns returns-2)

@@ -17,12 +17,6 @@ sound c = sym (c .before .is-creation .ensures) ∙ not-false _ (c .if1 .left)
 abbrev answered : ℕ → Table → Created
 answered code t = record { table = t; code = code }
 
-is-creation-requires : tie.Need-is-creation-requires
-is-creation-requires c κs = search needs
-
-no-store-requires : tie.Need-no-store-requires
-no-store-requires c κs = search needs
-
 returns : tie.Need-returns
 returns c =
     let s = c .before .before in
@@ -36,4 +30,4 @@ returns-2 c = ap (answered 0) (c .fresh .ensures) ∙ sym (creation-granted (c .
 
 pub create-spec : {M : Type 1} → statement M
 create-spec =
-    tie.close (tie.spec is-creation-requires no-store-requires returns fresh-requires returns-2)
+    tie.close (tie.spec (λ c κs. search needs) (λ c κs. search needs) returns fresh-requires returns-2)

@@ -4,11 +4,8 @@ use borrow.Author.Needs.{needs}
 use Rattle.table_creation.proofs.empty.Statement.{statement}
 use Rattle.table_creation.proofs.empty.Tie as tie
 
-record-requires : tie.Need-record-requires
-record-requires c κs = search needs
-
 returns : tie.Need-returns
 returns c = rw (c .record .ensures) refl
 
 pub empty-spec : {M : Type 1} → statement M
-empty-spec = tie.close (tie.spec record-requires returns)
+empty-spec = tie.close (tie.spec (λ c κs. search needs) returns)

@@ -5,17 +5,8 @@ use Rattle.table_creation.proofs.Laws.{fresh-parts}
 use Rattle.table_creation.proofs.fresh.Statement.{statement}
 use Rattle.table_creation.proofs.fresh.Tie as tie
 
-fresh-hosts-requires : tie.Need-fresh-hosts-requires
-fresh-hosts-requires c κs = search needs
-
-fresh-chunks-requires : tie.Need-fresh-chunks-requires
-fresh-chunks-requires c κs = search needs
-
-empty-requires : tie.Need-empty-requires
-empty-requires c κs = search needs
-
 returns : tie.Need-returns
 returns c = c .empty .ensures ∙ fresh-parts _ _ _ (c .before .before .fresh-hosts .ensures) (c .before .fresh-chunks .ensures)
 
 pub fresh-spec : {M : Type 1} → statement M
-fresh-spec = tie.close (tie.spec fresh-hosts-requires fresh-chunks-requires empty-requires returns)
+fresh-spec = tie.close (tie.spec (λ c κs. search needs) (λ c κs. search needs) (λ c κs. search needs) returns)

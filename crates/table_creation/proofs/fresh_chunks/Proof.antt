@@ -20,9 +20,6 @@ abbrev μ-loop : tie.MeasureT-loop
 few : (c : tie.Start Inv-loop μ-loop) → c .args .k .chunks ≤ chunkLimit
 few c = creation-facts (c .args .k) (c .pre) .chunks
 
-chunk-requires : tie.Need-chunk-requires Inv-loop μ-loop
-chunk-requires c κs = search needs
-
 loop-holds : tie.Need-loop-holds Inv-loop μ-loop
 loop-holds c = (search needs, rw (c .before .chunk .ensures) (made-blank (λ _. freshChunk) zeroChunk 8))
 
@@ -34,9 +31,6 @@ array-set-from-out c = let k = few (c .before .before .before .before) in search
 
 add-c : tie.Need-add-c Inv-loop μ-loop
 add-c c = let k = few (c .before .before .before .before) in search needs
-
-loop-less : tie.Need-loop-less Inv-loop μ-loop
-loop-less c = search needs
 
 loop-again : tie.Need-loop-again Inv-loop μ-loop
 loop-again c =
@@ -57,11 +51,11 @@ fresh-chunks-spec =
     (tie.spec
     Inv-loop
     μ-loop
-    chunk-requires
+    (λ c κs. search needs)
     loop-holds
     mul-out
     array-set-from-out
     add-c
-    loop-less
+    (λ c. search needs)
     loop-again
     returns)

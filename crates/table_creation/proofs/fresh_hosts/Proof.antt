@@ -20,9 +20,6 @@ abbrev μ-loop : tie.MeasureT-loop
 few : (c : tie.Start Inv-loop μ-loop) → c .args .k .hosts ≤ hostLimit
 few c = creation-facts (c .args .k) (c .pre) .hosts
 
-host-requires : tie.Need-host-requires Inv-loop μ-loop
-host-requires c κs = search needs
-
 loop-holds : tie.Need-loop-holds Inv-loop μ-loop
 loop-holds c = (search needs, rw (c .host .ensures) (made-blank (λ _. freshHost) zeroHost 8))
 
@@ -34,9 +31,6 @@ array-set-from-out c = let k = few (c .before .before .before) in search needs
 
 add-h : tie.Need-add-h Inv-loop μ-loop
 add-h c = let k = few (c .before .before .before) in search needs
-
-loop-less : tie.Need-loop-less Inv-loop μ-loop
-loop-less c = search needs
 
 loop-again : tie.Need-loop-again Inv-loop μ-loop
 loop-again c =
@@ -57,11 +51,11 @@ fresh-hosts-spec =
     (tie.spec
     Inv-loop
     μ-loop
-    host-requires
+    (λ c κs. search needs)
     loop-holds
     mul-out
     array-set-from-out
     add-h
-    loop-less
+    (λ c. search needs)
     loop-again
     returns)

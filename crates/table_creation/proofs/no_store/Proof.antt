@@ -4,18 +4,6 @@ use borrow.Author.Needs.{needs}
 use Rattle.table_creation.proofs.no_store.Statement.{statement}
 use Rattle.table_creation.proofs.no_store.Tie as tie
 
-set-requires : tie.Need-set-requires
-set-requires c κs = search needs
-
-host-requires : tie.Need-host-requires
-host-requires c κs = search needs
-
-chunk-requires : tie.Need-chunk-requires
-chunk-requires c κs = search needs
-
-empty-requires : tie.Need-empty-requires
-empty-requires c κs = search needs
-
 returns : tie.Need-returns
 returns c =
     let h = c .before .before in
@@ -24,4 +12,4 @@ returns c =
 pub no-store-spec : {M : Type 1} → statement M
 no-store-spec =
     tie.close
-    (tie.spec set-requires host-requires chunk-requires empty-requires returns)
+    (tie.spec (λ c κs. search needs) (λ c κs. search needs) (λ c κs. search needs) (λ c κs. search needs) returns)

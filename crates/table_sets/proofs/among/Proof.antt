@@ -11,9 +11,6 @@ use Rattle.table_sets.proofs.among.Tie as tie
 len : (c : tie.Start) → length (c .args .t2 .chunks) ≡ 8
 len c = simp length-map at (c .good .1 .0 .1 .1 .0 .1 .0 .1)
 
-element-copy-out-result : tie.Need-element-copy-out-result
-element-copy-out-result c = search needs
-
 returns : tie.Need-returns
 returns c = search needs
 
@@ -24,4 +21,4 @@ returns-2 c =
     sym (List·getD-eq-default (a .t2 .chunks) false k)
 
 pub among-spec : {M : Type 1} → statement M
-among-spec = tie.close (tie.spec element-copy-out-result returns returns-2)
+among-spec = tie.close (tie.spec (λ c. search needs) returns returns-2)

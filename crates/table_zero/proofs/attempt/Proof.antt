@@ -4,11 +4,8 @@ use borrow.Author.Needs.{needs}
 use Rattle.table_zero.proofs.attempt.Statement.{statement}
 use Rattle.table_zero.proofs.attempt.Tie as tie
 
-set-requires : tie.Need-set-requires
-set-requires c κs = search needs
-
 returns : tie.Need-returns
 returns c = rw (c .set .ensures) refl
 
 pub attempt-spec : {M : Type 1} → statement M
-attempt-spec = tie.close (tie.spec set-requires returns)
+attempt-spec = tie.close (tie.spec (λ c κs. search needs) returns)

@@ -4,14 +4,8 @@ use borrow.Author.Needs.{needs}
 use Rattle.table_zero.proofs.host.Statement.{statement}
 use Rattle.table_zero.proofs.host.Tie as tie
 
-operation-requires : tie.Need-operation-requires
-operation-requires c κs = search needs
-
-attempt-requires : tie.Need-attempt-requires
-attempt-requires c κs = search needs
-
 returns : tie.Need-returns
 returns c = rw (c .before .operation .ensures, c .attempt .ensures) refl
 
 pub host-spec : {M : Type 1} → statement M
-host-spec = tie.close (tie.spec operation-requires attempt-requires returns)
+host-spec = tie.close (tie.spec (λ c κs. search needs) (λ c κs. search needs) returns)

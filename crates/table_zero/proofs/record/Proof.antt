@@ -4,11 +4,8 @@ use borrow.Author.Needs.{needs}
 use Rattle.table_zero.proofs.record.Statement.{statement}
 use Rattle.table_zero.proofs.record.Tie as tie
 
-waiting-requires : tie.Need-waiting-requires
-waiting-requires c κs = search needs
-
 returns : tie.Need-returns
 returns c = rw (c .waiting .ensures) refl
 
 pub record-spec : {M : Type 1} → statement M
-record-spec = tie.close (tie.spec waiting-requires returns)
+record-spec = tie.close (tie.spec (λ c κs. search needs) returns)

@@ -4,11 +4,8 @@ use borrow.Author.Needs.{needs}
 use Rattle.table_zero.proofs.waiting.Statement.{statement}
 use Rattle.table_zero.proofs.waiting.Tie as tie
 
-entry-requires : tie.Need-entry-requires
-entry-requires c κs = search needs
-
 returns : tie.Need-returns
 returns c = rw (c .entry .ensures) refl
 
 pub waiting-spec : {M : Type 1} → statement M
-waiting-spec = tie.close (tie.spec entry-requires returns)
+waiting-spec = tie.close (tie.spec (λ c κs. search needs) returns)
