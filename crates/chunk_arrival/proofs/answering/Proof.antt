@@ -4,11 +4,8 @@ use borrow.Author.Needs.{needs}
 use Rattle.chunk_arrival.proofs.answering.Statement.{statement}
 use Rattle.chunk_arrival.proofs.answering.Tie as tie
 
-message-of-requires : tie.Need-message-of-requires
-message-of-requires c κs = search needs
-
 returns : tie.Need-returns
 returns c = rw (c .message-of .ensures) refl
 
 pub answering-spec : {M : Type 1} → statement M
-answering-spec = tie.close (tie.spec message-of-requires returns)
+answering-spec = tie.close (tie.spec (λ c κs. search needs) returns)

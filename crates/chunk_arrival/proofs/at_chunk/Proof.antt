@@ -4,69 +4,6 @@ use Rattle.rules.specs.Chunks.{atChunk}
 use Rattle.chunk_arrival.proofs.at_chunk.Statement.{statement}
 use Rattle.chunk_arrival.proofs.at_chunk.Tie as tie
 
-header-of-requires : tie.Need-header-of-requires
-header-of-requires c κs = search needs
-
-enum-known-m : tie.Need-enum-known-m
-enum-known-m c = search needs
-
-read-or-prewrite-requires : tie.Need-read-or-prewrite-requires
-read-or-prewrite-requires c κs = search needs
-
-enum-known-m-2 : tie.Need-enum-known-m-2
-enum-known-m-2 c = search needs
-
-read-or-prewrite-requires-2 : tie.Need-read-or-prewrite-requires-2
-read-or-prewrite-requires-2 c κs = search needs
-
-enum-told : tie.Need-enum-told
-enum-told c = search needs
-
-commit-or-abort-requires : tie.Need-commit-or-abort-requires
-commit-or-abort-requires c κs = search needs
-
-enum-told-2 : tie.Need-enum-told-2
-enum-told-2 c = search needs
-
-commit-or-abort-requires-2 : tie.Need-commit-or-abort-requires-2
-commit-or-abort-requires-2 c κs = search needs
-
-enum-told-3 : tie.Need-enum-told-3
-enum-told-3 c = search needs
-
-silent-requires : tie.Need-silent-requires
-silent-requires c κs = search needs
-
-enum-told-4 : tie.Need-enum-told-4
-enum-told-4 c = search needs
-
-silent-requires-2 : tie.Need-silent-requires-2
-silent-requires-2 c κs = search needs
-
-enum-told-5 : tie.Need-enum-told-5
-enum-told-5 c = search needs
-
-silent-requires-3 : tie.Need-silent-requires-3
-silent-requires-3 c κs = search needs
-
-enum-told-6 : tie.Need-enum-told-6
-enum-told-6 c = search needs
-
-silent-requires-4 : tie.Need-silent-requires-4
-silent-requires-4 c κs = search needs
-
-enum-told-7 : tie.Need-enum-told-7
-enum-told-7 c = search needs
-
-silent-requires-5 : tie.Need-silent-requires-5
-silent-requires-5 c κs = search needs
-
-enum-told-8 : tie.Need-enum-told-8
-enum-told-8 c = search needs
-
-silent-requires-6 : tie.Need-silent-requires-6
-silent-requires-6 c κs = search needs
-
 returns : tie.Need-returns
 unfolding atChunk
 returns c = rw (← c .before .before .before .before .header-of .ensures, c .before .before .m .given .1) (c .read-or-prewrite .ensures)
@@ -111,27 +48,27 @@ pub at-chunk-spec : {M : Type 1} → statement M
 at-chunk-spec =
     tie.close
     (tie.spec
-    header-of-requires
-    enum-known-m
-    read-or-prewrite-requires
-    enum-known-m-2
-    read-or-prewrite-requires-2
-    enum-told
-    commit-or-abort-requires
-    enum-told-2
-    commit-or-abort-requires-2
-    enum-told-3
-    silent-requires
-    enum-told-4
-    silent-requires-2
-    enum-told-5
-    silent-requires-3
-    enum-told-6
-    silent-requires-4
-    enum-told-7
-    silent-requires-5
-    enum-told-8
-    silent-requires-6
+    (λ c κs. search needs)
+    (λ c. search needs)
+    (λ c κs. search needs)
+    (λ c. search needs)
+    (λ c κs. search needs)
+    (λ c. search needs)
+    (λ c κs. search needs)
+    (λ c. search needs)
+    (λ c κs. search needs)
+    (λ c. search needs)
+    (λ c κs. search needs)
+    (λ c. search needs)
+    (λ c κs. search needs)
+    (λ c. search needs)
+    (λ c κs. search needs)
+    (λ c. search needs)
+    (λ c κs. search needs)
+    (λ c. search needs)
+    (λ c κs. search needs)
+    (λ c. search needs)
+    (λ c κs. search needs)
     returns
     returns-2
     returns-3

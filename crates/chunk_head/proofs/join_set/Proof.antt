@@ -12,9 +12,6 @@ use Rattle.chunk_head.proofs.join_set.Tie as tie
 len : (c : tie.Start) → length (c .args .c .reconcile) ≡ 16
 len c = simp length-map at (c .good .0 .1 .1 .1 .1 .1 .0 .1 .0 .1)
 
-element-write-out : tie.Need-element-write-out
-element-write-out c = search needs
-
 returns : tie.Need-returns
 returns c = refl
 
@@ -25,4 +22,4 @@ returns-2 c =
     ap (withReconcile (a .c)) (sym (set-out (a .c .reconcile) (a .block) true (omega arith)))
 
 pub join-set-spec : {M : Type 1} → statement M
-join-set-spec = tie.close (tie.spec element-write-out returns returns-2)
+join-set-spec = tie.close (tie.spec (λ c. search needs) returns returns-2)

@@ -24,23 +24,11 @@ overdue c =
     let a = h .before .before .before .args in
     ap (λ (e : Entry). not (isOverdue (a .now) (e .timestamp) (a .age))) (sym (h .head .ensures)) ∙ ap not (sym (c .is-overdue .ensures))
 
-is-normal-requires : tie.Need-is-normal-requires
-is-normal-requires c κs = search needs
-
 returns : tie.Need-returns
 returns c = refused-here _ _ _ (ap not (sym (c .before .is-normal .ensures)) ∙ c .if1 .taken)
 
-head-requires : tie.Need-head-requires
-head-requires c κs = search needs
-
-is-undecided-requires : tie.Need-is-undecided-requires
-is-undecided-requires c κs = search needs
-
 returns-2 : tie.Need-returns-2
 returns-2 c = refused-later _ _ _ _ (normal (c .before .before .before)) (refused-here _ _ _ (undecided (c .before) ∙ c .if2 .taken))
-
-is-overdue-requires : tie.Need-is-overdue-requires
-is-overdue-requires c κs = search needs
 
 returns-3 : tie.Need-returns-3
 returns-3 c =
@@ -56,11 +44,11 @@ pub overdue-code-spec : {M : Type 1} → statement M
 overdue-code-spec =
     tie.close
     (tie.spec
-    is-normal-requires
+    (λ c κs. search needs)
     returns
-    head-requires
-    is-undecided-requires
+    (λ c κs. search needs)
+    (λ c κs. search needs)
     returns-2
-    is-overdue-requires
+    (λ c κs. search needs)
     returns-3
     returns-4)

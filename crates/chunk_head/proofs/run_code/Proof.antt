@@ -25,28 +25,16 @@ reads c =
     let free = h .before .before .before .before .before .args .free in
     ap (λ (e : Entry). isRead (e .kind) && eqb free 0) (sym (h .head .ensures)) ∙ ap (λ (b : Bool). b && eqb free 0) (sym (c .is-read .ensures))
 
-is-normal-requires : tie.Need-is-normal-requires
-is-normal-requires c κs = search needs
-
 returns : tie.Need-returns
 returns c = refused-here _ _ _ (ap not (sym (c .before .is-normal .ensures)) ∙ c .if1 .taken)
 
 returns-2 : tie.Need-returns-2
 returns-2 c = refused-later _ _ _ _ (normal (c .before .before)) (refused-here _ _ _ (eq-eqb _ _ (c .if2 .taken)))
 
-head-requires : tie.Need-head-requires
-head-requires c κs = search needs
-
-is-undecided-requires : tie.Need-is-undecided-requires
-is-undecided-requires c κs = search needs
-
 returns-3 : tie.Need-returns-3
 returns-3 c =
     let v = c .before .before .before in
     refused-later _ _ _ _ (normal (v .before .before)) (refused-later _ _ _ _ (ne-eqb _ _ (v .if2 .left)) (refused-here _ _ _ (undecided (c .before) ∙ c .if3 .taken)))
-
-is-read-requires : tie.Need-is-read-requires
-is-read-requires c κs = search needs
 
 returns-4 : tie.Need-returns-4
 returns-4 c =
@@ -64,12 +52,12 @@ pub run-code-spec : {M : Type 1} → statement M
 run-code-spec =
     tie.close
     (tie.spec
-    is-normal-requires
+    (λ c κs. search needs)
     returns
     returns-2
-    head-requires
-    is-undecided-requires
+    (λ c κs. search needs)
+    (λ c κs. search needs)
     returns-3
-    is-read-requires
+    (λ c κs. search needs)
     returns-4
     returns-5)

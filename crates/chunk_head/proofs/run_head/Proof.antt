@@ -5,36 +5,6 @@ use Rattle.chunk_head.proofs.Laws.{ran-as}
 use Rattle.chunk_head.proofs.run_head.Statement.{statement}
 use Rattle.chunk_head.proofs.run_head.Tie as tie
 
-head-requires : tie.Need-head-requires
-head-requires c κs = search needs
-
-remove-head-requires : tie.Need-remove-head-requires
-remove-head-requires c κs = search needs
-
-enum-told : tie.Need-enum-told
-enum-told c = search needs
-
-run-read-requires : tie.Need-run-read-requires
-run-read-requires c κs = search needs
-
-enum-told-2 : tie.Need-enum-told-2
-enum-told-2 c = search needs
-
-silent-requires : tie.Need-silent-requires
-silent-requires c κs = search needs
-
-enum-known-k : tie.Need-enum-known-k
-enum-known-k c = search needs
-
-run-committed-requires : tie.Need-run-committed-requires
-run-committed-requires c κs = search needs
-
-enum-told-3 : tie.Need-enum-told-3
-enum-told-3 c = search needs
-
-silent-requires-2 : tie.Need-silent-requires-2
-silent-requires-2 c κs = search needs
-
 returns : tie.Need-returns
 returns c =
     let u = c .before .before .before .before in
@@ -59,16 +29,16 @@ pub run-head-spec : {M : Type 1} → statement M
 run-head-spec =
     tie.close
     (tie.spec
-    head-requires
-    remove-head-requires
-    enum-told
-    run-read-requires
-    enum-told-2
-    silent-requires
-    enum-known-k
-    run-committed-requires
-    enum-told-3
-    silent-requires-2
+    (λ c κs. search needs)
+    (λ c κs. search needs)
+    (λ c. search needs)
+    (λ c κs. search needs)
+    (λ c. search needs)
+    (λ c κs. search needs)
+    (λ c. search needs)
+    (λ c κs. search needs)
+    (λ c. search needs)
+    (λ c κs. search needs)
     returns
     returns-2
     returns-3
