@@ -1,10 +1,11 @@
 // The store driver: a session from standard input to standard output. Document 01, "One session, whole".
 // What a line says and what an answer looks like is promised by `text_lines`, what an event does by `engine`; here is what reads and
 // writes, and that it is safe and ends. Memory does not grow with the input: of a line that is too long no more is kept than shows it.
-ghost use Prim.Native.Nat.{_+_, _≤_, min};
+ghost use Prim.Native.Nat.{_+_, _≤_};
 ghost use mathlib.Core.Path.{_≡_};
 ghost use lib.ListN.{length};
 ghost use lib.Seq.{paste};
+ghost use Rattle.text_lines.specs.Texts.{textLimit};
 ghost use Rattle.driver.specs.Answers.{answerTo};
 use rules::Answer;
 use rules::Outcome;
@@ -95,8 +96,8 @@ fn answer_to(t: Table, asked: Asked) -> Answer
 
 // Room for one line more in the output that is gathered: where it lacks, what is there is written.
 fn room(out: &[u8], used: usize) -> usize
-    requires { ⌜ (used ≤ length (now out)) × (121 ≤ length (now out)) ⌝ }
-    ensures { λ r. ⌜ r + 121 ≤ length (now (out .entry)) ⌝ }
+    requires { ⌜ (used ≤ length (now out)) × (textLimit ≤ length (now out)) ⌝ }
+    ensures { λ r. ⌜ r + textLimit ≤ length (now (out .entry)) ⌝ }
 {
     if text_lines::ROOM <= out.len() - used {
         return used;
@@ -105,18 +106,12 @@ fn room(out: &[u8], used: usize) -> usize
     0
 }
 
-fn least(a: usize, b: usize) -> usize
-    ensures { λ r. ⌜ r ≡ min a b ⌝ }
-{
-    if a < b { a } else { b }
-}
-
 // The line goes behind the output that is gathered.
 fn put(out: &mut [u8], used: usize, t: Text) -> usize
-    requires { ⌜ used + 121 ≤ length (now out) ⌝ }
-    ensures { λ r. ⌜ (now (out .exit) ≡ paste (now (out .entry)) used (t .bytes) (min (t .count) 121)) × (r ≡ used + min (t .count) 121) ⌝ }
+    requires { ⌜ (used + textLimit ≤ length (now out)) × (t .count ≤ textLimit) ⌝ }
+    ensures { λ r. ⌜ (now (out .exit) ≡ paste (now (out .entry)) used (t .bytes) (t .count)) × (r ≡ used + t .count) ⌝ }
 {
-    let n = least(t.count, text_lines::ROOM);
+    let n = t.count;
     let mut i: usize = 0;
     while i < n {
         out[used + i] = t.bytes[i];
@@ -127,7 +122,7 @@ fn put(out: &mut [u8], used: usize, t: Text) -> usize
 
 // "It writes a line an event". How much output is gathered then.
 fn answer(out: &mut [u8], used: usize, code: u64, o: Outcome) -> usize
-    requires { ⌜ (used ≤ length (now out)) × (121 ≤ length (now out)) ⌝ }
+    requires { ⌜ (used ≤ length (now out)) × (textLimit ≤ length (now out)) ⌝ }
     ensures { λ r. ⌜ r ≤ length (now (out .exit)) ⌝ }
 {
     let at = room(out, used);
@@ -136,7 +131,7 @@ fn answer(out: &mut [u8], used: usize, code: u64, o: Outcome) -> usize
 
 // "an event a line": each is answered, in its order.
 fn run(table: Table, unread: Unread, block: &mut [u8], out: &mut [u8])
-    requires { ⌜ (unread .end ≤ length (now block)) × (121 ≤ length (now out)) ⌝ }
+    requires { ⌜ (unread .end ≤ length (now block)) × (textLimit ≤ length (now out)) ⌝ }
 {
     let mut t = table;
     let mut u = unread;
@@ -164,7 +159,7 @@ fn run(table: Table, unread: Unread, block: &mut [u8], out: &mut [u8])
 fn refuse() {
     let t = text_lines::answer_text(1, Outcome::None);
     let bytes = t.bytes;
-    let n = least(t.count, text_lines::ROOM);
+    let n = t.count;
     io::write_all(libc::STDOUT_FILENO, &bytes[..n]);
 }
 

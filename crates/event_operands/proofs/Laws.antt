@@ -1,5 +1,5 @@
 -- The table of operands, the operand of a sort, and how many a kind has
-use Prim.Native.Nat.{ℕ, _+_, _≤_, _<_}
+use Prim.Native.Nat.{ℕ, _+_}
 use mathlib.Core.Path.{_≡_, refl, sym, ap, _∙_}
 use mathlib.Core.Bool.{Bool, true, false, cond}
 use mathlib.Core.List.{[], _∷_}
@@ -11,17 +11,14 @@ use Rattle.rules.specs.declared.Operand.{Operand}
 use Rattle.rules.specs.declared.Operands.{Operands}
 use Rattle.rules.specs.Events.{EventKind, eventKinds, unknownKind, kindOf, ranges}
 use Rattle.rules.specs.Operands.{inRange, isOwn, ownOf}
-use Rattle.rules.specs.Words.{those, each, every, numbers}
-use Rattle.rules.proofs.Lists.{three, walk, each-number, under-beyond}
+use Rattle.rules.specs.Words.{those}
+use Rattle.rules.proofs.Lists.{Others, three, walk, under-other}
 use Rattle.event_operands.specs.Address.{sortNumber, _isA_, operandsOf, the}
 
--- the operands of 0 and of the events, one after the other
-pub listed : (kind : ℕ) → kind < 17 → getD (each (λ n. kindOf n .operands) (numbers 17)) kind (unknownKind .operands) ≡ kindOf kind .operands
-listed kind h = each-number (λ n. kindOf n .operands) 17 kind (unknownKind .operands) h
-
-pub beyond : (kind : ℕ) → 17 ≤ kind → unknownKind .operands ≡ kindOf kind .operands
-unfolding kindOf every
-beyond kind h = ap (λ (k : EventKind). k .operands) (sym (under-beyond unknownKind kind 17 eventKinds refl h))
+-- no event has another number
+pub no-kind : (kind : ℕ) → Others (Unit {0}) kind eventKinds → unknownKind .operands ≡ kindOf kind .operands
+unfolding kindOf
+no-kind kind o = ap (λ (k : EventKind). k .operands) (sym (under-other unknownKind kind (Unit {0}) eventKinds o))
 
 -- two sorts with one number are one
 pub same-sort : (o sort : Operand) → o isA sort ≡ true → o ≡ sort

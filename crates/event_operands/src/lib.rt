@@ -15,38 +15,29 @@ use rules::Operands;
 use rules::Slot;
 use rules::Timestamp;
 
-// 0, which is no event, and the events 1 to 16.
-const KINDS: usize = 17;
-
-const OPERANDS: [Operands; KINDS] = [
-    Operands(Operand::Unknown, Operand::Unknown, Operand::Unknown),
-    Operands(Operand::Host, Operand::Block, Operand::Unused), // 1 read
-    Operands(Operand::Host, Operand::Block, Operand::Value), // 2 write
-    Operands(Operand::Host, Operand::Clock, Operand::Chunk), // 3 start
-    Operands(Operand::Place, Operand::Unused, Operand::Unused), // 4 deliver
-    Operands(Operand::Place, Operand::Unused, Operand::Unused), // 5 drop
-    Operands(Operand::Host, Operand::Unused, Operand::Unused), // 6 finish
-    Operands(Operand::Host, Operand::Unused, Operand::Unused), // 7 timeout
-    Operands(Operand::Host, Operand::Unused, Operand::Unused), // 8 refresh
-    Operands(Operand::Chunk, Operand::Block, Operand::Unused), // 9 run
-    Operands(Operand::Host, Operand::Unused, Operand::Unused), // 10 stop
-    Operands(Operand::Chunk, Operand::Unused, Operand::Unused), // 11 fail
-    Operands(Operand::Chunk, Operand::Unused, Operand::Unused), // 12 recover
-    Operands(Operand::Chunk, Operand::Unused, Operand::Unused), // 13 take lease
-    Operands(Operand::Chunk, Operand::Unused, Operand::Unused), // 14 give lease
-    Operands(Operand::Unused, Operand::Unused, Operand::Unused), // 15 epoch change
-    Operands(Operand::Chunk, Operand::Block, Operand::Now), // 16 overdue
-];
-
-// What the operands of a kind are; those of an unknown one are event 0's.
+// What the operands of a kind are; no number is in the range of an unknown one's.
 fn operands_of(kind: u64) -> Operands
     ensures { λ r. ⌜ r ≡ kindOf kind .operands ⌝ }
 {
-    if kind < KINDS as u64 {
-        let i = kind as usize;
-        return OPERANDS[i];
+    match kind {
+        1 => Operands(Operand::Host, Operand::Block, Operand::Unused), // read
+        2 => Operands(Operand::Host, Operand::Block, Operand::Value), // write
+        3 => Operands(Operand::Host, Operand::Clock, Operand::Chunk), // start
+        4 => Operands(Operand::Place, Operand::Unused, Operand::Unused), // deliver
+        5 => Operands(Operand::Place, Operand::Unused, Operand::Unused), // drop
+        6 => Operands(Operand::Host, Operand::Unused, Operand::Unused), // finish
+        7 => Operands(Operand::Host, Operand::Unused, Operand::Unused), // timeout
+        8 => Operands(Operand::Host, Operand::Unused, Operand::Unused), // refresh
+        9 => Operands(Operand::Chunk, Operand::Block, Operand::Unused), // run
+        10 => Operands(Operand::Host, Operand::Unused, Operand::Unused), // stop
+        11 => Operands(Operand::Chunk, Operand::Unused, Operand::Unused), // fail
+        12 => Operands(Operand::Chunk, Operand::Unused, Operand::Unused), // recover
+        13 => Operands(Operand::Chunk, Operand::Unused, Operand::Unused), // take lease
+        14 => Operands(Operand::Chunk, Operand::Unused, Operand::Unused), // give lease
+        15 => Operands(Operand::Unused, Operand::Unused, Operand::Unused), // epoch change
+        16 => Operands(Operand::Chunk, Operand::Block, Operand::Now), // overdue
+        _ => Operands(Operand::Unknown, Operand::Unknown, Operand::Unknown),
     }
-    OPERANDS[0]
 }
 
 // ---- ranges

@@ -47,6 +47,13 @@ unfolding fold
 text-more k [] = ap textOf (sym (append-nil k))
 text-more k (b ∷ l) = rw (followed-is k b) (text-more (k ++ b ∷ []) l) ∙ ap textOf (append-assoc k (b ∷ []) l)
 
+-- a text counts no more than it has room for
+pub text-fits : (t : Text) (l : List ℕ) → t ≡ textOf l → t .count ≤ textLimit
+unfolding textOf
+text-fits t l e =
+    let n = ap (λ (t : Text). t .count) e in
+    omega (arith, n, length-take textLimit l)
+
 -- ---- a block of input, byte by byte
 
 module _ (block : List ℕ) (i : ℕ) (t : Text) where

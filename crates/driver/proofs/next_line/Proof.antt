@@ -13,55 +13,22 @@ Inv-loop block₀ text₀ at₀ end₀ turns₀ block text at end turns = (end �
 abbrev μ-loop : tie.MeasureT-loop
 μ-loop block₀ text₀ at₀ end₀ turns₀ block text at end turns = turns
 
-no-text-requires : tie.Need-no-text-requires Inv-loop μ-loop
-no-text-requires c κs = search needs
-
 loop-holds : tie.Need-loop-holds Inv-loop μ-loop
 loop-holds c = search needs
-
-slice-reshare-prefix-cut-line : tie.Need-slice-reshare-prefix-cut-line Inv-loop μ-loop
-slice-reshare-prefix-cut-line c = search needs
 
 slice-aggregate-cut-line : tie.Need-slice-aggregate-cut-line Inv-loop μ-loop
 slice-aggregate-cut-line c =
     let l = c .before .before in
     sym (length-take-le (l .loop .end) (l .loop .block) (l .loop .inv .0))
 
-cut-line-requires : tie.Need-cut-line-requires Inv-loop μ-loop
-cut-line-requires c κs = search needs
-
-same-length : tie.Need-same-length Inv-loop μ-loop
-same-length c = search needs
-
 returns : tie.Need-returns Inv-loop μ-loop
 returns c = search needs
-
-read-block-requires : tie.Need-read-block-requires Inv-loop μ-loop
-read-block-requires c κs = search needs
-
-last-line-requires : tie.Need-last-line-requires Inv-loop μ-loop
-last-line-requires c κs = search needs
-
-same-length-2 : tie.Need-same-length-2 Inv-loop μ-loop
-same-length-2 c = search needs
 
 returns-2 : tie.Need-returns-2 Inv-loop μ-loop
 returns-2 c = search needs
 
-sub-turns : tie.Need-sub-turns Inv-loop μ-loop
-sub-turns c = search needs
-
-loop-less : tie.Need-loop-less Inv-loop μ-loop
-loop-less c = search needs
-
 loop-again : tie.Need-loop-again Inv-loop μ-loop
 loop-again c = search needs
-
-last-line-requires-2 : tie.Need-last-line-requires-2 Inv-loop μ-loop
-last-line-requires-2 c κs = search needs
-
-same-length-3 : tie.Need-same-length-3 Inv-loop μ-loop
-same-length-3 c = search needs
 
 returns-3 : tie.Need-returns-3 Inv-loop μ-loop
 returns-3 c = search needs
@@ -72,20 +39,20 @@ next-line-spec =
     (tie.spec
     Inv-loop
     μ-loop
-    no-text-requires
+    (λ c κs. search needs)
     loop-holds
-    slice-reshare-prefix-cut-line
+    (λ c. search needs)
     slice-aggregate-cut-line
-    cut-line-requires
-    same-length
+    (λ c κs. search needs)
+    (λ c. search needs)
     returns
-    read-block-requires
-    last-line-requires
-    same-length-2
+    (λ c κs. search needs)
+    (λ c κs. search needs)
+    (λ c. search needs)
     returns-2
-    sub-turns
-    loop-less
+    (λ c. search needs)
+    (λ c. search needs)
     loop-again
-    last-line-requires-2
-    same-length-3
+    (λ c κs. search needs)
+    (λ c. search needs)
     returns-3)

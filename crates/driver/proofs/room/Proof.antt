@@ -5,9 +5,6 @@ use borrow.Author.Needs.{needs}
 use Rattle.driver.proofs.room.Statement.{statement}
 use Rattle.driver.proofs.room.Tie as tie
 
-sub-if1 : tie.Need-sub-if1
-sub-if1 c = search needs
-
 returns : tie.Need-returns
 returns c = search needs
 
@@ -16,12 +13,9 @@ slice-aggregate-write-all c =
     let s = c .before .before .before in
     sym (length-take-le (s .args .used) (s .args .out .now) (s .pre .0))
 
-write-all-requires : tie.Need-write-all-requires
-write-all-requires c κs = search needs
-
 returns-2 : tie.Need-returns-2
 returns-2 c = search needs
 
 pub room-spec : {M : Type 1} → statement M
 room-spec =
-    tie.close (tie.spec sub-if1 returns slice-aggregate-write-all write-all-requires returns-2)
+    tie.close (tie.spec (λ c. search needs) returns slice-aggregate-write-all (λ c κs. search needs) returns-2)

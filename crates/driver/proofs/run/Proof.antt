@@ -18,18 +18,6 @@ abbrev μ-loop : tie.MeasureT-loop
 loop-holds : tie.Need-loop-holds Inv-loop μ-loop
 loop-holds c = search needs
 
-next-line-requires : tie.Need-next-line-requires Inv-loop μ-loop
-next-line-requires c κs = search needs
-
-parse-text-requires : tie.Need-parse-text-requires Inv-loop μ-loop
-parse-text-requires c κs = search needs
-
-event-of-requires : tie.Need-event-of-requires Inv-loop μ-loop
-event-of-requires c κs = search needs
-
-answer-to-requires : tie.Need-answer-to-requires Inv-loop μ-loop
-answer-to-requires c κs = search needs
-
 answer-requires : tie.Need-answer-requires Inv-loop μ-loop
 answer-requires c κs =
     let l = c .before .before .before .before .before .before .before .before .before .before .before .before in
@@ -54,24 +42,15 @@ loop-again c =
     let i = n .before .before .before .loop .inv in
     omega (arith, n .next-line .ensures, n .next-line .kept .0, a .answer .ensures, a .answer .kept .0, i .1, i .3)
 
-slice-reshare-prefix-write-all : tie.Need-slice-reshare-prefix-write-all Inv-loop μ-loop
-slice-reshare-prefix-write-all c = search needs
-
 slice-aggregate-write-all : tie.Need-slice-aggregate-write-all Inv-loop μ-loop
 slice-aggregate-write-all c =
     let l = c .before .before in
     sym (length-take-le (l .loop .used) (l .loop .out) (l .loop .inv .2))
 
-write-all-requires : tie.Need-write-all-requires Inv-loop μ-loop
-write-all-requires c κs = search needs
-
 same-length : tie.Need-same-length Inv-loop μ-loop
 same-length c =
     let i = c .before .before .before .loop .inv in
     ⊎-elim (λ w. ap length (w .1) ∙ i .1) (λ w. ap length (w .7) ∙ w .2 .kept .0 ∙ i .1) (c .before .before .loop-test .came)
-
-same-length-2 : tie.Need-same-length-2 Inv-loop μ-loop
-same-length-2 c = search needs
 
 returns : tie.Need-returns Inv-loop μ-loop
 returns c = search needs
@@ -83,17 +62,17 @@ run-spec =
     Inv-loop
     μ-loop
     loop-holds
-    next-line-requires
-    parse-text-requires
-    event-of-requires
-    answer-to-requires
+    (λ c κs. search needs)
+    (λ c κs. search needs)
+    (λ c κs. search needs)
+    (λ c κs. search needs)
     answer-requires
     sub-turns
     loop-less
     loop-again
-    slice-reshare-prefix-write-all
+    (λ c. search needs)
     slice-aggregate-write-all
-    write-all-requires
+    (λ c κs. search needs)
     same-length
-    same-length-2
+    (λ c. search needs)
     returns)

@@ -4,15 +4,6 @@ use borrow.Author.Needs.{needs}
 use Rattle.event_operands.proofs.address.Statement.{statement}
 use Rattle.event_operands.proofs.address.Tie as tie
 
-enum-told : tie.Need-enum-told
-enum-told c = search needs
-
-enum-known-s : tie.Need-enum-known-s
-enum-known-s c = search needs
-
-header-of-requires : tie.Need-header-of-requires
-header-of-requires c κs = search needs
-
 returns : tie.Need-returns
 returns c = rw (c .enum-told .given .1) refl
 
@@ -20,4 +11,4 @@ returns-2 : tie.Need-returns-2
 returns-2 c = search needs
 
 pub address-spec : {M : Type 1} → statement M
-address-spec = tie.close (tie.spec enum-told enum-known-s header-of-requires returns returns-2)
+address-spec = tie.close (tie.spec (λ c. search needs) (λ c. search needs) (λ c κs. search needs) returns returns-2)

@@ -4,20 +4,8 @@ use borrow.Author.Needs.{needs}
 use Rattle.event_operands.proofs.has_a.Statement.{statement}
 use Rattle.event_operands.proofs.has_a.Tie as tie
 
-operands-of-requires : tie.Need-operands-of-requires
-operands-of-requires c κs = search needs
-
-is-a-requires : tie.Need-is-a-requires
-is-a-requires c κs = search needs
-
-is-a-requires-2 : tie.Need-is-a-requires-2
-is-a-requires-2 c κs = search needs
-
-is-a-requires-3 : tie.Need-is-a-requires-3
-is-a-requires-3 c κs = search needs
-
 returns : tie.Need-returns
 returns c = rw (c .before .before .is-a .ensures, c .before .is-a2 .ensures, c .is-a3 .ensures, c .before .before .before .operands-of .ensures) refl
 
 pub has-a-spec : {M : Type 1} → statement M
-has-a-spec = tie.close (tie.spec operands-of-requires is-a-requires is-a-requires-2 is-a-requires-3 returns)
+has-a-spec = tie.close (tie.spec (λ c κs. search needs) (λ c κs. search needs) (λ c κs. search needs) (λ c κs. search needs) returns)

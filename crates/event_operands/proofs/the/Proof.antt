@@ -4,20 +4,11 @@ use borrow.Author.Needs.{needs}
 use Rattle.event_operands.proofs.the.Statement.{statement}
 use Rattle.event_operands.proofs.the.Tie as tie
 
-operands-of-requires : tie.Need-operands-of-requires
-operands-of-requires c κs = search needs
-
-is-a-requires : tie.Need-is-a-requires
-is-a-requires c κs = search needs
-
 returns : tie.Need-returns
 returns c =
     let a = c .before in
     let o = a .before .operands-of .ensures in
     rw (← o, sym (a .is-a .ensures) ∙ c .if1 .taken) refl
-
-is-a-requires-2 : tie.Need-is-a-requires-2
-is-a-requires-2 c κs = search needs
 
 returns-2 : tie.Need-returns-2
 returns-2 c =
@@ -25,9 +16,6 @@ returns-2 c =
     let a = b .before .before in
     let o = a .before .operands-of .ensures in
     rw (← o, sym (a .is-a .ensures) ∙ b .before .if1 .left, sym (b .is-a2 .ensures) ∙ c .if2 .taken) refl
-
-is-a-requires-3 : tie.Need-is-a-requires-3
-is-a-requires-3 c κs = search needs
 
 returns-3 : tie.Need-returns-3
 returns-3 c =
@@ -49,11 +37,11 @@ pub the-spec : {M : Type 1} → statement M
 the-spec =
     tie.close
     (tie.spec
-    operands-of-requires
-    is-a-requires
+    (λ c κs. search needs)
+    (λ c κs. search needs)
     returns
-    is-a-requires-2
+    (λ c κs. search needs)
     returns-2
-    is-a-requires-3
+    (λ c κs. search needs)
     returns-3
     returns-4)

@@ -4,36 +4,6 @@ use Rattle.text_lines.specs.Texts.{answerLine}
 use Rattle.text_lines.proofs.answer_text.Statement.{statement}
 use Rattle.text_lines.proofs.answer_text.Tie as tie
 
-enum-told : tie.Need-enum-told
-enum-told c = search needs
-
-numbers-text-requires : tie.Need-numbers-text-requires
-numbers-text-requires c κs = search needs
-
-enum-known-o : tie.Need-enum-known-o
-enum-known-o c = search needs
-
-numbers-text-requires-2 : tie.Need-numbers-text-requires-2
-numbers-text-requires-2 c κs = search needs
-
-enum-known-o-2 : tie.Need-enum-known-o-2
-enum-known-o-2 c = search needs
-
-numbers-text-requires-3 : tie.Need-numbers-text-requires-3
-numbers-text-requires-3 c κs = search needs
-
-enum-known-o-3 : tie.Need-enum-known-o-3
-enum-known-o-3 c = search needs
-
-numbers-text-requires-4 : tie.Need-numbers-text-requires-4
-numbers-text-requires-4 c κs = search needs
-
-enum-known-o-4 : tie.Need-enum-known-o-4
-enum-known-o-4 c = search needs
-
-numbers-text-requires-5 : tie.Need-numbers-text-requires-5
-numbers-text-requires-5 c κs = search needs
-
 returns : tie.Need-returns
 unfolding answerLine
 returns c = rw (c .before .enum-told .given .1) (c .numbers-text .ensures)
@@ -58,16 +28,16 @@ pub answer-text-spec : {M : Type 1} → statement M
 answer-text-spec =
     tie.close
     (tie.spec
-    enum-told
-    numbers-text-requires
-    enum-known-o
-    numbers-text-requires-2
-    enum-known-o-2
-    numbers-text-requires-3
-    enum-known-o-3
-    numbers-text-requires-4
-    enum-known-o-4
-    numbers-text-requires-5
+    (λ c. search needs)
+    (λ c κs. search needs)
+    (λ c. search needs)
+    (λ c κs. search needs)
+    (λ c. search needs)
+    (λ c κs. search needs)
+    (λ c. search needs)
+    (λ c κs. search needs)
+    (λ c. search needs)
+    (λ c κs. search needs)
     returns
     returns-2
     returns-3

@@ -4,24 +4,6 @@ use Rattle.text_lines.proofs.Texts.{five-line}
 use Rattle.text_lines.proofs.numbers_text.Statement.{statement}
 use Rattle.text_lines.proofs.numbers_text.Tie as tie
 
-no-text-requires : tie.Need-no-text-requires
-no-text-requires c κs = search needs
-
-push-number-requires : tie.Need-push-number-requires
-push-number-requires c κs = search needs
-
-push-number-requires-2 : tie.Need-push-number-requires-2
-push-number-requires-2 c κs = search needs
-
-push-number-requires-3 : tie.Need-push-number-requires-3
-push-number-requires-3 c κs = search needs
-
-push-number-requires-4 : tie.Need-push-number-requires-4
-push-number-requires-4 c κs = search needs
-
-push-number-requires-5 : tie.Need-push-number-requires-5
-push-number-requires-5 c κs = search needs
-
 returns : tie.Need-returns
 returns c =
     let c1 = c .before .before .before .before in
@@ -32,10 +14,10 @@ pub numbers-text-spec : {M : Type 1} → statement M
 numbers-text-spec =
     tie.close
     (tie.spec
-    no-text-requires
-    push-number-requires
-    push-number-requires-2
-    push-number-requires-3
-    push-number-requires-4
-    push-number-requires-5
+    (λ c κs. search needs)
+    (λ c κs. search needs)
+    (λ c κs. search needs)
+    (λ c κs. search needs)
+    (λ c κs. search needs)
+    (λ c κs. search needs)
     returns)

@@ -13,9 +13,6 @@ use Rattle.text_lines.proofs.parse_text.Tie as tie
 len : (c : tie.Start) → length (c .args .t .bytes) ≡ 121
 len c = simp length-map at (c .good .0 .1 .1 .0 .1 .0 .1)
 
-least-requires : tie.Need-least-requires
-least-requires c κs = search needs
-
 array-share-prefix-bytes : tie.Need-array-share-prefix-bytes
 array-share-prefix-bytes c =
     let k = len (c .before .before) in
@@ -27,9 +24,6 @@ slice-aggregate-parse c =
     let k = len s in
     sym (length-take-le (c .before .before .least .result) (s .args .t .bytes) (omega (arith, c .before .before .least .ensures)))
 
-parse-requires : tie.Need-parse-requires
-parse-requires c κs = search needs
-
 returns : tie.Need-returns
 returns c =
     let l = c .before .before .before in
@@ -39,4 +33,4 @@ returns c =
 pub parse-text-spec : {M : Type 1} → statement M
 parse-text-spec =
     tie.close
-    (tie.spec least-requires array-share-prefix-bytes slice-aggregate-parse parse-requires returns)
+    (tie.spec (λ c κs. search needs) array-share-prefix-bytes slice-aggregate-parse (λ c κs. search needs) returns)

@@ -10,15 +10,9 @@ returns : tie.Need-returns
 unfolding followed
 returns c = rw (le-ltb _ _ (c .if1 .taken)) refl
 
-element-write-out : tie.Need-element-write-out
-element-write-out c = search needs
-
-add-out : tie.Need-add-out
-add-out c = search needs
-
 returns-2 : tie.Need-returns-2
 unfolding followed
 returns-2 c = rw (lt-ltb _ _ (c .if1 .left)) refl
 
 pub push-spec : {M : Type 1} → statement M
-push-spec = tie.close (tie.spec returns element-write-out add-out returns-2)
+push-spec = tie.close (tie.spec returns (λ c. search needs) (λ c. search needs) returns-2)

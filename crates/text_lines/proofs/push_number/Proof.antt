@@ -9,12 +9,6 @@ use Rattle.text_lines.specs.Texts.{decimal, followed}
 use Rattle.text_lines.proofs.push_number.Statement.{statement}
 use Rattle.text_lines.proofs.push_number.Tie as tie
 
-push-decimal-requires : tie.Need-push-decimal-requires
-push-decimal-requires c κs = search needs
-
-push-requires : tie.Need-push-requires
-push-requires c κs = search needs
-
 returns : tie.Need-returns
 unfolding fold
 returns c =
@@ -23,4 +17,4 @@ returns c =
     ∙ sym (fold-append followed (a .t) (decimal (a .n)) (a .after ∷ []))
 
 pub push-number-spec : {M : Type 1} → statement M
-push-number-spec = tie.close (tie.spec push-decimal-requires push-requires returns)
+push-number-spec = tie.close (tie.spec (λ c κs. search needs) (λ c κs. search needs) returns)

@@ -23,33 +23,9 @@ abbrev μ-loop : tie.MeasureT-loop
 len : (c : tie.Start Inv-loop μ-loop) → length (c .args .t1) ≡ 16
 len c = c .good .0 .1 .0 .1
 
-set-of-requires : tie.Need-set-of-requires Inv-loop μ-loop
-set-of-requires c κs = search needs
-
 loop-holds : tie.Need-loop-holds Inv-loop μ-loop
 unfolding each
 loop-holds c = (search needs, ap (λ (s : Set). replicate 16 s) (c .set-of .ensures))
-
-mul-set-of : tie.Need-mul-set-of Inv-loop μ-loop
-mul-set-of c = search needs
-
-array-read-set-of : tie.Need-array-read-set-of Inv-loop μ-loop
-array-read-set-of c = search needs
-
-set-of-requires-2 : tie.Need-set-of-requires-2 Inv-loop μ-loop
-set-of-requires-2 c κs = search needs
-
-mul-sets : tie.Need-mul-sets Inv-loop μ-loop
-mul-sets c = search needs
-
-array-set-from-sets : tie.Need-array-set-from-sets Inv-loop μ-loop
-array-set-from-sets c = search needs
-
-add-i : tie.Need-add-i Inv-loop μ-loop
-add-i c = search needs
-
-loop-less : tie.Need-loop-less Inv-loop μ-loop
-loop-less c = search needs
 
 loop-again : tie.Need-loop-again Inv-loop μ-loop
 loop-again c =
@@ -74,14 +50,14 @@ sets-of-spec =
     (tie.spec
     Inv-loop
     μ-loop
-    set-of-requires
+    (λ c κs. search needs)
     loop-holds
-    mul-set-of
-    array-read-set-of
-    set-of-requires-2
-    mul-sets
-    array-set-from-sets
-    add-i
-    loop-less
+    (λ c. search needs)
+    (λ c. search needs)
+    (λ c κs. search needs)
+    (λ c. search needs)
+    (λ c. search needs)
+    (λ c. search needs)
+    (λ c. search needs)
     loop-again
     returns)

@@ -6,18 +6,9 @@ use Rattle.text_numbers.specs.Steps.{ended}
 use Rattle.text_numbers.proofs.end_word.Statement.{statement}
 use Rattle.text_numbers.proofs.end_word.Tie as tie
 
-bad-reading-requires : tie.Need-bad-reading-requires
-bad-reading-requires c κs = search needs
-
 returns : tie.Need-returns
 unfolding ended
 returns c = rw (c .bad-reading .ensures, not-true (c .before .before .before .args .r .begun) (c .before .if1 .taken)) refl
-
-say-also-requires : tie.Need-say-also-requires
-say-also-requires c κs = search needs
-
-between-requires : tie.Need-between-requires
-between-requires c κs = search needs
 
 returns-2 : tie.Need-returns-2
 unfolding ended
@@ -27,4 +18,4 @@ returns-2 c =
 
 pub end-word-spec : {M : Type 1} → statement M
 end-word-spec =
-    tie.close (tie.spec bad-reading-requires returns say-also-requires between-requires returns-2)
+    tie.close (tie.spec (λ c κs. search needs) returns (λ c κs. search needs) (λ c κs. search needs) returns-2)

@@ -18,29 +18,11 @@ Inv-loop line r₀ i₀ r i = (i ≤ length line) × (r .line .count ≤ i) × (
 abbrev μ-loop : tie.MeasureT-loop
 μ-loop line r₀ i₀ r i = length line - i
 
-bad-line-requires : tie.Need-bad-line-requires Inv-loop μ-loop
-bad-line-requires c κs = search needs
-
 returns : tie.Need-returns Inv-loop μ-loop
 returns c = c .bad-line .ensures ∙ line-long _ (c .before .if1 .taken)
 
-new-reading-requires : tie.Need-new-reading-requires Inv-loop μ-loop
-new-reading-requires c κs = search needs
-
 loop-holds : tie.Need-loop-holds Inv-loop μ-loop
 loop-holds c = (omega arith, rw (c .new-reading .ensures) (omega arith), ap (λ (r : Reading). fold taken r (c .before .before .before .args .line .now)) (c .new-reading .ensures))
-
-shared-slice-read-take-byte : tie.Need-shared-slice-read-take-byte Inv-loop μ-loop
-shared-slice-read-take-byte c = search needs
-
-take-byte-requires : tie.Need-take-byte-requires Inv-loop μ-loop
-take-byte-requires c κs = search needs
-
-add-i : tie.Need-add-i Inv-loop μ-loop
-add-i c = search needs
-
-loop-less : tie.Need-loop-less Inv-loop μ-loop
-loop-less c = search needs
 
 loop-again : tie.Need-loop-again Inv-loop μ-loop
 loop-again c =
@@ -52,9 +34,6 @@ loop-again c =
       rw (c .take-byte .ensures) (omega (arith, taken-count r (getD line i 0))),
       ap (λ (s : Reading). fold taken s (drop (i + 1) line)) (c .take-byte .ensures) ∙ sym (fold-more taken 0 line i r (omega arith)) ∙ l .loop .inv .2,
     )
-
-end-word-requires : tie.Need-end-word-requires Inv-loop μ-loop
-end-word-requires c κs = search needs
 
 returns-2 : tie.Need-returns-2 Inv-loop μ-loop
 returns-2 c =
@@ -70,14 +49,14 @@ parse-spec =
     (tie.spec
     Inv-loop
     μ-loop
-    bad-line-requires
+    (λ c κs. search needs)
     returns
-    new-reading-requires
+    (λ c κs. search needs)
     loop-holds
-    shared-slice-read-take-byte
-    take-byte-requires
-    add-i
-    loop-less
+    (λ c. search needs)
+    (λ c κs. search needs)
+    (λ c. search needs)
+    (λ c. search needs)
     loop-again
-    end-word-requires
+    (λ c κs. search needs)
     returns-2)

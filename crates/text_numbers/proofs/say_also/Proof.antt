@@ -10,15 +10,6 @@ use Rattle.text_numbers.proofs.say_also.Tie as tie
 len : (c : tie.Start) → length (c .args .l .numbers) ≡ 16
 len c = simp length-map at (c .good .0 .1 .1 .1 .1 .0 .1 .0 .1)
 
-add-out : tie.Need-add-out
-add-out c = search needs
-
-mul-out : tie.Need-mul-out
-mul-out c = search needs
-
-element-write-out : tie.Need-element-write-out
-element-write-out c = search needs
-
 returns : tie.Need-returns
 returns c = search needs
 
@@ -29,4 +20,4 @@ returns-2 c =
     said-past (s .args .l) (s .args .n) (omega arith)
 
 pub say-also-spec : {M : Type 1} → statement M
-say-also-spec = tie.close (tie.spec add-out mul-out element-write-out returns returns-2)
+say-also-spec = tie.close (tie.spec (λ c. search needs) (λ c. search needs) (λ c. search needs) returns returns-2)

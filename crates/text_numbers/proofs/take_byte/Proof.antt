@@ -11,32 +11,14 @@ use Rattle.text_numbers.proofs.take_byte.Tie as tie
 returns : tie.Need-returns
 returns c = taken-bad _ _ (not-true _ (c .if1 .taken))
 
-end-word-requires : tie.Need-end-word-requires
-end-word-requires c κs = search needs
-
 returns-2 : tie.Need-returns-2
 returns-2 c = c .end-word .ensures ∙ taken-space _ _ (not-false _ (c .before .before .if1 .left)) (c .before .if2 .taken)
-
-bad-reading-requires : tie.Need-bad-reading-requires
-bad-reading-requires c κs = search needs
 
 returns-3 : tie.Need-returns-3
 returns-3 c = c .bad-reading .ensures ∙ taken-below _ _ (not-false _ (c .before .before .before .if1 .left)) (c .before .before .if2 .left) (c .before .if3 .taken)
 
-bad-reading-requires-2 : tie.Need-bad-reading-requires-2
-bad-reading-requires-2 c κs = search needs
-
 returns-4 : tie.Need-returns-4
 returns-4 c = c .bad-reading2 .ensures ∙ taken-above _ _ (not-false _ (c .before .before .before .before .if1 .left)) (c .before .before .before .if2 .left) (c .before .if4 .taken)
-
-wide-requires : tie.Need-wide-requires
-wide-requires c κs = search needs
-
-sub-add-digit : tie.Need-sub-add-digit
-sub-add-digit c = search needs
-
-add-digit-requires : tie.Need-add-digit-requires
-add-digit-requires c κs = search needs
 
 returns-5 : tie.Need-returns-5
 returns-5 c =
@@ -51,13 +33,13 @@ take-byte-spec =
     tie.close
     (tie.spec
     returns
-    end-word-requires
+    (λ c κs. search needs)
     returns-2
-    bad-reading-requires
+    (λ c κs. search needs)
     returns-3
-    bad-reading-requires-2
+    (λ c κs. search needs)
     returns-4
-    wide-requires
-    sub-add-digit
-    add-digit-requires
+    (λ c κs. search needs)
+    (λ c. search needs)
+    (λ c κs. search needs)
     returns-5)
