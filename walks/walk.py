@@ -233,7 +233,8 @@ class Walk:
             return (part, f"(getD ({now} .{part.field}) {index} {part.zero})", f"({part.field}-at o {index})", "(stop !)", lambda x: f"{part.name}-hole 𝓤 H A W %s {now} {index} {x} b o {place.below[1]}",
                     lambda x: f"{part.put} {now} (set ({now} .{part.field}) {index} {x})", f"({part.name}-same {now} {index})")
         part = PARTS[int(steps[1][1])]
-        return (part, f"({now} .{part.field})", f"(o + {part.offset})", f"(fld ! {{τ = {part.row.mir}}} {{d = {part.offset}}} refl (stop !))", lambda x: f"{part.field}-hole 𝓤 H A W %s {now} {x} b o", lambda x: f"{part.put} {now} {x}", None)
+        hole = (lambda x: f"{part.field}-hole 𝓤 H A W %s {now} {x} b o") if part.put else (lambda x: f"{part.field}-hole 𝓤 H A W %s {now} b o")
+        return (part, f"({now} .{part.field})", f"(o + {part.offset})", f"(fld ! {{τ = {part.row.mir}}} {{d = {part.offset}}} refl (stop !))", hole, lambda x: f"{part.put} {now} {x}" if part.put else now, None)
 
     def taken(self, spot, share, old, new):
         """The part is taken out: [the part; what it owns; the way back; ..]."""
