@@ -11,10 +11,10 @@ from text import AT, BASE, GIVEN, HERE, IN, LIBRARY, RUN, bracket, imports, nest
 
 
 class Held:
-    """A local's value: its denotation x, the machine's value v (of a test none: it is found), a proof g that v Is x, and its type."""
+    """A local's value: its denotation x, the machine's value v, a proof g that v Is x, and its type. found: the prover finds v, of a literal or a test: then an edit of it fails where it matters."""
 
-    def __init__(self, x, v, g, row):
-        self.x, self.v, self.g, self.row = x, v, g, row
+    def __init__(self, x, v, g, row, found=False):
+        self.x, self.v, self.g, self.row, self.found = x, v, g, row, found
 
 
 class Place:
@@ -63,7 +63,7 @@ class Walk:
 
     def read(self, place, local, base=2):
         """The operand that is a local."""
-        if local not in place.held or place.held[local].v is None:
+        if local not in place.held or place.held[local].found:
             return f"(load ! {HERE} (look ! {self.cell(local, base)} refl))"
         held = place.held[local]
         return f"(load ! {HERE} (look ! {self.cell(local, base)} {{q = fullShare}} {{τ = {held.row.mir}}} {{b = l{local}}} {{o = 0}} {{v = {held.v}}} refl))"
@@ -151,7 +151,7 @@ class Walk:
     def test(self, statement, place, rest, at):
         local = mir.local(statement[1])[0]
         held = place.held[local]
-        if held.v and not held.v.startswith("(vbool"):
+        if not held.found:
             self.emit(f"rewrite ! {self.cell(local)} (λ (u : Val). ‵ (fat fullShare tyBool l{local} 0 u)) (ap only (bool-tells {held.x} _ {held.g})) refl $")
             place = place.holds(local, Held(held.x, f"(vbool {held.x})", held.g, BOOL))
         inside = place.but(within=True, rest=(rest, at))
@@ -182,8 +182,8 @@ class Walk:
                 self.emit(f"assigns ! (of-opd ! (unit-lit !)) {HERE} ({'store' if had else 'init'} ! {self.cell(local)} refl (tt, tt)) $")
                 return place.holds(local, Held("tt", "vunit", "tt", NOTHING)), 0
             if operand[0] == "int":
-                held = Held(operand[2], f"(vint w64 {operand[2]})", "(refl, lit< tt)", NUMBER)
-                return self.assign(place, local, "(of-opd ! (lit ! tt))", held, last), 0
+                self.emit(f"assigns ! (of-opd ! (lit ! tt)) {HERE} ({'store' if local in place.held else 'init'} ! {self.cell(local)} refl (tt, record {{ fits = lit< tt }})) $")
+                return place.holds(local, Held(operand[2], f"(vint w64 {operand[2]})", "(refl, lit< tt)", NUMBER, True)), 0
             source, through = mir.local(operand)
             if through:
                 return self.part_read(place, local, source, through)
@@ -195,7 +195,7 @@ class Walk:
             x, y = self.number(place, value[2]), self.number(place, value[3])
             self.compared = {**self.compared, local: x}
             self.emit(f"assigns ! (bin ! {self.operand(place, value[2])} {self.operand(place, value[3])} tt) {HERE} (init ! {self.cell(local)} refl (tt, tt)) $")
-            return place.holds(local, Held(f"(ltb {x} {y})", None, "refl", BOOL)), 0
+            return place.holds(local, Held(f"(ltb {x} {y})", f"(vbool (ltb {x} {y}))", "refl", BOOL, True)), 0
         if operator == "add":
             x, y = self.number(place, value[2]), self.number(place, value[3])
             fits = f"record {{ fits = {self.fits} }}"
