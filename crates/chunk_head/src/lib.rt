@@ -184,7 +184,7 @@ fn signed_above(now: u64, clock: u64, age: u64) -> bool
 fn is_overdue(now: u64, t: Timestamp, age: u64) -> bool
     ensures { λ r. ⌜ r ≡ isOverdue now t age ⌝ }
 {
-    let clock = t.0 / 8;
+    let clock = t.0 / rules::CLOCK_FACTOR;
     if (now <= GREATEST_SIGNED) & (age <= GREATEST_SIGNED) {
         return signed_above(now, clock, age);
     }

@@ -89,7 +89,7 @@ fn answer_to(t: Table, asked: Asked) -> Answer
     }
     Answer {
         table: t,
-        code: 1,
+        code: rules::OUT_OF_RANGE,
         outcome: Outcome::None,
     }
 }
@@ -177,7 +177,7 @@ fn main() {
     }
     let k = named.creation;
     let created = engine::create(k);
-    if created.code != 0 {
+    if created.code != rules::DONE {
         refuse();
         return;
     }

@@ -28,15 +28,15 @@ fn draw_code(k: Keeper, clock: u64) -> u64
     ensures { λ r. ⌜ r ≡ codeOf (drawRefusals k clock) ⌝ }
 {
     if rules::HOSTS as u64 <= k.host {
-        return 1;
+        return rules::OUT_OF_RANGE;
     }
     if rules::GREATEST_CLOCK < clock {
-        return 1;
+        return rules::OUT_OF_RANGE;
     }
     if clock <= k.last {
-        return 3;
+        return rules::CLOCK_NOT_ABOVE;
     }
-    0
+    rules::DONE
 }
 
 // A refused draw leaves the keeper as it was; a granted one remembers the clock.
@@ -44,7 +44,7 @@ fn kept(k: Keeper, clock: u64) -> Keeper
     ensures { λ r. ⌜ r ≡ drawn k clock .keeper ⌝ }
 {
     let code = draw_code(k, clock);
-    if code != 0 {
+    if code != rules::DONE {
         return k;
     }
     Keeper {
@@ -58,15 +58,15 @@ fn handed_by(k: Keeper, clock: u64) -> Handed
     ensures { λ r. ⌜ r ≡ handed k clock ⌝ }
 {
     let code = draw_code(k, clock);
-    if code != 0 {
+    if code != rules::DONE {
         return Handed {
             code: code,
             timestamp: Timestamp(0),
         };
     }
     Handed {
-        code: 0,
-        timestamp: Timestamp(clock * 8 + k.host),
+        code: rules::DONE,
+        timestamp: Timestamp(clock * rules::CLOCK_FACTOR + k.host),
     }
 }
 

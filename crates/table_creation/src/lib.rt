@@ -89,14 +89,7 @@ fn fresh(k: Creation) -> Table
 fn no_store() -> Table
     ensures { λ r. ⌜ r ≡ zeroTable ⌝ }
 {
-    let s = table_zero::set();
-    let k = Creation {
-        hosts: 0,
-        chunks: 0,
-        blocks: 0,
-        age: 0,
-        sets: [s; rules::BLOCKS],
-    };
+    let k = table_zero::creation();
     let h = table_zero::host();
     let c = table_zero::chunk();
     empty(k, Epoch(0), [h; rules::HOSTS], [c; rules::CHUNKS])
@@ -110,9 +103,12 @@ pub fn create(k: Creation) -> Created
         let none = no_store();
         return Created {
             table: none,
-            code: 1,
+            code: rules::OUT_OF_RANGE,
         };
     }
     let t = fresh(k);
-    Created { table: t, code: 0 }
+    Created {
+        table: t,
+        code: rules::DONE,
+    }
 }

@@ -2,6 +2,8 @@
 use Rattle.rules.proofs.Unique.{unique, Determined}
 use Rattle.table_zero.proofs.attempt.Reads as attempt-contract
 use Rattle.table_zero.proofs.chunk.Reads as chunk-contract
+use Rattle.table_zero.proofs.creation.Reads as creation-contract
+use Rattle.table_zero.proofs.creation_of.Reads as creation-of-contract
 use Rattle.table_zero.proofs.entry.Reads as entry-contract
 use Rattle.table_zero.proofs.host.Reads as host-contract
 use Rattle.table_zero.proofs.operation.Reads as operation-contract
@@ -11,6 +13,12 @@ use Rattle.table_zero.proofs.waiting.Reads as waiting-contract
 
 set-unique : Determined set-contract.Learnt
 set-unique κs a x y s u = unique
+
+creation-of-unique : Determined creation-of-contract.Learnt
+creation-of-unique κs a x y s u = unique
+
+creation-unique : Determined creation-contract.Learnt
+creation-unique κs a x y s u = unique
 
 entry-unique : Determined entry-contract.Learnt
 entry-unique κs a x y s u = unique

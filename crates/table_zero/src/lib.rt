@@ -1,9 +1,11 @@
 // What zero is for each type: unused places hold it, and a created store begins with it.
 ghost use mathlib.Core.Path.{_≡_};
-ghost use Rattle.rules.specs.Zero.{zeroSet, zeroEntry, zeroWaiting, zeroRecord, zeroChunk, zeroOperation, zeroAttempt, zeroHost};
+ghost use Rattle.rules.specs.Built.{creationOf};
+ghost use Rattle.rules.specs.Zero.{zeroCreation, zeroSet, zeroEntry, zeroWaiting, zeroRecord, zeroChunk, zeroOperation, zeroAttempt, zeroHost};
 use rules::Action;
 use rules::Attempt;
 use rules::Chunk;
+use rules::Creation;
 use rules::Entry;
 use rules::Epoch;
 use rules::Host;
@@ -23,6 +25,32 @@ pub fn set() -> Set
     Set {
         chunks: [false; rules::CHUNKS],
     }
+}
+
+// What a store is created with. Every creation is made here.
+pub fn creation_of(
+    hosts: u64,
+    chunks: u64,
+    blocks: u64,
+    age: u64,
+    sets: [Set; rules::BLOCKS],
+) -> Creation
+    ensures { λ r. ⌜ r ≡ creationOf hosts chunks blocks age sets ⌝ }
+{
+    Creation {
+        hosts: hosts,
+        chunks: chunks,
+        blocks: blocks,
+        age: age,
+        sets: sets,
+    }
+}
+
+pub fn creation() -> Creation
+    ensures { λ r. ⌜ r ≡ zeroCreation ⌝ }
+{
+    let none = set();
+    creation_of(0, 0, 0, 0, [none; rules::BLOCKS])
 }
 
 pub fn entry() -> Entry

@@ -44,13 +44,7 @@ fn creation() -> Creation {
     let mut sets = [none; 16];
     sets[0] = on(true, true, false);
     sets[1] = on(true, true, false);
-    Creation {
-        hosts: 2,
-        chunks: 2,
-        blocks: 2,
-        age: 100,
-        sets: sets,
-    }
+    table_zero::creation_of(2, 2, 2, 100, sets)
 }
 
 fn store() -> Table {
@@ -387,13 +381,7 @@ fn message_case(n: u64) -> Message {
 fn counted(hosts: u64, chunks: u64, blocks: u64, age: u64) -> Creation {
     let k = creation();
     let sets = k.sets;
-    Creation {
-        hosts: hosts,
-        chunks: chunks,
-        blocks: blocks,
-        age: age,
-        sets: sets,
-    }
+    table_zero::creation_of(hosts, chunks, blocks, age, sets)
 }
 
 fn mapped(block: usize, s: Set) -> Creation

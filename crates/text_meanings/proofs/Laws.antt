@@ -4,7 +4,9 @@ use mathlib.Core.Path.{_≡_, refl}
 use mathlib.Core.Bool.{Bool, true, false, _&&_}
 use mathlib.Core.List.{List, [], _∷_}
 use lib.Dec.{eqb}
+use Rattle.rules.specs.declared.Creation.{Creation}
 use Rattle.rules.specs.declared.Set.{Set}
+use Rattle.rules.specs.Built.{creationOf}
 use Rattle.rules.specs.Events.{kindOf}
 use Rattle.rules.specs.Operands.{isOwn}
 use Rattle.rules.specs.Words.{each, every}
@@ -35,9 +37,10 @@ module _ (l : Line) (n : ℕ) (are : n ≡ ownCount (numberAt l 0)) where
 module _ (first second : Line) (sums : Bool) (are : sums ≡ every isSum (second .numbers)) where
   pub named-good : first .good && eqb (first .count) 4 && second .good && eqb (second .count) (numberAt first 2) && sums ≡ true
       → (sets : List Set) → sets ≡ each setWith (second .numbers)
-      → record { good = true; creation = record { hosts = numberAt first 0; chunks = numberAt first 1; blocks = numberAt first 2; age = numberAt first 3; sets = sets } } ≡ namedBy first second
+      → (k : Creation) → k ≡ creationOf (numberAt first 0) (numberAt first 1) (numberAt first 2) (numberAt first 3) sets
+      → record { good = true; creation = k } ≡ namedBy first second
   unfolding namedBy
-  named-good h sets e = rw (e, rw are at h) refl
+  named-good h sets e k is = rw (is, e, rw are at h) refl
 
   pub named-bad : first .good && eqb (first .count) 4 && second .good && eqb (second .count) (numberAt first 2) && sums ≡ false
       → record { good = false; creation = zeroCreation } ≡ namedBy first second

@@ -5,6 +5,7 @@ use lib.ListN.{length, getD}
 use lib.Dec.{eqb, ltb}
 use Rattle.rules.specs.declared.Set.{Set}
 use Rattle.rules.specs.declared.Event.{Event}
+use Rattle.rules.specs.Built.{creationOf}
 use Rattle.rules.specs.Events.{kindOf}
 use Rattle.rules.specs.Limits.{chunkLimit}
 use Rattle.rules.specs.Operands.{ownOf}
@@ -52,11 +53,5 @@ unfoldable pub namedBy : (first second : Line) → Named
 namedBy first second =
     if first .good && eqb (first .count) 4 && second .good && eqb (second .count) (numberAt first 2) && every isSum (second .numbers) then record {
       good = true;
-      creation = record {
-        hosts = numberAt first 0;
-        chunks = numberAt first 1;
-        blocks = numberAt first 2;
-        age = numberAt first 3;
-        sets = each setWith (second .numbers);
-      };
+      creation = creationOf (numberAt first 0) (numberAt first 1) (numberAt first 2) (numberAt first 3) (each setWith (second .numbers));
     } else record { good = false; creation = zeroCreation }

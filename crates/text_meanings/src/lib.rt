@@ -97,21 +97,6 @@ fn sets_of(ns: [u64; text_numbers::NUMBERS]) -> [Set; rules::BLOCKS]
     sets
 }
 
-fn no_creation() -> Creation
-    ensures { λ r. ⌜ r ≡ zeroCreation ⌝ }
-{
-    let none = Set {
-        chunks: [false; rules::CHUNKS],
-    };
-    Creation {
-        hosts: 0,
-        chunks: 0,
-        blocks: 0,
-        age: 0,
-        sets: [none; rules::BLOCKS],
-    }
-}
-
 // "a line of hosts, chunks, blocks, age limit; a line with one number a block"
 pub fn creation_of(first: Line, second: Line) -> Named
     ensures { λ r. ⌜ r ≡ namedBy first second ⌝ }
@@ -120,19 +105,19 @@ pub fn creation_of(first: Line, second: Line) -> Named
     let blocks = first.numbers[2];
     if first.good & (first.count == 4) & second.good & (second.count == blocks) & all_sums(ns) {
         let sets = sets_of(ns);
-        let k = Creation {
-            hosts: first.numbers[0],
-            chunks: first.numbers[1],
-            blocks: blocks,
-            age: first.numbers[3],
-            sets: sets,
-        };
+        let k = table_zero::creation_of(
+            first.numbers[0],
+            first.numbers[1],
+            blocks,
+            first.numbers[3],
+            sets,
+        );
         return Named {
             good: true,
             creation: k,
         };
     }
-    let k = no_creation();
+    let k = table_zero::creation();
     Named {
         good: false,
         creation: k,

@@ -7,7 +7,7 @@ use Rattle.table_creation.proofs.no_store.Tie as tie
 returns : tie.Need-returns
 returns c =
     let h = c .before .before in
-    c .empty .ensures ∙ rw (h .before .set .ensures, h .host .ensures, c .before .chunk .ensures) refl
+    c .empty .ensures ∙ rw (h .before .creation .ensures, h .host .ensures, c .before .chunk .ensures) refl
 
 pub no-store-spec : {M : Type 1} → statement M
 no-store-spec =

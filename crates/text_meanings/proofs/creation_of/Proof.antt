@@ -10,11 +10,11 @@ use Rattle.text_meanings.proofs.creation_of.Tie as tie
 returns : tie.Need-returns
 returns c =
     let s = c .before .before .before in
-    named-good _ _ _ (s .before .before .all-sums .ensures) (s .before .if1 .taken) _ (s .sets-of .ensures)
+    named-good _ _ _ (s .before .before .all-sums .ensures) (s .before .if1 .taken) _ (s .sets-of .ensures) _ (c .creation-of .ensures)
 
 returns-2 : tie.Need-returns-2
 returns-2 c =
-    ap (λ (k : Creation). record { good = false; creation = k }) (c .no-creation .ensures)
+    ap (λ (k : Creation). record { good = false; creation = k }) (c .creation .ensures)
     ∙ named-bad _ _ _ (c .before .before .all-sums .ensures) (c .before .if1 .left)
 
 pub creation-of-spec : {M : Type 1} → statement M
