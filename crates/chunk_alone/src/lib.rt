@@ -1,10 +1,9 @@
 // One chunk by itself: it fails, recovers, takes and gives its lease.
 ghost use mathlib.Core.Path.{_≡_};
 ghost use lib.Dec.{eqb};
-ghost use Rattle.rules.specs.Codes.{codeOf};
+ghost use Rattle.rules.specs.Codes.{codeOf, unlessRefused};
 ghost use Rattle.rules.specs.Chunks.{withState, failRefusals, failed, recoverRefusals, recovered, takeLeaseRefusals, leaseTaken, giveLeaseRefusals, leaseGiven};
 ghost use Rattle.rules.specs.Words.{if_then_else_};
-ghost use Rattle.chunk_alone.specs.Changes.{changed};
 use rules::Chunk;
 use rules::State;
 
@@ -32,7 +31,7 @@ fn with_state(c: Chunk, state: State) -> Chunk
 fn unless_refused(code: u64, old: Chunk, new: Chunk) -> Changed
     ensures { λ r. ⌜ r ≡ record { code = code; chunk = if eqb code 0 then new else old } ⌝ }
 {
-    if code != 0 {
+    if code != rules::DONE {
         return Changed {
             code: code,
             chunk: old,
@@ -49,9 +48,9 @@ fn fail_code(state: State) -> u64
     ensures { λ r. ⌜ r ≡ codeOf (failRefusals state) ⌝ }
 {
     match state {
-        State::Normal => 0,
-        State::Nolease => 0,
-        State::Failed => 2,
+        State::Normal => rules::DONE,
+        State::Nolease => rules::DONE,
+        State::Failed => rules::NOT_IN_STATE,
     }
 }
 
@@ -70,7 +69,7 @@ fn failed(c: Chunk) -> Chunk
 
 // The chunk fails.
 pub fn fail(c: Chunk) -> Changed
-    ensures { λ r. ⌜ r ≡ changed (failRefusals (c .state)) c (failed c) ⌝ }
+    ensures { λ r. ⌜ r ≡ record { code = codeOf (failRefusals (c .state)); chunk = unlessRefused (failRefusals (c .state)) c (failed c) } ⌝ }
 {
     let state = c.state;
     unless_refused(fail_code(state), c, failed(c))
@@ -81,15 +80,15 @@ fn recover_code(state: State) -> u64
     ensures { λ r. ⌜ r ≡ codeOf (recoverRefusals state) ⌝ }
 {
     match state {
-        State::Normal => 2,
-        State::Nolease => 2,
-        State::Failed => 0,
+        State::Normal => rules::NOT_IN_STATE,
+        State::Nolease => rules::NOT_IN_STATE,
+        State::Failed => rules::DONE,
     }
 }
 
 // "failed to nolease": what it lost stays lost.
 pub fn recover(c: Chunk) -> Changed
-    ensures { λ r. ⌜ r ≡ changed (recoverRefusals (c .state)) c (recovered c) ⌝ }
+    ensures { λ r. ⌜ r ≡ record { code = codeOf (recoverRefusals (c .state)); chunk = unlessRefused (recoverRefusals (c .state)) c (recovered c) } ⌝ }
 {
     let state = c.state;
     unless_refused(recover_code(state), c, with_state(c, State::Nolease))
@@ -100,15 +99,15 @@ fn take_lease_code(state: State) -> u64
     ensures { λ r. ⌜ r ≡ codeOf (takeLeaseRefusals state) ⌝ }
 {
     match state {
-        State::Normal => 0,
-        State::Nolease => 2,
-        State::Failed => 2,
+        State::Normal => rules::DONE,
+        State::Nolease => rules::NOT_IN_STATE,
+        State::Failed => rules::NOT_IN_STATE,
     }
 }
 
 // "normal to nolease".
 pub fn take_lease(c: Chunk) -> Changed
-    ensures { λ r. ⌜ r ≡ changed (takeLeaseRefusals (c .state)) c (leaseTaken c) ⌝ }
+    ensures { λ r. ⌜ r ≡ record { code = codeOf (takeLeaseRefusals (c .state)); chunk = unlessRefused (takeLeaseRefusals (c .state)) c (leaseTaken c) } ⌝ }
 {
     let state = c.state;
     unless_refused(take_lease_code(state), c, with_state(c, State::Nolease))
@@ -119,15 +118,19 @@ fn give_lease_code(state: State, lost: bool) -> u64
     ensures { λ r. ⌜ r ≡ codeOf (giveLeaseRefusals state lost) ⌝ }
 {
     match state {
-        State::Normal => 2,
-        State::Nolease => if lost { 2 } else { 0 },
-        State::Failed => 2,
+        State::Normal => rules::NOT_IN_STATE,
+        State::Nolease => if lost {
+            rules::NOT_IN_STATE
+        } else {
+            rules::DONE
+        },
+        State::Failed => rules::NOT_IN_STATE,
     }
 }
 
 // "nolease to normal".
 pub fn give_lease(c: Chunk) -> Changed
-    ensures { λ r. ⌜ r ≡ changed (giveLeaseRefusals (c .state) (c .lost)) c (leaseGiven c) ⌝ }
+    ensures { λ r. ⌜ r ≡ record { code = codeOf (giveLeaseRefusals (c .state) (c .lost)); chunk = unlessRefused (giveLeaseRefusals (c .state) (c .lost)) c (leaseGiven c) } ⌝ }
 {
     let state = c.state;
     unless_refused(

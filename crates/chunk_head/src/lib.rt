@@ -4,12 +4,10 @@ ghost use mathlib.Core.Path.{_≡_};
 ghost use lib.IntN.{pos, _-ℤ_};
 ghost use lib.Signed.{ltZ};
 ghost use Rattle.rules.specs.declared.Kind.{Kind};
-ghost use Rattle.rules.specs.Codes.{codeOf};
+ghost use Rattle.rules.specs.Codes.{codeOf, unlessRefused};
 ghost use Rattle.rules.specs.Kinds.{isUndecided};
 ghost use Rattle.rules.specs.Timestamps.{later};
 ghost use Rattle.rules.specs.Chunks.{withValue, withWrite, silent, runRefusals, runs, ran, isOverdue, overdueRefusals, overdue};
-ghost use Rattle.chunk_alone.specs.Changes.{changed};
-ghost use Rattle.chunk_head.specs.Runs.{ranOr};
 use chunk_alone::Changed;
 use rules::Arrived;
 use rules::Chunk;
@@ -24,11 +22,10 @@ use rules::State;
 use rules::Timestamp;
 use rules::Waiting;
 
-// What a run makes of its record: 0, the record after it and the reply, if any; or a refusal's code, the record as it was, no reply.
+// What a run leaves: 0, the chunk and its record after it and the reply, if any; or a refusal's code, both as they were, no reply.
 pub struct Ran {
     pub code: u64,
-    pub block: Record,
-    pub reply: Slot,
+    pub left: Arrived,
 }
 
 // The greatest number that an i64 holds.
@@ -53,20 +50,20 @@ fn run_code(state: State, w: Waiting, free: u64) -> u64
     ensures { λ r. ⌜ r ≡ codeOf (runRefusals state w free) ⌝ }
 {
     if !table_kinds::is_normal(state) {
-        return 2;
+        return rules::NOT_IN_STATE;
     }
     if w.count == 0 {
-        return 2;
+        return rules::NOT_IN_STATE;
     }
     let e = chunk_waiting::head(w);
     let k = e.kind;
     if is_undecided(k) {
-        return 2;
+        return rules::NOT_IN_STATE;
     }
     if table_kinds::is_read(k) & (free == 0) {
-        return 5;
+        return rules::NO_ROOM;
     }
-    0
+    rules::DONE
 }
 
 // A last read or last write is raised.
@@ -80,8 +77,8 @@ fn later(t: Timestamp, u: Timestamp) -> Timestamp
 }
 
 // "Read: below last write, out of order goes to the sender; else last read is raised and a read reply goes".
-fn run_read(chunk: u64, block: u64, r: Record, e: Entry) -> Arrived
-    ensures { λ a. ⌜ a ≡ runs chunk block r e Kind.Read ⌝ }
+fn run_read(chunk: u64, block: u64, c: Chunk, r: Record, e: Entry) -> Arrived
+    ensures { λ a. ⌜ a ≡ runs chunk block c r e Kind.Read ⌝ }
 {
     let t = e.timestamp;
     let header = Header {
@@ -93,7 +90,8 @@ fn run_read(chunk: u64, block: u64, r: Record, e: Entry) -> Arrived
     if t.0 < r.write.0 {
         let refusal = network_messages::message_of(header, Sort::Refusal(Refusal::OutOfOrder));
         return Arrived {
-            block: r,
+            chunk: c,
+            held: r,
             reply: Slot::Full(refusal),
         };
     }
@@ -102,28 +100,37 @@ fn run_read(chunk: u64, block: u64, r: Record, e: Entry) -> Arrived
     out.read = read;
     let answer = network_messages::message_of(header, Sort::ReadReply(r.value));
     Arrived {
-        block: out,
+        chunk: c,
+        held: out,
         reply: Slot::Full(answer),
     }
 }
 
+// The chunk and its record, with no reply.
+fn silent(c: Chunk, r: Record) -> Arrived
+    ensures { λ a. ⌜ a ≡ silent c r ⌝ }
+{
+    Arrived {
+        chunk: c,
+        held: r,
+        reply: Slot::Empty,
+    }
+}
+
 // "Committed: value set, last write raised to its timestamp".
-fn run_committed(r: Record, t: Timestamp, v: u64) -> Arrived
-    ensures { λ a. ⌜ a ≡ silent (withWrite (withValue r v) (later (r .write) t)) ⌝ }
+fn run_committed(c: Chunk, r: Record, t: Timestamp, v: u64) -> Arrived
+    ensures { λ a. ⌜ a ≡ silent c (withWrite (withValue r v) (later (r .write) t)) ⌝ }
 {
     let write = later(r.write, t);
     let mut out = r;
     out.value = v;
     out.write = write;
-    Arrived {
-        block: out,
-        reply: Slot::Empty,
-    }
+    silent(c, out)
 }
 
 // "The head is removed; for an aborted one that is all". (An undecided head is refused.)
-fn run_head(chunk: u64, block: u64, r: Record) -> Arrived
-    ensures { λ a. ⌜ a ≡ ran chunk block r ⌝ }
+fn run_head(chunk: u64, block: u64, c: Chunk, r: Record) -> Arrived
+    ensures { λ a. ⌜ a ≡ ran chunk block c r ⌝ }
 {
     let w = r.waiting;
     let e = chunk_waiting::head(w);
@@ -133,39 +140,31 @@ fn run_head(chunk: u64, block: u64, r: Record) -> Arrived
     let k = e.kind;
     let t = e.timestamp;
     match k {
-        Kind::Read => run_read(chunk, block, out, e),
-        Kind::Undecided(_) => Arrived {
-            block: out,
-            reply: Slot::Empty,
-        },
-        Kind::Committed(v) => run_committed(out, t, v),
-        Kind::Aborted(_) => Arrived {
-            block: out,
-            reply: Slot::Empty,
-        },
+        Kind::Read => run_read(chunk, block, c, out, e),
+        Kind::Undecided(_) => silent(c, out),
+        Kind::Committed(v) => run_committed(c, out, t, v),
+        Kind::Aborted(_) => silent(c, out),
     }
 }
 
 // The head of a waiting list runs, or is refused.
-pub fn run(chunk: u64, block: u64, state: State, r: Record, free: u64) -> Ran
-    ensures { λ a. ⌜ a ≡ ranOr (runRefusals state (r .waiting) free) r (ran chunk block r) ⌝ }
+pub fn run(chunk: u64, block: u64, c: Chunk, r: Record, free: u64) -> Ran
+    ensures { λ a. ⌜ a ≡ record { code = codeOf (runRefusals (c .state) (r .waiting) free); left = unlessRefused (runRefusals (c .state) (r .waiting) free) (silent c r) (ran chunk block c r) } ⌝ }
 {
+    let state = c.state;
     let w = r.waiting;
     let code = run_code(state, w, free);
-    if code != 0 {
+    if code != rules::DONE {
+        let same = silent(c, r);
         return Ran {
             code: code,
-            block: r,
-            reply: Slot::Empty,
+            left: same,
         };
     }
-    let a = run_head(chunk, block, r);
-    let next = a.block;
-    let reply = a.reply;
+    let after = run_head(chunk, block, c, r);
     Ran {
         code: code,
-        block: next,
-        reply: reply,
+        left: after,
     }
 }
 
@@ -200,18 +199,18 @@ fn overdue_code(state: State, w: Waiting, now: u64, age: u64) -> u64
     ensures { λ r. ⌜ r ≡ codeOf (overdueRefusals state w now age) ⌝ }
 {
     if !table_kinds::is_normal(state) {
-        return 2;
+        return rules::NOT_IN_STATE;
     }
     let e = chunk_waiting::head(w);
     let k = e.kind;
     if !is_undecided(k) {
-        return 2;
+        return rules::NOT_IN_STATE;
     }
     let t = e.timestamp;
     if !is_overdue(now, t, age) {
-        return 2;
+        return rules::NOT_IN_STATE;
     }
-    0
+    rules::DONE
 }
 
 // "The block joins the set". (A store's block is below 16; of any other there is no mark.)
@@ -228,11 +227,11 @@ fn join_set(c: Chunk, block: u64) -> Chunk
 
 // A block is overdue.
 pub fn overdue(c: Chunk, block: u64, w: Waiting, now: u64, age: u64) -> Changed
-    ensures { λ r. ⌜ r ≡ changed (overdueRefusals (c .state) w now age) c (overdue c block) ⌝ }
+    ensures { λ r. ⌜ r ≡ record { code = codeOf (overdueRefusals (c .state) w now age); chunk = unlessRefused (overdueRefusals (c .state) w now age) c (overdue c block) } ⌝ }
 {
     let state = c.state;
     let code = overdue_code(state, w, now, age);
-    if code != 0 {
+    if code != rules::DONE {
         return Changed {
             code: code,
             chunk: c,

@@ -1,8 +1,7 @@
 // One host by itself: operations come in, it times out, refreshes its map, stops.
 ghost use mathlib.Core.Path.{_≡_};
-ghost use Rattle.rules.specs.Codes.{codeOf};
+ghost use Rattle.rules.specs.Codes.{codeOf, unlessRefused};
 ghost use Rattle.rules.specs.Hosts.{intakeRefusals, appended, timeoutRefusals, timedOut, workingRefusals, refreshed, stopped};
-ghost use Rattle.host_alone.specs.Moves.{moved};
 use rules::Epoch;
 use rules::Host;
 use rules::Operation;
@@ -20,20 +19,20 @@ fn intake_code(h: Host) -> u64
     ensures { λ r. ⌜ r ≡ codeOf (intakeRefusals h) ⌝ }
 {
     if !h.working {
-        return 2;
+        return rules::NOT_IN_STATE;
     }
     if rules::OPERATIONS as u64 <= h.queue.count {
-        return 4;
+        return rules::QUEUE_FULL;
     }
-    0
+    rules::DONE
 }
 
 // "1 read (host, block); 2 write (host, block, value) .. Else appended".
 pub fn intake(h: Host, o: Operation) -> Moved
-    ensures { λ r. ⌜ r ≡ moved (intakeRefusals h) h (appended h o) ⌝ }
+    ensures { λ r. ⌜ r ≡ record { code = codeOf (intakeRefusals h); host = unlessRefused (intakeRefusals h) h (appended h o) } ⌝ }
 {
     let code = intake_code(h);
-    if code != 0 {
+    if code != rules::DONE {
         return Moved {
             code: code,
             host: h,
@@ -43,7 +42,10 @@ pub fn intake(h: Host, o: Operation) -> Moved
     let longer = host_operations::with_last(q, o);
     let mut out = h;
     out.queue = longer;
-    Moved { code: 0, host: out }
+    Moved {
+        code: rules::DONE,
+        host: out,
+    }
 }
 
 // ---- timeout, refresh, stop
@@ -53,20 +55,20 @@ fn timeout_code(h: Host) -> u64
     ensures { λ r. ⌜ r ≡ codeOf (timeoutRefusals h) ⌝ }
 {
     if !h.working {
-        return 2;
+        return rules::NOT_IN_STATE;
     }
     if table_sets::is_empty(h.attempt.outstanding) {
-        return 2;
+        return rules::NOT_IN_STATE;
     }
-    0
+    rules::DONE
 }
 
 // "Okay false, nothing outstanding".
 pub fn time_out(h: Host) -> Moved
-    ensures { λ r. ⌜ r ≡ moved (timeoutRefusals h) h (timedOut h) ⌝ }
+    ensures { λ r. ⌜ r ≡ record { code = codeOf (timeoutRefusals h); host = unlessRefused (timeoutRefusals h) h (timedOut h) } ⌝ }
 {
     let code = timeout_code(h);
-    if code != 0 {
+    if code != rules::DONE {
         return Moved {
             code: code,
             host: h,
@@ -78,7 +80,10 @@ pub fn time_out(h: Host) -> Moved
     a.outstanding = none;
     let mut out = h;
     out.attempt = a;
-    Moved { code: 0, host: out }
+    Moved {
+        code: rules::DONE,
+        host: out,
+    }
 }
 
 // "8 refresh (host): working (2)"; "10 stop (host), once".
@@ -86,17 +91,17 @@ fn working_code(h: Host) -> u64
     ensures { λ r. ⌜ r ≡ codeOf (workingRefusals h) ⌝ }
 {
     if !h.working {
-        return 2; // stopped: no refresh, and no second stop
+        return rules::NOT_IN_STATE; // stopped: no refresh, and no second stop
     }
-    0
+    rules::DONE
 }
 
 // "Epoch known becomes the store's, map current".
 pub fn refresh(h: Host, epoch: Epoch) -> Moved
-    ensures { λ r. ⌜ r ≡ moved (workingRefusals h) h (refreshed h epoch) ⌝ }
+    ensures { λ r. ⌜ r ≡ record { code = codeOf (workingRefusals h); host = unlessRefused (workingRefusals h) h (refreshed h epoch) } ⌝ }
 {
     let code = working_code(h);
-    if code != 0 {
+    if code != rules::DONE {
         return Moved {
             code: code,
             host: h,
@@ -105,15 +110,18 @@ pub fn refresh(h: Host, epoch: Epoch) -> Moved
     let mut out = h;
     out.epoch = epoch;
     out.mapped = true;
-    Moved { code: 0, host: out }
+    Moved {
+        code: rules::DONE,
+        host: out,
+    }
 }
 
 // "its other fields stay".
 pub fn stop(h: Host) -> Moved
-    ensures { λ r. ⌜ r ≡ moved (workingRefusals h) h (stopped h) ⌝ }
+    ensures { λ r. ⌜ r ≡ record { code = codeOf (workingRefusals h); host = unlessRefused (workingRefusals h) h (stopped h) } ⌝ }
 {
     let code = working_code(h);
-    if code != 0 {
+    if code != rules::DONE {
         return Moved {
             code: code,
             host: h,
@@ -121,5 +129,8 @@ pub fn stop(h: Host) -> Moved
     }
     let mut out = h;
     out.working = false;
-    Moved { code: 0, host: out }
+    Moved {
+        code: rules::DONE,
+        host: out,
+    }
 }

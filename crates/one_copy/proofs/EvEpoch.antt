@@ -8,6 +8,7 @@ use native.Mathlib.Omega.{arith}
 use lib.ListN.{length, getD, List·getD-eq-default}
 use Rattle.one_copy.specs.Types.{Timestamp, Record, State, Chunk, Table, Outcome}
 use Rattle.one_copy.specs.Listed.{byChange}
+use Rattle.rules.specs.Built.{noBlocks}
 use Rattle.rules.specs.Chunks.{emptied}
 use Rattle.rules.specs.Codes.{codeOf}
 use Rattle.rules.specs.Events.{copiesOf, renewed, epochChanged, epochRefusals}
@@ -18,7 +19,7 @@ use Rattle.rules.specs.Tables.{isChunk, isBlock, setOf, chunkOf, recordOf, reco
 use Rattle.rules.specs.Timestamps.{next}
 use Rattle.rules.specs.Waiting.{inOrder}
 use Rattle.rules.specs.Words.{each, numbers}
-use Rattle.rules.specs.Zero.{_among_, noBlocks, noCopy, noChunk, noRecord}
+use Rattle.rules.specs.Zero.{_among_, noCopy, noChunk, noRecord}
 use Rattle.rules.proofs.Formed.{Formed}
 use Rattle.rules.proofs.Lists.{each-number, each-length, numbers-length, grid-at}
 use Rattle.rules.proofs.Relies.{epoch-holder}

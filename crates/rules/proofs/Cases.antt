@@ -6,7 +6,7 @@ use mathlib.Core.List.{List, [], _∷_}
 use lib.ListN.{drop, replicate}
 use lib.Dec.{eqb}
 use Rattle.rules.specs.Types.{Timestamp, Set, Kind, Entry, Record, State, Action, Message, Request, Refusal, Sort, Slot, Table, Event, Answer}
-use Rattle.rules.specs.Built.{creationOf, operationOf}
+use Rattle.rules.specs.Built.{creationOf, operationOf, noBlocks}
 use Rattle.rules.specs.Chunks.{atChunk, arrived}
 use Rattle.rules.specs.Codes.{codeOf}
 use Rattle.rules.specs.Creation.{fresh, firstEpoch, isCreation}
@@ -19,7 +19,7 @@ use Rattle.rules.specs.Settlement.{W, besideW, agreed, committed, writes
 use Rattle.rules.specs.Tables.{hostOf, recordOf, slotOf, withHost, withChunk, withRecord, withPlaces}
 use Rattle.rules.specs.Waiting.{holding, insert, inserted}
 use Rattle.rules.specs.Words.{if_then_else_, those, each, joined, every, some, place, fold, from}
-use Rattle.rules.specs.Zero.{zeroSet, noBlocks}
+use Rattle.rules.specs.Zero.{zeroSet}
 
 -- ---- the store: one host, chunks A and B, one block on both, age limit 100
 

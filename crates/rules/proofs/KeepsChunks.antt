@@ -8,6 +8,7 @@ use lib.ListN.{getD, drop, length-drop, length-set, getD-replicate}
 use lib.Dec.{eqb}
 use borrow.Author.Tests.{ltb-true, lt-ltb}
 use Rattle.rules.specs.Types.{Timestamp, Epoch, Creation, Kind, Entry, Waiting, Record, State, Chunk, Header, Message, Slot, Table, Arrived, Operand, Request, Refusal, Sort}
+use Rattle.rules.specs.Built.{noBlocks}
 use Rattle.rules.specs.Chunks.{withState, withValue, withRead, withWrite, withWaiting, answering, silent, entryOf, arrived, decides, atChunk, runs, ran, failed, emptied, recoverRefusals, takeLeaseRefusals, giveLeaseRefusals, overdue, arrives}
 use Rattle.rules.specs.Codes.{Row}
 use Rattle.rules.specs.Creation.{isCreation}
@@ -23,7 +24,7 @@ use Rattle.rules.specs.Network.{removed, freePlaces}
 use Rattle.rules.specs.Timestamps.{never, _is_, _above_, _below_, later, isTimestamp, _same_, isEpoch}
 use Rattle.rules.specs.Waiting.{inOrder, insert, inserted, head, headRemoved, firstWith, decided, mark, marked}
 use Rattle.rules.specs.Words.{every, place, from, numbers}
-use Rattle.rules.specs.Zero.{noBlocks, zeroEntry, isZeroEntry, zeroWaiting, isZeroRecord}
+use Rattle.rules.specs.Zero.{zeroEntry, isZeroEntry, zeroWaiting, isZeroRecord}
 use Rattle.rules.proofs.Lists.{three, five, walk, every-drop, every-change, set-all, take-short}
 use Rattle.rules.proofs.Order.{insert-length, insert-every, insert-ordered, tail-ordered, mark-ordered}
 use Rattle.rules.proofs.Messages.{arrived-walk, decides-walk}

@@ -7,6 +7,7 @@ use lib.Dec.{eqb, ltb, leb}
 use lib.IntN.{pos, _-ℤ_}
 use lib.Signed.{ltZ}
 use Rattle.rules.specs.Types.{Timestamp, Epoch, Kind, Entry, Waiting, Record, State, Chunk, Header, Message, Request, Refusal, Sort, Slot, Arrived}
+use Rattle.rules.specs.Built.{entryWith, noBlocks}
 use Rattle.rules.specs.Codes.{Row, _gives_⨾_, granted}
 use Rattle.rules.specs.Kinds.{isRead, isUndecided, isWrite, isNormal, isNolease, isFailed}
 use Rattle.rules.specs.Limits.{waitingLimit}
@@ -14,12 +15,15 @@ use Rattle.rules.specs.Messages.{headed, headerOf, sortOf, messageOf}
 use Rattle.rules.specs.Timestamps.{clockOf, _below_, _same_, later}
 use Rattle.rules.specs.Waiting.{head, inserted, headRemoved, marked}
 use Rattle.rules.specs.Words.{if_then_else_}
-use Rattle.rules.specs.Zero.{noBlocks, zeroWaiting}
+use Rattle.rules.specs.Zero.{zeroWaiting}
 
 -- ---- a chunk and a record with one field changed
 
 abbrev pub withState : Chunk → State → Chunk
 withState c x = record { state = x; lost = c .lost; epoch = c .epoch; reconcile = c .reconcile }
+
+abbrev pub withLost : Chunk → Bool → Chunk
+withLost c x = record { state = c .state; lost = x; epoch = c .epoch; reconcile = c .reconcile }
 
 abbrev pub withReconcile : Chunk → List Bool → Chunk
 withReconcile c x = record { state = c .state; lost = c .lost; epoch = c .epoch; reconcile = x }
@@ -54,7 +58,7 @@ isOutOfOrder kind t r = t below r .write || isWrite kind && t below r .read
 
 -- the entry that a read or a prewrite waits as
 abbrev pub entryOf : Header → Epoch → Kind → Entry
-entryOf header epoch kind = record { timestamp = header .timestamp; sender = header .host; epoch = epoch; kind = kind }
+entryOf header epoch kind = entryWith (header .timestamp) (header .host) epoch kind
 
 -- "else it waits, after its equals, and a prewrite is answered with a prewrite reply"
 abbrev pub waits : Chunk → Record → Header → Epoch → Kind → Arrived
@@ -129,7 +133,7 @@ failRefusals state =
 
 -- "all its waiting entries and its reconciliation set go, lost is set; values, last reads, last writes and epoch persist"
 abbrev pub failed : Chunk → Chunk
-failed c = record { state = State.Failed; lost = true; epoch = c .epoch; reconcile = noBlocks }
+failed c = withLost (withReconcile (withState c State.Failed) noBlocks) true
 
 abbrev pub emptied : Record → Record
 emptied r = withWaiting r zeroWaiting

@@ -1,16 +1,17 @@
 -- Document 01, "What the store holds": creation and the fresh table
 use Prim.Native.Nat.{ℕ, _*_}
-use mathlib.Core.Bool.{Bool, true, false, not, _&&_, _||_}
+use mathlib.Core.Bool.{Bool, true, not, _&&_, _||_}
 use mathlib.Core.List.{List}
 use lib.ListN.{replicate}
 use lib.Dec.{eqb}
 use Rattle.rules.specs.Types.{Epoch, Set, Creation, State, Chunk, Host, Table, Created}
+use Rattle.rules.specs.Built.{blank}
 use Rattle.rules.specs.Codes.{Row, _gives_⨾_, granted, codeOf}
+use Rattle.rules.specs.Hosts.{withWorking}
 use Rattle.rules.specs.Limits.{hostLimit, chunkLimit, blockLimit, placeLimit, greatestClock, upTo, oneTo}
 use Rattle.rules.specs.Tables.{isHost, isChunk, isBlock, setOf}
-use Rattle.rules.specs.Timestamps.{noEpoch}
 use Rattle.rules.specs.Words.{if_then_else_, every, each, numbers}
-use Rattle.rules.specs.Zero.{_among_, isEmpty, noBlocks, zeroRecord, zeroQueue, zeroAttempt, zeroHost, zeroChunk, zeroPlace, zeroTable}
+use Rattle.rules.specs.Zero.{_among_, isEmpty, zeroRecord, zeroHost, zeroChunk, zeroPlace, zeroTable}
 
 -- every chunk in the set is one of the store's
 abbrev pub ofStore : Creation → Set → Bool
@@ -34,10 +35,10 @@ abbrev pub firstEpoch : Epoch
 firstEpoch = record { 0 = 1 }
 
 abbrev pub freshChunk : Chunk
-freshChunk = record { state = State.Nolease; lost = false; epoch = firstEpoch; reconcile = noBlocks }
+freshChunk = blank State.Nolease firstEpoch
 
 abbrev pub freshHost : Host
-freshHost = record { working = true; queue = zeroQueue; attempt = zeroAttempt; epoch = noEpoch; mapped = false; clock = 0 }
+freshHost = withWorking zeroHost true
 
 unfoldable pub fresh : Creation → Table
 fresh k = record {

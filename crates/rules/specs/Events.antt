@@ -1,12 +1,12 @@
 -- Document 01, "Events": for each event its refusals in their order, and its effect; the events by their numbers; the step
 use Prim.Native.Nat.{ℕ}
-use mathlib.Core.Bool.{Bool, false, not, _&&_}
+use mathlib.Core.Bool.{Bool, not, _&&_}
 use mathlib.Core.List.{List, []}
 use lib.ListN.{getD}
 use lib.Dec.{eqb}
-use Rattle.rules.specs.Types.{Epoch, Set, Creation, Record, State, Chunk, Action, Operation, Host, Header, Message, Slot, Table, Arrived, Copy, Event, Operands, Outcome, Answer}
+use Rattle.rules.specs.Types.{Epoch, Set, Creation, Record, State, Chunk, Action, Operation, Host, Header, Message, Slot, Table, Arrived, Copy, Event, Operands, Outcome, Answer, Reply}
 use Rattle.rules.specs.declared.Operand.the-variants.{Unknown as unknown, Unused as unused, Host as aHost, Chunk as aChunk, Block as aBlock, Place as aPlace, Clock as aClock, Now as aTime, Value as aValue}
-use Rattle.rules.specs.Built.{operationOf}
+use Rattle.rules.specs.Built.{blank, copyWith, operationOf}
 use Rattle.rules.specs.Chunks.{runRefusals, ran, failRefusals, failed, emptied, recoverRefusals, recovered, takeLeaseRefusals, leaseTaken, giveLeaseRefusals, leaseGiven, overdueRefusals, overdue, arrives}
 use Rattle.rules.specs.Codes.{Row, _gives_⨾_, granted, codeOf}
 use Rattle.rules.specs.Formed.{wellFormed}
@@ -20,7 +20,7 @@ use Rattle.rules.specs.Settlement.{settled}
 use Rattle.rules.specs.Tables.{isChunk, isBlock, setOf, hostOf, chunkOf, at, recordOf, recordsBy, slotOf, withEpoch, withChunks, withRecords, withPlaces, withHost, withChunk, withRecord}
 use Rattle.rules.specs.Timestamps.{stamp, next}
 use Rattle.rules.specs.Words.{if_then_else_, Numbered, _⇒_⨾_, under, each, every, some, numbers}
-use Rattle.rules.specs.Zero.{_among_, noBlocks, noRecord, noChunk, noCopy}
+use Rattle.rules.specs.Zero.{_among_, noRecord, noChunk, noCopy}
 
 -- what a granted event gives: the new table and the outcome
 pub record Effect : Type 0 where
@@ -202,7 +202,7 @@ module _ (t : Table) where
 
 -- a block's copies, one a chunk
 abbrev pub copyIn : Creation → List Chunk → List Record → (block chunk : ℕ) → Copy
-copyIn k chunks records b c = record { member = c among setOf k b; lost = getD chunks c noChunk .lost; held = getD records (at c b) noRecord }
+copyIn k chunks records b c = copyWith (c among setOf k b) (getD chunks c noChunk .lost) (getD records (at c b) noRecord)
 
 abbrev pub copiesIn : Creation → List Chunk → List Record → (block : ℕ) → List Copy
 copiesIn k chunks records b = each (copyIn k chunks records b) (numbers chunkLimit)
@@ -215,7 +215,7 @@ settledIn k chunks records = recordsBy (λ c b. getD (settled (copiesIn k chunks
 
 -- "reconciliation sets and lost marks cleared, the epoch grows by one in every chunk, and every chunk is normal"
 abbrev pub anew : (next : Epoch) → Chunk
-anew next = record { state = State.Normal; lost = false; epoch = next; reconcile = noBlocks }
+anew next = blank State.Normal next
 
 abbrev pub renewed : Creation → (next : Epoch) → List Chunk → (chunk : ℕ) → Chunk
 renewed k next chunks c = if isChunk k c then anew next else getD chunks c noChunk
@@ -300,3 +300,7 @@ unfoldable pub step : Table → Event → Answer
 step t e =
     let code = codeOf (rows t e) in
     if eqb code 0 then done (ruleOf t e .effect) else refused t code
+
+-- an answer without its table
+abbrev pub replyOf : Answer → Reply
+replyOf a = record { code = a .code; outcome = a .outcome }

@@ -3,6 +3,7 @@ use Prim.Native.Nat.{ℕ}
 use mathlib.Core.Bool.{Bool, _&&_, not}
 use mathlib.Core.List.{List}
 use Rattle.rules.specs.Types.{Timestamp, Entry, Record, Copy}
+use Rattle.rules.specs.Built.{copyWith}
 use Rattle.rules.specs.Chunks.{emptied}
 use Rattle.rules.specs.Kinds.{isWrite, isAborted, valueOf}
 use Rattle.rules.specs.Timestamps.{_is_, _above_, greatest}
@@ -97,4 +98,4 @@ module _ (copies : List Copy) where
 
   -- "All queues of all chunks are emptied without messages"; copies outside the set keep the rest
   unfoldable pub settled : List Copy
-  settled = each (λ c. record { member = c .member; lost = c .lost; held = if inSet c then settledRecord else emptied (c .held) }) copies
+  settled = each (λ c. copyWith (c .member) (c .lost) (if inSet c then settledRecord else emptied (c .held))) copies

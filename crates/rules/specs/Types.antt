@@ -30,3 +30,4 @@ pub use Rattle.rules.specs.declared.Operand.{Operand}
 pub use Rattle.rules.specs.declared.Operands.{Operands}
 pub use Rattle.rules.specs.declared.Outcome.{Outcome}
 pub use Rattle.rules.specs.declared.Answer.{Answer}
+pub use Rattle.rules.specs.declared.Reply.{Reply}

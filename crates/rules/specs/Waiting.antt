@@ -4,6 +4,7 @@ use mathlib.Core.Bool.{Bool}
 use mathlib.Core.List.{List, [], _∷_}
 use lib.ListN.{getD, set, take, drop, length}
 use Rattle.rules.specs.Types.{Timestamp, Kind, Entry, Waiting}
+use Rattle.rules.specs.Built.{entryWith}
 use Rattle.rules.specs.Limits.{waitingLimit}
 use Rattle.rules.specs.Timestamps.{_is_, _below_}
 use Rattle.rules.specs.Words.{if_then_else_, place, filled}
@@ -45,7 +46,7 @@ decidedKind commit (Kind.Committed v) = Kind.Committed v
 decidedKind commit (Kind.Aborted v) = Kind.Aborted v
 
 abbrev pub decided : (commit : Bool) → Entry → Entry
-decided commit e = record { timestamp = e .timestamp; sender = e .sender; epoch = e .epoch; kind = decidedKind commit (e .kind) }
+decided commit e = entryWith (e .timestamp) (e .sender) (e .epoch) (decidedKind commit (e .kind))
 
 -- "act on the first entry in waiting order with that timestamp"
 unfoldable pub mark : (commit : Bool) → Timestamp → List Entry → List Entry

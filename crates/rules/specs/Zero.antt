@@ -1,17 +1,17 @@
 -- What zero is for each type: numbers 0, bools false, an enum's first case. Unused places hold it
 use Prim.Native.Nat.{ℕ, _*_}
 use mathlib.Core.Bool.{Bool, false, _&&_, not}
-use mathlib.Core.List.{List, []}
+use mathlib.Core.List.{[]}
 use lib.ListN.{getD, replicate}
 use lib.Dec.{eqb}
 use Rattle.rules.specs.Types.{Set, Creation, Kind, Entry, Waiting, Record, State, Chunk, Action, Operation, Queue, Attempt, Host, Slot, Place, Table, Copy}
-use Rattle.rules.specs.Built.{creationOf, operationOf}
+use Rattle.rules.specs.Built.{creationOf, entryWith, blank, copyWith, operationOf}
 use Rattle.rules.specs.Kinds.{isRead, isNormal, isReading}
 use Rattle.rules.specs.Limits.{hostLimit, chunkLimit, blockLimit, operationLimit, waitingLimit, placeLimit}
 use Rattle.rules.specs.Timestamps.{never, noEpoch, _is_, _same_}
 use Rattle.rules.specs.Words.{none, every, numbers}
 
--- ---- a set of chunks, and of blocks
+-- ---- a set of chunks
 
 abbrev pub zeroSet : Set
 zeroSet = record { chunks = replicate chunkLimit false }
@@ -24,13 +24,10 @@ c among s = getD (s .chunks) c false
 abbrev pub isEmpty : Set → Bool
 isEmpty s = none (λ c. c among s) (numbers chunkLimit)
 
-abbrev pub noBlocks : List Bool
-noBlocks = replicate blockLimit false
-
 -- ---- an entry, a waiting list, a record
 
 abbrev pub zeroEntry : Entry
-zeroEntry = record { timestamp = never; sender = 0; epoch = noEpoch; kind = Kind.Read }
+zeroEntry = entryWith never 0 noEpoch Kind.Read
 
 abbrev pub isZeroEntry : Entry → Bool
 isZeroEntry e = e .timestamp is never && eqb (e .sender) 0 && e .epoch same noEpoch && isRead (e .kind)
@@ -49,7 +46,7 @@ isZeroRecord r =
 -- ---- a chunk
 
 abbrev pub zeroChunk : Chunk
-zeroChunk = record { state = State.Normal; lost = false; epoch = noEpoch; reconcile = noBlocks }
+zeroChunk = blank State.Normal noEpoch
 
 abbrev pub isZeroChunk : Chunk → Bool
 isZeroChunk c =
@@ -112,7 +109,7 @@ abbrev pub noRecord : Record
 noRecord = record { value = 0; read = never; write = never; waiting = record { count = 0; entries = [] } }
 
 abbrev pub noCopy : Copy
-noCopy = record { member = false; lost = false; held = noRecord }
+noCopy = copyWith false false noRecord
 
 abbrev pub noChunk : Chunk
 noChunk = record { state = State.Normal; lost = false; epoch = noEpoch; reconcile = [] }

@@ -24,6 +24,33 @@ pub const CLOCK_FACTOR: u64 = 8;
 
 pub const GREATEST_TIMESTAMP: u64 = 34359738367;
 
+// Codes, named once: what document 01 says of each.
+pub const DONE: u64 = 0;
+
+// "number outside its range, unknown kind, unused operand not 0, or a read's chosen copy not in the block's set"
+pub const OUT_OF_RANGE: u64 = 1;
+
+// "the party isn't in the state that the step names"
+pub const NOT_IN_STATE: u64 = 2;
+
+// "clock not above the host's last drawn"
+pub const CLOCK_NOT_ABOVE: u64 = 3;
+
+// "host already has 8 operations"
+pub const QUEUE_FULL: u64 = 4;
+
+// "the step's messages exceed the free places"
+pub const NO_ROOM: u64 = 5;
+
+// "for some block every chunk of its set is lost"
+pub const ALL_LOST: u64 = 6;
+
+// "epoch is 4,294,967,295"
+pub const LAST_EPOCH: u64 = 7;
+
+// "table not well formed"
+pub const NOT_FORMED: u64 = 8;
+
 // 0 means "never".
 pub struct Timestamp(pub u64);
 
@@ -298,6 +325,12 @@ pub enum Outcome {
 
 pub struct Answer {
     pub table: Table,
+    pub code: u64,
+    pub outcome: Outcome,
+}
+
+// An answer without its table: what the caller of an event is told.
+pub struct Reply {
     pub code: u64,
     pub outcome: Outcome,
 }

@@ -17,7 +17,7 @@ silent-requires c κs = search needs
 returns : tie.Need-returns
 returns c =
     let u = c .before .before in
-    c .silent .ensures ∙ read-waits _ _ _ _ _ (u .before .insert .ensures) (sym (u .is-read .ensures) ∙ c .before .if1 .taken)
+    c .silent .ensures ∙ read-waits _ _ _ _ _ _ (u .before .insert .ensures) (sym (u .is-read .ensures) ∙ c .before .if1 .taken)
 
 answering-requires : tie.Need-answering-requires
 answering-requires c κs = search needs
@@ -25,7 +25,7 @@ answering-requires c κs = search needs
 returns-2 : tie.Need-returns-2
 returns-2 c =
     let u = c .before .before in
-    c .answering .ensures ∙ prewrite-waits _ _ _ _ _ (u .before .insert .ensures) (sym (u .is-read .ensures) ∙ c .before .if1 .left)
+    c .answering .ensures ∙ prewrite-waits _ _ _ _ _ _ (u .before .insert .ensures) (sym (u .is-read .ensures) ∙ c .before .if1 .left)
 
 pub waits-spec : {M : Type 1} → statement M
 waits-spec =

@@ -20,6 +20,9 @@ run-read-requires c κs = search needs
 enum-told-2 : tie.Need-enum-told-2
 enum-told-2 c = search needs
 
+silent-requires : tie.Need-silent-requires
+silent-requires c κs = search needs
+
 enum-known-k : tie.Need-enum-known-k
 enum-known-k c = search needs
 
@@ -29,25 +32,28 @@ run-committed-requires c κs = search needs
 enum-told-3 : tie.Need-enum-told-3
 enum-told-3 c = search needs
 
+silent-requires-2 : tie.Need-silent-requires-2
+silent-requires-2 c κs = search needs
+
 returns : tie.Need-returns
 returns c =
     let u = c .before .before .before .before in
-    c .run-read .ensures ∙ ran-as _ _ _ _ _ (u .before .head .ensures) (u .remove-head .ensures) _ (c .before .enum-told .given .1)
+    c .run-read .ensures ∙ ran-as _ _ _ _ _ _ (u .before .head .ensures) (u .remove-head .ensures) _ (c .before .enum-told .given .1)
 
 returns-2 : tie.Need-returns-2
 returns-2 c =
-    let u = c .before .before .before in
-    ran-as _ _ _ _ _ (u .before .head .ensures) (u .remove-head .ensures) _ (c .enum-told2 .given .1)
+    let u = c .before .before .before .before in
+    c .silent .ensures ∙ ran-as _ _ _ _ _ _ (u .before .head .ensures) (u .remove-head .ensures) _ (c .before .enum-told2 .given .1)
 
 returns-3 : tie.Need-returns-3
 returns-3 c =
     let u = c .before .before .before .before .before in
-    c .run-committed .ensures ∙ ran-as _ _ _ _ _ (u .before .head .ensures) (u .remove-head .ensures) _ (c .before .before .k .given .1)
+    c .run-committed .ensures ∙ ran-as _ _ _ _ _ _ (u .before .head .ensures) (u .remove-head .ensures) _ (c .before .before .k .given .1)
 
 returns-4 : tie.Need-returns-4
 returns-4 c =
-    let u = c .before .before .before in
-    ran-as _ _ _ _ _ (u .before .head .ensures) (u .remove-head .ensures) _ (c .enum-told3 .given .1)
+    let u = c .before .before .before .before in
+    c .silent2 .ensures ∙ ran-as _ _ _ _ _ _ (u .before .head .ensures) (u .remove-head .ensures) _ (c .before .enum-told3 .given .1)
 
 pub run-head-spec : {M : Type 1} → statement M
 run-head-spec =
@@ -58,9 +64,11 @@ run-head-spec =
     enum-told
     run-read-requires
     enum-told-2
+    silent-requires
     enum-known-k
     run-committed-requires
     enum-told-3
+    silent-requires-2
     returns
     returns-2
     returns-3

@@ -1,8 +1,6 @@
 -- `host_alone::intake` meets its contract
-use mathlib.Core.Path.{ap, _∙_}
 use borrow.Author.Needs.{needs}
-use Rattle.rules.specs.Hosts.{intakeRefusals, withQueue, appended}
-use Rattle.host_alone.specs.Moves.{moved}
+use Rattle.rules.specs.Hosts.{appended}
 use Rattle.host_alone.proofs.Laws.{unmoved, moves}
 use Rattle.host_alone.proofs.intake.Statement.{statement}
 use Rattle.host_alone.proofs.intake.Tie as tie
@@ -20,9 +18,7 @@ returns-2 : tie.Need-returns-2
 unfolding appended
 returns-2 c =
     let e = c .before .before in
-    let h = e .before .before .args .h in
-    moves _ _ _ _ (e .before .intake-code .ensures) (e .if1 .left)
-    ∙ ap (λ q. moved (intakeRefusals h) h (withQueue h q)) (c .with-last .ensures)
+    rw (c .with-last .ensures) (moves _ _ _ _ (e .before .intake-code .ensures) (e .if1 .left))
 
 pub intake-spec : {M : Type 1} → statement M
 intake-spec = tie.close (tie.spec intake-code-requires returns with-last-requires returns-2)

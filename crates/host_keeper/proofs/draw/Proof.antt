@@ -173,5 +173,5 @@ draw-spec 𝓤 H 𝓜 𝓖 𝓡 =
     entered 𝓤 H (tripleOf 𝓤 H (𝓖 .A) draw.signature (draw.spec 𝓤 H (𝓖 .A) (𝓜 .mem) (𝓡 .run)))
     (tables 𝓤 H 𝓜 𝓡 code.env .C) (tables 𝓤 H 𝓜 𝓡 code.env .Λ) #keeper·draw code.function (code.unfolded 𝓤 H 𝓜 𝓡)
     (draw-meets 𝓤 H (𝓖 .A) (givenOf 𝓤 H 𝓜 𝓖) (𝓜 .mem) (𝓡 .run) (tablesOf 𝓤 H 𝓜 (tables 𝓤 H 𝓜 𝓡 code.env))
-    (cited 𝓤 H (Kept 𝓤 H (𝓖 .A) (𝓜 .mem) (𝓡 .run)) 𝓜 𝓡 code.env #keeper·kept kept-def.routine code.calls-keeper·kept (kept-thm.met 𝓤 H 𝓜 𝓖 𝓡))
-    (cited 𝓤 H (HandedBy 𝓤 H (𝓖 .A) (𝓜 .mem) (𝓡 .run)) 𝓜 𝓡 code.env #keeper·handed-by handed-def.routine code.calls-keeper·handed-by (handed-thm.met 𝓤 H 𝓜 𝓖 𝓡)))
+    (cited 𝓤 H (Kept 𝓤 H (𝓖 .A) (𝓜 .mem) (𝓡 .run)) 𝓜 𝓡 code.env #keeper·kept kept-def.routine code.calls-host-keeper·kept (kept-thm.met 𝓤 H 𝓜 𝓖 𝓡))
+    (cited 𝓤 H (HandedBy 𝓤 H (𝓖 .A) (𝓜 .mem) (𝓡 .run)) 𝓜 𝓡 code.env #keeper·handed-by handed-def.routine code.calls-host-keeper·handed-by (handed-thm.met 𝓤 H 𝓜 𝓖 𝓡)))

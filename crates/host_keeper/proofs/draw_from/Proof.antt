@@ -195,5 +195,5 @@ draw-from-spec 𝓤 H 𝓜 𝓖 𝓡 =
     entered 𝓤 H (tripleOf 𝓤 H (𝓖 .A) draw-from.signature (draw-from.spec 𝓤 H (𝓖 .A) (𝓜 .mem) (𝓡 .run)))
     (tables 𝓤 H 𝓜 𝓡 code.env .C) (tables 𝓤 H 𝓜 𝓡 code.env .Λ) #keeper·draw-from code.function (code.unfolded 𝓤 H 𝓜 𝓡)
     (draw-from-meets 𝓤 H (𝓖 .A) (givenOf 𝓤 H 𝓜 𝓖) (𝓜 .mem) (𝓡 .run) (tablesOf 𝓤 H 𝓜 (tables 𝓤 H 𝓜 𝓡 code.env))
-    (cited 𝓤 H (Draw 𝓤 H (𝓖 .A) (𝓜 .mem) (𝓡 .run)) 𝓜 𝓡 code.env #keeper·draw draw-def.routine code.calls-keeper·draw (draw-thm.met 𝓤 H 𝓜 𝓖 𝓡))
-    (cited 𝓤 H (DrawnAs 𝓤 H (𝓖 .A) (𝓜 .mem) (𝓡 .run)) 𝓜 𝓡 code.env #keeper·drawn-as drawn-as-def.routine code.calls-keeper·drawn-as (drawn-as-thm.met 𝓤 H 𝓜 𝓖 𝓡)))
+    (cited 𝓤 H (Draw 𝓤 H (𝓖 .A) (𝓜 .mem) (𝓡 .run)) 𝓜 𝓡 code.env #keeper·draw draw-def.routine code.calls-host-keeper·draw (draw-thm.met 𝓤 H 𝓜 𝓖 𝓡))
+    (cited 𝓤 H (DrawnAs 𝓤 H (𝓖 .A) (𝓜 .mem) (𝓡 .run)) 𝓜 𝓡 code.env #keeper·drawn-as drawn-as-def.routine code.calls-host-keeper·drawn-as (drawn-as-thm.met 𝓤 H 𝓜 𝓖 𝓡)))
