@@ -110,7 +110,7 @@ module _ (number clock copy : ℕ) (holders : Set) (h : Host) (free : ℕ) where
           start-crowded k = start-refused 5 (λ z. omega arith) (past-draw 5 (refused-here _ _ _ (sym full-here ∙ k)))
 
           pub start-granted : full ≡ false → (new : Host) (messages : List Place) → new ≡ started h (d .timestamp) (d .keeper .last) to
-              → after ≡ sentToEach free to (λ chunk. asking (headed number chunk (o .block) (d .timestamp)) (h .epoch) (opening (o .action)))
+              → messages ≡ messagesTo to (λ chunk. asking (headed number chunk (o .block) (d .timestamp)) (h .epoch) (opening (o .action)))
               → _≡_ {A = Sent} (record { code = 0; host = new; messages = messages; outcome = Outcome.None }) (starts number clock copy holders h free)
           unfolding starts
           start-granted k new messages new-is messages-is =
@@ -122,8 +122,8 @@ module _ (number clock copy : ℕ) (holders : Set) (h : Host) (free : ℕ) where
       let o = front h in
       let to = openingTo (o .action) copy holders in
       let now = stamp clock number in
-      sentOr rules h (started h now clock to)
-      places (sentToEach free to (λ chunk. asking (headed number chunk (o .block) now) (h .epoch) (opening (o .action)))) Outcome.None
+      sentUnless rules h (started h now clock to)
+      (messagesTo to (λ chunk. asking (headed number chunk (o .block) now) (h .epoch) (opening (o .action)))) Outcome.None
 
   pub start-ruled : number < hostLimit → clock ≤ greatestClock → starts number clock copy holders h free ≡ ruled
   unfolding starts each codeOf every
@@ -149,7 +149,7 @@ module _ (number : ℕ) (holders : Set) (h : Host) (free : ℕ) (o : Operation) 
 
   pub finish-granted : code ≡ 0 → (new : Host) (messages : List Place) (x : Outcome)
       → new ≡ finished h
-      → after ≡ sentToEach free to (λ chunk. asking (headed number chunk (o .block) (h .attempt .timestamp)) (h .epoch) (closing (h .attempt .okay)))
+      → messages ≡ messagesTo to (λ chunk. asking (headed number chunk (o .block) (h .attempt .timestamp)) (h .epoch) (closing (h .attempt .okay)))
       → x ≡ finishOutcome number h
       → _≡_ {A = Sent} (record { code = 0; host = new; messages = messages; outcome = x }) (finishes number holders h free)
   unfolding finishes

@@ -121,31 +121,31 @@ pub fn start(number: u64, clock: u64, copy: u64, holders: Set, h: Host, free: u6
     ensures { λ r. ⌜ r ≡ starts number clock copy holders h free ⌝ }
 {
     if unready(h) {
-        return refuse(2, h);
+        return refuse(rules::NOT_IN_STATE, h);
     }
     let o = host_operations::front(h);
     let action = o.action;
     if lacks_copy(action, copy, holders) {
-        return refuse(1, h);
+        return refuse(rules::OUT_OF_RANGE, h);
     }
     let k = Keeper {
         host: number,
         last: h.clock,
     };
     let d = host_keeper::draw_from(k, clock);
-    if d.code != 0 {
+    if d.code != rules::DONE {
         return refuse(d.code, h);
     }
     let to = opening_to(action, copy, holders);
     if lacks_room(free, to) {
-        return refuse(5, h);
+        return refuse(rules::NO_ROOM, h);
     }
     let now = d.timestamp;
     let epoch = h.epoch;
     let messages = network_requests::open(to, number, o.block, now, epoch, action);
     let new = begin(h, d, to);
     Sent {
-        code: 0,
+        code: rules::DONE,
         host: new,
         messages: messages,
         outcome: Outcome::None,
@@ -159,18 +159,18 @@ fn finish_code(h: Host, free: u64, to: Set) -> u64
     ensures { λ r. ⌜ r ≡ codeOf (finishRefusals h free (howMany to)) ⌝ }
 {
     if !h.working {
-        return 2;
+        return rules::NOT_IN_STATE;
     }
     if !has_current(h) {
-        return 2;
+        return rules::NOT_IN_STATE;
     }
     if !table_sets::is_empty(h.attempt.outstanding) {
-        return 2;
+        return rules::NOT_IN_STATE;
     }
     if lacks_room(free, to) {
-        return 5;
+        return rules::NO_ROOM;
     }
-    0
+    rules::DONE
 }
 
 // A write's messages go to each chunk of the set; a read has none.
@@ -256,7 +256,7 @@ pub fn finish(number: u64, holders: Set, h: Host, free: u64) -> Sent
     let action = o.action;
     let to = closing_to(action, holders);
     let code = finish_code(h, free, to);
-    if code != 0 {
+    if code != rules::DONE {
         return refuse(code, h);
     }
     let now = h.attempt.timestamp;
@@ -265,7 +265,7 @@ pub fn finish(number: u64, holders: Set, h: Host, free: u64) -> Sent
     let messages = network_requests::close(to, number, o.block, now, epoch, h.attempt.okay);
     let outcome = finish_outcome(number, h);
     Sent {
-        code: 0,
+        code: rules::DONE,
         host: new,
         messages: messages,
         outcome: outcome,

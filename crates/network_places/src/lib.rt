@@ -32,9 +32,9 @@ pub fn place_code(s: Slot) -> u64
     ensures { λ r. ⌜ r ≡ codeOf (placeRefusals s) ⌝ }
 {
     if is_empty(s) {
-        return 2;
+        return rules::NOT_IN_STATE;
     }
-    0
+    rules::DONE
 }
 
 // How much room there is for a step's messages.
