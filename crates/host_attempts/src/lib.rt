@@ -6,7 +6,7 @@ ghost use Rattle.rules.specs.Codes.{codeOf};
 ghost use Rattle.rules.specs.Hosts.{hasCurrent, only, openingTo, started};
 ghost use Rattle.rules.specs.Hosts.{finishRefusals, closingTo, doneAs, failedAs, finishOutcome, finished};
 ghost use Rattle.rules.specs.Kinds.{isReading};
-ghost use Rattle.rules.specs.Network.{freePlaces, howMany};
+ghost use Rattle.rules.specs.Network.{howMany};
 ghost use Rattle.rules.specs.Zero.{_among_};
 ghost use Rattle.host_attempts.specs.Moves.{refused, starts, finishes};
 use host_keeper::Drawn;
@@ -18,12 +18,13 @@ use rules::Operation;
 use rules::Outcome;
 use rules::Place;
 use rules::Set;
+use rules::Slot;
 
-// What a start or a finish makes of its host and the network, and the outcome; a refusal leaves both as they were.
+// What a start or a finish makes of its host, its new messages, and the outcome; a refusal has no messages.
 pub struct Sent {
     pub code: u64,
     pub host: Host,
-    pub places: [Place; rules::PLACES],
+    pub messages: [Place; rules::CHUNKS],
     pub outcome: Outcome,
 }
 
@@ -35,20 +36,21 @@ fn has_current(h: Host) -> bool
 }
 
 // ".. room (5)": there are fewer free places than messages.
-fn lacks_room(places: [Place; rules::PLACES], to: Set) -> bool
-    ensures { λ r. ⌜ r ≡ ltb (freePlaces places) (howMany to) ⌝ }
+fn lacks_room(free: u64, to: Set) -> bool
+    ensures { λ r. ⌜ r ≡ ltb free (howMany to) ⌝ }
 {
-    network_places::free_places(places) < table_sets::how_many(to)
+    free < table_sets::how_many(to)
 }
 
 // "same table, zeros".
-fn refuse(code: u64, h: Host, places: [Place; rules::PLACES]) -> Sent
-    ensures { λ r. ⌜ r ≡ refused code h places ⌝ }
+fn refuse(code: u64, h: Host) -> Sent
+    ensures { λ r. ⌜ r ≡ refused code h ⌝ }
 {
+    let none = network_places::only(Slot::Empty);
     Sent {
         code: code,
         host: h,
-        places: places,
+        messages: none,
         outcome: Outcome::None,
     }
 }
@@ -115,44 +117,37 @@ fn begin(h: Host, d: Drawn, to: Set) -> Host
 
 // "3 start (host, clock from 1, copy)": what it needs (2), the copy (1), the clock (3), which the host's keeper hands out or
 // refuses, and room (5). What the keeper remembers is stored only when the start is granted.
-pub fn start(
-    number: u64,
-    clock: u64,
-    copy: u64,
-    holders: Set,
-    h: Host,
-    places: [Place; rules::PLACES],
-) -> Sent
-    ensures { λ r. ⌜ r ≡ starts number clock copy holders h places ⌝ }
+pub fn start(number: u64, clock: u64, copy: u64, holders: Set, h: Host, free: u64) -> Sent
+    ensures { λ r. ⌜ r ≡ starts number clock copy holders h free ⌝ }
 {
     if unready(h) {
-        return refuse(2, h, places);
+        return refuse(rules::NOT_IN_STATE, h);
     }
     let o = host_operations::front(h);
     let action = o.action;
     if lacks_copy(action, copy, holders) {
-        return refuse(1, h, places);
+        return refuse(rules::OUT_OF_RANGE, h);
     }
     let k = Keeper {
         host: number,
         last: h.clock,
     };
     let d = host_keeper::draw_from(k, clock);
-    if d.code != 0 {
-        return refuse(d.code, h, places);
+    if d.code != rules::DONE {
+        return refuse(d.code, h);
     }
     let to = opening_to(action, copy, holders);
-    if lacks_room(places, to) {
-        return refuse(5, h, places);
+    if lacks_room(free, to) {
+        return refuse(rules::NO_ROOM, h);
     }
     let now = d.timestamp;
     let epoch = h.epoch;
-    let after = network_requests::open(places, to, number, o.block, now, epoch, action);
+    let messages = network_requests::open(to, number, o.block, now, epoch, action);
     let new = begin(h, d, to);
     Sent {
-        code: 0,
+        code: rules::DONE,
         host: new,
-        places: after,
+        messages: messages,
         outcome: Outcome::None,
     }
 }
@@ -160,22 +155,22 @@ pub fn start(
 // ---- finish
 
 // "Needs working, a current operation, nothing outstanding (2); room for a write's messages (5)".
-fn finish_code(h: Host, places: [Place; rules::PLACES], to: Set) -> u64
-    ensures { λ r. ⌜ r ≡ codeOf (finishRefusals h (freePlaces places) (howMany to)) ⌝ }
+fn finish_code(h: Host, free: u64, to: Set) -> u64
+    ensures { λ r. ⌜ r ≡ codeOf (finishRefusals h free (howMany to)) ⌝ }
 {
     if !h.working {
-        return 2;
+        return rules::NOT_IN_STATE;
     }
     if !has_current(h) {
-        return 2;
+        return rules::NOT_IN_STATE;
     }
     if !table_sets::is_empty(h.attempt.outstanding) {
-        return 2;
+        return rules::NOT_IN_STATE;
     }
-    if lacks_room(places, to) {
-        return 5;
+    if lacks_room(free, to) {
+        return rules::NO_ROOM;
     }
-    0
+    rules::DONE
 }
 
 // A write's messages go to each chunk of the set; a read has none.
@@ -254,25 +249,25 @@ fn end(h: Host) -> Host
 }
 
 // "6 finish (host)".
-pub fn finish(number: u64, holders: Set, h: Host, places: [Place; rules::PLACES]) -> Sent
-    ensures { λ r. ⌜ r ≡ finishes number holders h places ⌝ }
+pub fn finish(number: u64, holders: Set, h: Host, free: u64) -> Sent
+    ensures { λ r. ⌜ r ≡ finishes number holders h free ⌝ }
 {
     let o = host_operations::front(h);
     let action = o.action;
     let to = closing_to(action, holders);
-    let code = finish_code(h, places, to);
-    if code != 0 {
-        return refuse(code, h, places);
+    let code = finish_code(h, free, to);
+    if code != rules::DONE {
+        return refuse(code, h);
     }
     let now = h.attempt.timestamp;
     let epoch = h.epoch;
     let new = end(h);
-    let after = network_requests::close(places, to, number, o.block, now, epoch, h.attempt.okay);
+    let messages = network_requests::close(to, number, o.block, now, epoch, h.attempt.okay);
     let outcome = finish_outcome(number, h);
     Sent {
-        code: 0,
+        code: rules::DONE,
         host: new,
-        places: after,
+        messages: messages,
         outcome: outcome,
     }
 }

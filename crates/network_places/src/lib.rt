@@ -4,6 +4,7 @@ ghost use Rattle.rules.specs.Codes.{codeOf};
 ghost use Rattle.rules.specs.Kinds.{isEmptySlot};
 ghost use Rattle.rules.specs.Network.{isFree, freePlaces, removed, sent, replied, placeRefusals};
 ghost use Rattle.rules.specs.Words.{place};
+ghost use Rattle.network_places.specs.Sending.{onlyReply, sentAll};
 use rules::Message;
 use rules::Place;
 use rules::Slot;
@@ -31,9 +32,9 @@ pub fn place_code(s: Slot) -> u64
     ensures { λ r. ⌜ r ≡ codeOf (placeRefusals s) ⌝ }
 {
     if is_empty(s) {
-        return 2;
+        return rules::NOT_IN_STATE;
     }
-    0
+    rules::DONE
 }
 
 // How much room there is for a step's messages.
@@ -94,11 +95,40 @@ fn send(places: [Place; rules::PLACES], m: Message) -> [Place; rules::PLACES]
 }
 
 // "Its reply, if any, takes the lowest free place".
-pub fn reply(places: [Place; rules::PLACES], s: Slot) -> [Place; rules::PLACES]
+fn reply(places: [Place; rules::PLACES], s: Slot) -> [Place; rules::PLACES]
     ensures { λ r. ⌜ r ≡ replied places s ⌝ }
 {
     match s {
         Slot::Empty => places,
         Slot::Full(m) => send(places, m),
     }
+}
+
+// The new messages of an event that sends a reply at most; with an empty slot, none.
+pub fn only(s: Slot) -> [Place; rules::CHUNKS]
+    ensures { λ r. ⌜ r ≡ onlyReply s ⌝ }
+{
+    let none = Place { slot: Slot::Empty };
+    let mut out = [none; rules::CHUNKS];
+    out[0] = Place { slot: s };
+    out
+}
+
+// An event's new messages go to the network in their order, that is "by ascending chunk".
+pub fn send_all(
+    places: [Place; rules::PLACES],
+    messages: [Place; rules::CHUNKS],
+) -> [Place; rules::PLACES]
+    ensures { λ r. ⌜ r ≡ sentAll places messages ⌝ }
+{
+    let mut out = places;
+    let mut i: usize = 0;
+    while i < rules::CHUNKS {
+        let p = messages[i];
+        let s = p.slot;
+        let next = reply(out, s);
+        out = next;
+        i = i + 1;
+    }
+    out
 }

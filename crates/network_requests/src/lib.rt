@@ -2,8 +2,8 @@
 ghost use mathlib.Core.Path.{_≡_};
 ghost use Rattle.rules.specs.Hosts.{opening, closing};
 ghost use Rattle.rules.specs.Messages.{headed, asking};
-ghost use Rattle.rules.specs.Network.{sentToEach};
-ghost use Rattle.network_requests.specs.Steps.{requestTo};
+ghost use Rattle.network_places.specs.Sending.{messagesTo};
+ghost use Rattle.network_requests.specs.Steps.{requestTo, sending};
 use rules::Action;
 use rules::Epoch;
 use rules::Header;
@@ -34,32 +34,41 @@ fn closing(okay: bool) -> Request
     Request::Abort
 }
 
-// ".. by ascending chunk".
-fn send_to_each(
-    places: [Place; rules::PLACES],
+// The request to one chunk, if it goes there.
+fn ask(goes: bool, header: Header, epoch: Epoch, request: Request) -> Place
+    ensures { λ r. ⌜ r ≡ sending goes (asking header epoch request) ⌝ }
+{
+    if goes {
+        let m = network_messages::message_of(header, Sort::Request(epoch, request));
+        return Place {
+            slot: Slot::Full(m),
+        };
+    }
+    Place { slot: Slot::Empty }
+}
+
+// ".. by ascending chunk": each chunk's stands at its number.
+fn ask_each(
     to: Set,
     request: Request,
     host: u64,
     block: u64,
     now: Timestamp,
     epoch: Epoch,
-) -> [Place; rules::PLACES]
-    ensures { λ n. ⌜ n ≡ sentToEach places to (requestTo request host block now epoch) ⌝ }
+) -> [Place; rules::CHUNKS]
+    ensures { λ r. ⌜ r ≡ messagesTo to (requestTo request host block now epoch) ⌝ }
 {
-    let mut out = places;
+    let mut out = network_places::only(Slot::Empty);
     let mut c: usize = 0;
     while c < rules::CHUNKS {
-        if to.chunks[c] {
-            let header = Header {
-                host: host,
-                chunk: c as u64,
-                block: block,
-                timestamp: now,
-            };
-            let m = network_messages::message_of(header, Sort::Request(epoch, request));
-            let next = network_places::reply(out, Slot::Full(m)); // a request takes its place as a reply does
-            out = next;
-        }
+        let header = Header {
+            host: host,
+            chunk: c as u64,
+            block: block,
+            timestamp: now,
+        };
+        let message = ask(to.chunks[c], header, epoch, request);
+        out[c] = message;
         c = c + 1;
     }
     out
@@ -67,30 +76,28 @@ fn send_to_each(
 
 // "A read sends one read to the copy; a write sends a prewrite to each chunk of the set".
 pub fn open(
-    places: [Place; rules::PLACES],
     to: Set,
     host: u64,
     block: u64,
     now: Timestamp,
     epoch: Epoch,
     action: Action,
-) -> [Place; rules::PLACES]
-    ensures { λ r. ⌜ r ≡ sentToEach places to (λ chunk. asking (headed host chunk block now) epoch (opening action)) ⌝ }
+) -> [Place; rules::CHUNKS]
+    ensures { λ r. ⌜ r ≡ messagesTo to (λ chunk. asking (headed host chunk block now) epoch (opening action)) ⌝ }
 {
-    send_to_each(places, to, opening(action), host, block, now, epoch)
+    ask_each(to, opening(action), host, block, now, epoch)
 }
 
 // "Okay write: commit to each chunk of the set .. Not okay: abort to each".
 pub fn close(
-    places: [Place; rules::PLACES],
     to: Set,
     host: u64,
     block: u64,
     now: Timestamp,
     epoch: Epoch,
     okay: bool,
-) -> [Place; rules::PLACES]
-    ensures { λ r. ⌜ r ≡ sentToEach places to (λ chunk. asking (headed host chunk block now) epoch (closing okay)) ⌝ }
+) -> [Place; rules::CHUNKS]
+    ensures { λ r. ⌜ r ≡ messagesTo to (λ chunk. asking (headed host chunk block now) epoch (closing okay)) ⌝ }
 {
-    send_to_each(places, to, closing(okay), host, block, now, epoch)
+    ask_each(to, closing(okay), host, block, now, epoch)
 }

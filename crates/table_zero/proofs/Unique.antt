@@ -7,6 +7,7 @@ use Rattle.table_zero.proofs.creation_of.Reads as creation-of-contract
 use Rattle.table_zero.proofs.entry.Reads as entry-contract
 use Rattle.table_zero.proofs.host.Reads as host-contract
 use Rattle.table_zero.proofs.operation.Reads as operation-contract
+use Rattle.table_zero.proofs.operation_of.Reads as operation-of-contract
 use Rattle.table_zero.proofs.record.Reads as record-contract
 use Rattle.table_zero.proofs.set.Reads as set-contract
 use Rattle.table_zero.proofs.waiting.Reads as waiting-contract
@@ -31,6 +32,9 @@ record-unique κs a x y s u = unique
 
 chunk-unique : Determined chunk-contract.Learnt
 chunk-unique κs a x y s u = unique
+
+operation-of-unique : Determined operation-of-contract.Learnt
+operation-of-unique κs a x y s u = unique
 
 operation-unique : Determined operation-contract.Learnt
 operation-unique κs a x y s u = unique

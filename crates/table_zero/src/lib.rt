@@ -1,6 +1,6 @@
 // What zero is for each type: unused places hold it, and a created store begins with it.
 ghost use mathlib.Core.Path.{_≡_};
-ghost use Rattle.rules.specs.Built.{creationOf};
+ghost use Rattle.rules.specs.Built.{creationOf, operationOf};
 ghost use Rattle.rules.specs.Zero.{zeroCreation, zeroSet, zeroEntry, zeroWaiting, zeroRecord, zeroChunk, zeroOperation, zeroAttempt, zeroHost};
 use rules::Action;
 use rules::Attempt;
@@ -98,13 +98,20 @@ pub fn chunk() -> Chunk
     }
 }
 
+// What a host is asked to do. Every operation is made here.
+pub fn operation_of(block: u64, action: Action) -> Operation
+    ensures { λ r. ⌜ r ≡ operationOf block action ⌝ }
+{
+    Operation {
+        block: block,
+        action: action,
+    }
+}
+
 pub fn operation() -> Operation
     ensures { λ r. ⌜ r ≡ zeroOperation ⌝ }
 {
-    Operation {
-        block: 0,
-        action: Action::Read,
-    }
+    operation_of(0, Action::Read)
 }
 
 // "current timestamp, outstanding chunks, okay, restart and result value all zero or false".

@@ -7,13 +7,13 @@ use lib.ListN.{drop}
 use borrow.Author.Needs.{needs}
 use Rattle.rules.specs.Codes.{Row, codeOf}
 use Rattle.rules.specs.Hosts.{finishRefusals}
-use Rattle.rules.specs.Network.{freePlaces, howMany}
+use Rattle.rules.specs.Network.{howMany}
 use Rattle.rules.proofs.Loops.{refused-here, refused-later, refused-nowhere}
 use Rattle.host_attempts.proofs.finish_code.Statement.{statement}
 use Rattle.host_attempts.proofs.finish_code.Tie as tie
 
 abbrev rows : tie.Start → List Row
-rows c = finishRefusals (c .args .h) (freePlaces (c .args .places)) (howMany (c .args .to))
+rows c = finishRefusals (c .args .h) (c .args .free) (howMany (c .args .to))
 
 past1 : (c : tie.Else1) (n : ℕ) → let r = rows (c .before .before) in n ≡ codeOf (drop 1 r) → n ≡ codeOf r
 past1 c n e = refused-later _ _ _ n (c .if1 .left) e

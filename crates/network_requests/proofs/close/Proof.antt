@@ -7,11 +7,11 @@ use Rattle.network_requests.proofs.close.Tie as tie
 closing-requires : tie.Need-closing-requires
 closing-requires c κs = search needs
 
-send-to-each-requires : tie.Need-send-to-each-requires
-send-to-each-requires c κs = search needs
+ask-each-requires : tie.Need-ask-each-requires
+ask-each-requires c κs = search needs
 
 returns : tie.Need-returns
-returns c = asked-as _ _ _ _ _ _ _ _ _ (c .send-to-each .ensures) (c .before .closing .ensures)
+returns c = asked-as _ _ _ _ _ _ _ _ (c .ask-each .ensures) (c .before .closing .ensures)
 
 pub close-spec : {M : Type 1} → statement M
-close-spec = tie.close (tie.spec closing-requires send-to-each-requires returns)
+close-spec = tie.close (tie.spec closing-requires ask-each-requires returns)
