@@ -2,20 +2,21 @@
 
 Before a turn the context is `At i`: the token, t, and the cells. i is a number with what is known of it (`good`): that it is not above the limit comes first.
 """
-from rows import NUMBER
+from rows import BOOL, NUMBER
 from text import bracket
 
 
 class Loop:
     def __init__(self, limit, good, start, begins, values, next, less, uses):
-        """good: a predicate of numbers, begins with i ≤ limit. start: a proof that 0 is good. values: local: its value at i, as a function; begins: local: a proof that 0 is the value at 0.
+        """good: a predicate of numbers, begins with i ≤ limit. start: a proof that 0 is good. values: local: its value at i, as a function, that it fits (of a bool None), and see next; begins: local: a proof that 0 or true is the value at 0.
         next: a proof that i + 1 is good, less: that i < limit, both at the end of a turn; a tuple by local (value's proof): what a callee returned is the value at i + 1."""
         self.limit, self.good, self.start, self.begins, self.values, self.next, self.less, self.uses = limit, good, start, begins, values, next, less, uses
         self.lines = None
 
     def held(self, number):
         from walk import Held
-        return {local: Held(bracket(value(number)), f"(vint w64 {bracket(value(number))})", f"(refl, {fits(number)})", NUMBER) for local, (value, fits, _) in self.values.items()}
+        number_is = lambda x, fits: Held(x, f"(vint w64 {x})", f"(refl, {fits(number)})", NUMBER)
+        return {local: number_is(bracket(value(number)), fits) if fits else Held(bracket(value(number)), f"(vbool {bracket(value(number))})", "refl", BOOL) for local, (value, fits, _) in self.values.items()}
 
     def opening(self):
         return f"""
@@ -28,7 +29,8 @@ turn = inside (inside (inside (after {self.before} (code.function .body))))
         import mir
         self.before = rest[1] - 1
         for local, proof in self.begins.items():
-            walk.emit(f"rewrite ! {walk.cell(local)} (λ (u : ℕ). ‵ (fat fullShare (tyInt w64) l{local} 0 (vint w64 u))) {bracket(proof)} refl $")
+            kind, machine, row = ("ℕ", "vint w64", "(tyInt w64)") if self.values[local][1] else ("Bool", "vbool", "tyBool")
+            walk.emit(f"rewrite ! {walk.cell(local)} (λ (u : {kind}). ‵ (fat fullShare {row} l{local} 0 ({machine} u))) {bracket(proof)} refl $")
         names = walk.names()
         size = " len" if walk.sizes else ""
         walk.emit(f"first ! $ blocks ! $ loops ! 𝓣 Nearer Nearer-wf (At{size} {names}) (turns{size} {names}) (0, {self.start})")
@@ -40,10 +42,11 @@ turn = inside (inside (inside (after {self.before} (code.function .body))))
 
     def again(self, walk, place):
         """The end of a turn: what it changed is the value at i + 1, what it made is forgotten."""
-        for local, (value, _, proof) in self.values.items():
+        for local, (value, fits, proof) in self.values.items():
             held = place.held[local]
             if proof:
-                walk.emit(f"rewrite ! {walk.cell(local)} (λ (u : Val). ‵ (fat fullShare (tyInt w64) l{local} 0 u)) (ap only (uint-tells w64 {held.x} _ {held.g}) ∙ ap (vint w64) {bracket(proof)}) refl $")
+                tells, machine = ("uint-tells w64", "(vint w64)") if fits else ("bool-tells", "vbool")
+                walk.emit(f"rewrite ! {walk.cell(local)} (λ (u : Val). ‵ (fat fullShare {bracket(held.row.mir)} l{local} 0 u)) (ap only ({tells} {held.x} _ {held.g}) ∙ ap {machine} {bracket(proof)}) refl $")
         made = sorted({*place.held, *place.pointers} - set(self.cells.held), reverse=True)
         forgets = " ".join(f"forget ! {walk.cell(i)} refl $" for i in made)
         walk.emit(f"{forgets + ' ' if made else ''}again ! Nearer At i (i .0 + 1, {self.next}) (add-one-dec {self.limit} (i .0) {bracket(self.less)})")

@@ -181,6 +181,8 @@ class Walk:
                 had = local in place.held
                 self.emit(f"assigns ! (of-opd ! (unit-lit !)) {HERE} ({'store' if had else 'init'} ! {self.cell(local)} refl (tt, tt)) $")
                 return place.holds(local, Held("tt", "vunit", "tt", NOTHING)), 0
+            if operand == "true":
+                return self.assign(place, local, "(of-opd ! (true-lit !))", Held("true", "(vbool true)", "refl", BOOL), last), 0
             if operand[0] == "int":
                 held = Held(operand[2], f"(vint w64 {operand[2]})", "(refl, lit< tt)", NUMBER)
                 return self.assign(place, local, "(of-opd ! (lit ! tt))", held, last), 0

@@ -1,28 +1,30 @@
 -- Laws that the proofs of the functions cite
-use Prim.Native.Nat.{ℕ, _+_, _*_, _/_, _%_}
-use mathlib.Core.Path.{_≡_, refl, sym, _∙_}
+use Prim.Native.Nat.{ℕ, zero, suc, _+_, _*_, _≤_, _/_, _%_}
+use mathlib.Core.Path.{_≡_, refl, sym, ap, _∙_}
 use mathlib.Core.Bool.{Bool, true, false, cond, not, _&&_, _||_, true≢false}
 use mathlib.Core.List.{List, [], _∷_}
-use native.Mathlib.Nat.{div-add-mod'}
+use native.Mathlib.Nat.{le-antisymm, div-add-mod'}
 use native.Mathlib.Omega.{arith}
-use lib.Dec.{eqb, ltb}
+use lib.Dec.{T, eqb, ltb, nltb→le}
 use lib.ListN.{getD}
 use borrow.Author.Tests.{le-ltb, eqb-true}
+use Rattle.rules.specs.declared.Chunk.{Chunk}
 use Rattle.rules.specs.declared.Creation.{Creation}
+use Rattle.rules.specs.declared.Epoch.{Epoch}
 use Rattle.rules.specs.declared.Host.{Host}
 use Rattle.rules.specs.declared.Record.{Record}
 use Rattle.rules.specs.declared.Table.{Table}
 use Rattle.rules.specs.Creation.{isCreation}
-use Rattle.rules.specs.Formed.{operationFormed, operationAt, entryAt, waitingFormed, recordFormed, recordAt, hostsFormed, chunksFormed, recordsFormed, placesFormed, wellFormed}
+use Rattle.rules.specs.Formed.{operationFormed, operationAt, entryAt, waitingFormed, recordFormed, hostAt, chunkAt, recordAt, hostsFormed, chunksFormed, recordsFormed, placesFormed, wellFormed}
 use Rattle.rules.specs.Limits.{chunkLimit, blockLimit, operationLimit, waitingLimit}
 use Rattle.rules.specs.Tables.{at}
 use Rattle.rules.specs.Timestamps.{never, _is_, _same_, noEpoch, isTimestamp, isEpoch}
-use Rattle.rules.specs.Words.{every, some, numbers}
-use Rattle.rules.specs.Zero.{zeroEntry, isZeroEntry, zeroOperation, isZeroOperation, isZeroAttempt, isZeroHost, noRecord}
+use Rattle.rules.specs.Words.{every, some, from, numbers}
+use Rattle.rules.specs.Zero.{zeroEntry, isZeroEntry, zeroOperation, isZeroOperation, isZeroAttempt, isZeroHost, zeroHost, zeroChunk, zeroRecord, noHost, noChunk, noRecord}
 use Rattle.rules.proofs.Lists.{every-number, every-numbers}
 use Rattle.rules.proofs.Loops.{every-next, every-stop, every-same, every-flat}
 use Rattle.table_sound.specs.declared.Counts.{Counts}
-use Rattle.table_sound.specs.Parts.{counted, isOfStore, isQuiet, unusedEntries, quietAt, busyAt, recordInPlace}
+use Rattle.table_sound.specs.Parts.{counted, countsOf, allFormed, isOfStore, isQuiet, unusedEntries, quietAt, busyAt, hostInPlace, chunkInPlace, recordInPlace}
 
 -- ---- unused places
 
@@ -69,6 +71,13 @@ every-more p i ok r h k = go ok (sym h) r (sym k)
     go true e false f = sym (every-stop p (i + 1) i (omega arith) f)
     go false e b f = none e (every p (numbers (i + 1))) refl
 
+-- the number of a turn
+abbrev pub Within : (m i : ℕ) → Type 0
+Within m i = i ≤ m
+
+pub every-end : (p : ℕ → Bool) (i m : ℕ) → Within m i → T (not (ltb i m)) → every p (numbers i) ≡ every p (numbers m)
+every-end p i m within over = ap (λ (j : ℕ). every p (numbers j)) (le-antisymm within (nltb→le i m over))
+
 -- ---- a record that nothing waits in, and another
 
 module _ (n : Counts) (i : ℕ) (x : Record) where
@@ -103,6 +112,45 @@ module _ (n : Counts) (records : List Record) where
       every-same _ _ in-place (numbers (chunkLimit * blockLimit))
       ∙ every-flat (λ c b. recordAt (counted n) c b (getD records (at c b) noRecord)) chunkLimit blockLimit (omega arith)
 
+-- ---- a part read where it lies: beyond its array it is zero, and there the rules' own default is as good
+
+held-true : (b : Bool) → T b → b ≡ true
+held-true true t = refl
+held-true false t = absurd t
+
+failed-false : (b : Bool) → T (not b) → b ≡ false
+failed-false true t = absurd t
+failed-false false t = refl
+
+other-default : {A : Type 0} (p : A → Bool) (d e : A) → p d ≡ p e → (l : List A) (i : ℕ) → p (getD l i d) ≡ p (getD l i e)
+other-default p d e h [] i = h
+other-default p d e h (x ∷ xs) zero = refl
+other-default p d e h (x ∷ xs) (suc i) = other-default p d e h xs i
+
+module _ (n : Counts) where
+  pub host-is : (hosts : List Host) (i : ℕ) (x : Host) → x ≡ getD hosts i zeroHost → hostAt (counted n) i x ≡ hostInPlace n hosts i
+  unfolding every some from
+  host-is hosts i x h = ap (hostAt (counted n) i) h ∙ other-default (hostAt (counted n) i) zeroHost noHost refl hosts i
+
+  pub chunk-is : (epoch : Epoch) (chunks : List Chunk) (i : ℕ) (x : Chunk) → x ≡ getD chunks i zeroChunk → chunkAt (counted n) epoch i x ≡ chunkInPlace n epoch chunks i
+  unfolding every some from
+  chunk-is epoch chunks i x h = ap (chunkAt (counted n) epoch i) h ∙ other-default (chunkAt (counted n) epoch i) zeroChunk noChunk refl chunks i
+
+  module _ (i : ℕ) (records : List Record) where
+    record-is : (x : Record) → x ≡ getD records i zeroRecord → recordAt (counted n) (i / blockLimit) (i % blockLimit) x ≡ recordInPlace n records i
+    unfolding every some from
+    record-is x h = ap test h ∙ other-default test zeroRecord noRecord refl records i
+      where
+        test : Record → Bool
+        test = recordAt (counted n) (i / blockLimit) (i % blockLimit)
+
+    module _ (x : Record) (x-is : x ≡ getD records i zeroRecord) (quiet : Bool) (quiet-is-so : quiet ≡ isQuiet x) where
+      pub quiet-in : T quiet → (y : Record) → y ≡ getD records i zeroRecord → (r : Bool) → r ≡ quietAt n i y → r ≡ recordInPlace n records i
+      quiet-in h y y-is r r-is = r-is ∙ quiet-is n i y (ap isQuiet (y-is ∙ sym x-is) ∙ sym quiet-is-so ∙ held-true quiet h) ∙ record-is y y-is
+
+      pub busy-in : T (not quiet) → (y : Record) → y ≡ getD records i zeroRecord → (r : Bool) → r ≡ busyAt n i y → r ≡ recordInPlace n records i
+      busy-in h y y-is r r-is = r-is ∙ busy-is n i y (ap isQuiet (y-is ∙ sym x-is) ∙ sym quiet-is-so ∙ failed-false quiet h) ∙ record-is y y-is
+
 -- ---- the table: all of its parts
 
 pub whole-is : (t : Table)
@@ -110,3 +158,9 @@ pub whole-is : (t : Table)
     ≡ wellFormed t
 unfolding wellFormed
 whole-is t = refl
+
+pub scanned : (t : Table) (k : Creation) → k ≡ t .creation → (epoch : Epoch) → epoch ≡ t .epoch → (n : Counts) → n ≡ countsOf k → (hosts chunks records places : Bool)
+    → hosts ≡ hostsFormed (counted n) (t .hosts) → chunks ≡ chunksFormed (counted n) epoch (t .chunks) → records ≡ recordsFormed (counted n) (t .records) → places ≡ placesFormed (counted n) (t .places)
+    → (r : Bool) → r ≡ allFormed k epoch hosts chunks records places → r ≡ wellFormed t
+scanned t k k-is epoch epoch-is n n-is hosts chunks records places hosts-are chunks-are records-are places-are r r-is =
+    rw (r-is, hosts-are, chunks-are, records-are, places-are, n-is, k-is, epoch-is) (whole-is t)

@@ -3,12 +3,12 @@ ghost use Prim.Native.Nat.{_-_, _/_, _%_};
 ghost use mathlib.Core.Path.{_≡_};
 ghost use mathlib.Core.Bool.{_&&_, not};
 ghost use Rattle.rules.specs.Creation.{isCreation, ofStore, isSetOf};
-ghost use Rattle.rules.specs.Formed.{operationFormed, operationAt, queueFormed, attemptFormed, hostFormed, chunkFormed, entryFormed, entryAt, waitingFormed, recordAt, headerFormed, sortFormed, messageFormed, slotFormed, hostsFormed, chunksFormed, recordsFormed, placesFormed, wellFormed};
+ghost use Rattle.rules.specs.Formed.{operationFormed, operationAt, queueFormed, attemptFormed, hostFormed, chunkFormed, entryFormed, entryAt, waitingFormed, hostAt, chunkAt, recordAt, headerFormed, sortFormed, messageFormed, slotFormed, hostsFormed, chunksFormed, recordsFormed, placesFormed, wellFormed};
 ghost use Rattle.rules.specs.Limits.{blockLimit, operationLimit, waitingLimit};
 ghost use Rattle.rules.specs.Timestamps.{_above_};
 ghost use Rattle.rules.specs.Words.{if_then_else_, every, numbers};
 ghost use Rattle.rules.specs.Zero.{isEmpty, isZeroEntry, isZeroChunk, isZeroOperation, isZeroAttempt, isZeroHost};
-ghost use Rattle.table_sound.specs.Parts.{counted, ofBlocks, unusedEntries, numbersFormed, isOfStore, isQuiet, quietAt, busyAt};
+ghost use Rattle.table_sound.specs.Parts.{counted, countsOf, allFormed, ofBlocks, unusedEntries, numbersFormed, isOfStore, isQuiet, quietAt, busyAt, recordInPlace};
 use rules::Attempt;
 use rules::Chunk;
 use rules::Creation;
@@ -470,4 +470,128 @@ pub fn well_formed(t: Table) -> bool
         & chunks_formed(n, t.epoch, chunks)
         & records_formed(n, records)
         & places_formed(n, places)
+}
+
+// ---- the table where it lies
+
+fn counts_of(k: Creation) -> Counts
+    ensures { λ r. ⌜ r ≡ countsOf k ⌝ }
+{
+    Counts {
+        hosts: k.hosts,
+        chunks: k.chunks,
+        blocks: k.blocks,
+    }
+}
+
+// What was looked at before is formed, and so is one part more.
+fn host_next(ok: bool, n: Counts, i: u64, h: Host) -> bool
+    ensures { λ r. ⌜ r ≡ ok && hostAt (counted n) i h ⌝ }
+{
+    ok & host_at(n, i < n.hosts, h)
+}
+
+fn chunk_next(ok: bool, n: Counts, epoch: Epoch, i: u64, c: Chunk) -> bool
+    ensures { λ r. ⌜ r ≡ ok && chunkAt (counted n) epoch i c ⌝ }
+{
+    ok & chunk_at(n, epoch, i < n.chunks, c)
+}
+
+fn place_next(ok: bool, n: Counts, p: Place) -> bool
+    ensures { λ r. ⌜ r ≡ ok && slotFormed (counted n) (p .slot) ⌝ }
+{
+    ok & place_formed(n, p)
+}
+
+fn record_next(ok: bool, formed: bool) -> bool
+    ensures { λ r. ⌜ r ≡ ok && formed ⌝ }
+{
+    ok & formed
+}
+
+fn hosts_sound(t: &Table, n: Counts) -> bool
+    ensures { λ r. ⌜ r ≡ hostsFormed (counted n) (now (t .entry) .hosts) ⌝ }
+{
+    let mut ok = true;
+    let mut i: u64 = 0;
+    while i < rules::HOSTS as u64 {
+        ok = host_next(ok, n, i, table_hosts::host_in(t, i));
+        i = i + 1;
+    }
+    ok
+}
+
+fn chunks_sound(t: &Table, n: Counts, epoch: Epoch) -> bool
+    ensures { λ r. ⌜ r ≡ chunksFormed (counted n) epoch (now (t .entry) .chunks) ⌝ }
+{
+    let mut ok = true;
+    let mut i: u64 = 0;
+    while i < rules::CHUNKS as u64 {
+        ok = chunk_next(ok, n, epoch, i, table_chunks::chunk_in(t, i));
+        i = i + 1;
+    }
+    ok
+}
+
+// The record is read once for the count and again for what that leads to: neither copies it.
+fn record_sound(t: &Table, n: Counts, i: u64) -> bool
+    ensures { λ r. ⌜ r ≡ recordInPlace n (now (t .entry) .records) i ⌝ }
+{
+    let quiet = is_quiet(table_records::record_in(t, i));
+    if quiet {
+        return quiet_at(n, i, table_records::record_in(t, i));
+    } else {
+        return busy_at(n, i, table_records::record_in(t, i));
+    }
+}
+
+fn records_sound(t: &Table, n: Counts) -> bool
+    ensures { λ r. ⌜ r ≡ recordsFormed (counted n) (now (t .entry) .records) ⌝ }
+{
+    let mut ok = true;
+    let mut i: u64 = 0;
+    while i < rules::RECORDS as u64 {
+        ok = record_next(ok, record_sound(t, n, i));
+        i = i + 1;
+    }
+    ok
+}
+
+fn places_sound(t: &Table, n: Counts) -> bool
+    ensures { λ r. ⌜ r ≡ placesFormed (counted n) (now (t .entry) .places) ⌝ }
+{
+    let mut ok = true;
+    let mut i: u64 = 0;
+    while i < rules::PLACES as u64 {
+        ok = place_next(ok, n, table_places::place_in(t, i));
+        i = i + 1;
+    }
+    ok
+}
+
+fn all_formed(
+    k: Creation,
+    epoch: Epoch,
+    hosts: bool,
+    chunks: bool,
+    records: bool,
+    places: bool,
+) -> bool
+    ensures { λ r. ⌜ r ≡ allFormed k epoch hosts chunks records places ⌝ }
+{
+    is_creation(k) & (epoch.0 <= rules::GREATEST_CLOCK) & hosts & chunks & records & places
+}
+
+// As `well_formed`, of a table that lies elsewhere: each part is read there, and none of its arrays is copied.
+pub fn sound_in(t: &Table) -> bool
+    ensures { λ r. ⌜ r ≡ wellFormed (now (t .entry)) ⌝ }
+{
+    let k = table_numbers::creation_in(t);
+    let epoch = table_numbers::epoch_in(t);
+    let n = counts_of(k);
+    let hosts = hosts_sound(t, n);
+    let chunks = chunks_sound(t, n, epoch);
+    let records = records_sound(t, n);
+    let places = places_sound(t, n);
+    all_formed(k, epoch, hosts, chunks, records, places)
 }

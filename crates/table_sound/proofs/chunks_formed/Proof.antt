@@ -3,10 +3,7 @@ use Prim.Native.Nat.{_-_, _≤_}
 use mathlib.Core.Path.{_≡_, sym}
 use native.Mathlib.Omega.{arith}
 use borrow.Author.Needs.{needs}
-use lib.ListN.{getD}
-use Rattle.rules.specs.Formed.{chunkAt}
-use Rattle.rules.specs.Zero.{noChunk}
-use Rattle.table_sound.specs.Parts.{counted}
+use Rattle.table_sound.specs.Parts.{chunkInPlace}
 use Rattle.rules.specs.Words.{every, numbers}
 use Rattle.rules.proofs.Loops.{every-begin}
 use Rattle.table_sound.proofs.Laws.{every-more}
@@ -14,7 +11,7 @@ use Rattle.table_sound.proofs.chunks_formed.Statement.{statement}
 use Rattle.table_sound.proofs.chunks_formed.Tie as tie
 
 abbrev Inv-loop : tie.InvT-loop
-Inv-loop n epoch chunks ok₀ i₀ ok i = (i ≤ 8) × (ok ≡ every (λ j. chunkAt (counted n) epoch j (getD chunks j noChunk)) (numbers i))
+Inv-loop n epoch chunks ok₀ i₀ ok i = (i ≤ 8) × (ok ≡ every (chunkInPlace n epoch chunks) (numbers i))
 
 abbrev μ-loop : tie.MeasureT-loop
 μ-loop n epoch chunks ok₀ i₀ ok i = 8 - i

@@ -3,10 +3,7 @@ use Prim.Native.Nat.{_-_, _≤_}
 use mathlib.Core.Path.{_≡_, sym}
 use native.Mathlib.Omega.{arith}
 use borrow.Author.Needs.{needs}
-use lib.ListN.{getD}
-use Rattle.rules.specs.Formed.{hostAt}
-use Rattle.rules.specs.Zero.{noHost}
-use Rattle.table_sound.specs.Parts.{counted}
+use Rattle.table_sound.specs.Parts.{hostInPlace}
 use Rattle.rules.specs.Words.{every, numbers}
 use Rattle.rules.proofs.Loops.{every-begin}
 use Rattle.table_sound.proofs.Laws.{every-more}
@@ -14,7 +11,7 @@ use Rattle.table_sound.proofs.hosts_formed.Statement.{statement}
 use Rattle.table_sound.proofs.hosts_formed.Tie as tie
 
 abbrev Inv-loop : tie.InvT-loop
-Inv-loop n hosts ok₀ i₀ ok i = (i ≤ 8) × (ok ≡ every (λ j. hostAt (counted n) j (getD hosts j noHost)) (numbers i))
+Inv-loop n hosts ok₀ i₀ ok i = (i ≤ 8) × (ok ≡ every (hostInPlace n hosts) (numbers i))
 
 abbrev μ-loop : tie.MeasureT-loop
 μ-loop n hosts ok₀ i₀ ok i = 8 - i

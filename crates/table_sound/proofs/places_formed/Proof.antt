@@ -3,9 +3,7 @@ use Prim.Native.Nat.{_-_, _≤_}
 use mathlib.Core.Path.{_≡_, sym}
 use native.Mathlib.Omega.{arith}
 use borrow.Author.Needs.{needs}
-use Rattle.rules.specs.Formed.{slotFormed}
-use Rattle.rules.specs.Tables.{slotOf}
-use Rattle.table_sound.specs.Parts.{counted}
+use Rattle.table_sound.specs.Parts.{placeInPlace}
 use Rattle.rules.specs.Words.{every, numbers}
 use Rattle.rules.proofs.Loops.{every-begin}
 use Rattle.table_sound.proofs.Laws.{every-more}
@@ -13,7 +11,7 @@ use Rattle.table_sound.proofs.places_formed.Statement.{statement}
 use Rattle.table_sound.proofs.places_formed.Tie as tie
 
 abbrev Inv-loop : tie.InvT-loop
-Inv-loop n places ok₀ i₀ ok i = (i ≤ 64) × (ok ≡ every (λ p. slotFormed (counted n) (slotOf places p)) (numbers i))
+Inv-loop n places ok₀ i₀ ok i = (i ≤ 64) × (ok ≡ every (placeInPlace n places) (numbers i))
 
 abbrev μ-loop : tie.MeasureT-loop
 μ-loop n places ok₀ i₀ ok i = 64 - i
