@@ -1,9 +1,9 @@
 // Code 8: the whole table is looked at. A part of the store's must be formed, an unused one zero.
-ghost use Prim.Native.Nat.{_-_, _/_, _%_};
+ghost use Prim.Native.Nat.{_-_};
 ghost use mathlib.Core.Path.{_≡_};
 ghost use mathlib.Core.Bool.{_&&_, not};
 ghost use Rattle.rules.specs.Creation.{isCreation, ofStore, isSetOf};
-ghost use Rattle.rules.specs.Formed.{operationFormed, operationAt, queueFormed, attemptFormed, hostFormed, chunkFormed, entryFormed, entryAt, waitingFormed, hostAt, chunkAt, recordAt, headerFormed, sortFormed, messageFormed, slotFormed, hostsFormed, chunksFormed, recordsFormed, placesFormed, wellFormed};
+ghost use Rattle.rules.specs.Formed.{operationFormed, operationAt, queueFormed, attemptFormed, hostFormed, chunkFormed, entryFormed, entryAt, waitingFormed, hostAt, chunkAt, headerFormed, sortFormed, messageFormed, slotFormed, hostsFormed, chunksFormed, recordsFormed, placesFormed, wellFormed};
 ghost use Rattle.rules.specs.Limits.{blockLimit, operationLimit, waitingLimit};
 ghost use Rattle.rules.specs.Timestamps.{_above_};
 ghost use Rattle.rules.specs.Words.{if_then_else_, every, numbers};
@@ -368,16 +368,6 @@ fn busy_at(n: Counts, i: u64, x: Record) -> bool
         & waiting_formed(n, w)
 }
 
-// Of a chunk and a block of the store's, or an unused place.
-fn record_at(n: Counts, i: u64, x: Record) -> bool
-    ensures { λ r. ⌜ r ≡ recordAt (counted n) (i / blockLimit) (i % blockLimit) x ⌝ }
-{
-    if is_quiet(x) {
-        return quiet_at(n, i, x);
-    }
-    busy_at(n, i, x)
-}
-
 // "A chunk has a record for every block, held or not": that of chunk c and block b at c x 16 + b.
 fn records_formed(n: Counts, records: [Record; rules::RECORDS]) -> bool
     ensures { λ r. ⌜ r ≡ recordsFormed (counted n) records ⌝ }
@@ -385,8 +375,15 @@ fn records_formed(n: Counts, records: [Record; rules::RECORDS]) -> bool
     let mut ok = true;
     let mut i: usize = 0;
     while i < rules::RECORDS {
+        // Read anew for the test that the count leads to: neither read is a copy.
         let x = records[i];
-        ok = ok & record_at(n, i as u64, x);
+        if is_quiet(x) {
+            let y = records[i];
+            ok = ok & quiet_at(n, i as u64, y);
+        } else {
+            let y = records[i];
+            ok = ok & busy_at(n, i as u64, y);
+        }
         i = i + 1;
     }
     ok
@@ -533,7 +530,7 @@ fn chunks_sound(t: &Table, n: Counts, epoch: Epoch) -> bool
     ok
 }
 
-// The record is read once for the count and again for what that leads to: neither copies it.
+// A record is read anew for the test that its count leads to: neither read is a copy.
 fn record_sound(t: &Table, n: Counts, i: u64) -> bool
     ensures { λ r. ⌜ r ≡ recordInPlace n (now (t .entry) .records) i ⌝ }
 {
