@@ -23,12 +23,18 @@ def struct(crate, T):
                f"LL.vals {T}R.the-type {T}L.the-laws", f"LL.tells {T}R.the-type {T}L.the-laws", crate)
 
 
+def enum(crate, T):
+    return Row(T, f"{T}R.the-row", f"{T}L.mir", f"EL.makes {T}R.the-type {T}L.the-plain 𝓤 H A", f"EL.lawful {T}R.the-type {T}L.the-laws 𝓤 H A W tt .typed",
+               f"EL.vals {T}R.the-type {T}L.the-laws", f"EL.tells {T}R.the-type {T}L.the-laws", crate)
+
+
+ENUMS = {"rules::Slot"}
 MADE = {"u64": NUMBER, "tyBool": BOOL, "tyUnit": NOTHING}
 
 
 def row(kind):
     if kind not in MADE:
-        MADE[kind] = struct(*kind.split("::"))
+        MADE[kind] = (enum if kind in ENUMS else struct)(*kind.split("::"))
     return MADE[kind]
 
 

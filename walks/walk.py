@@ -20,22 +20,28 @@ class Held:
 class Place:
     """Where the walk stands: what the locals hold, the pointers, the table's value, and how the last test came out."""
 
-    def __init__(self, held, pointers=None, now="h", within=False, below=None, rest=None):
-        self.held, self.pointers, self.now, self.within, self.below, self.rest = held, pointers or {}, now, within, below, rest
+    def __init__(self, held, pointers=None, now="h", within=False, below=None, rest=None, turn=None):
+        """within: in an arm. below: a part, and that an index is inside or outside of it. rest: the statements after the arm, and how many come before them. turn: in a loop, the statements after it and how many come before them."""
+        self.held, self.pointers, self.now, self.within, self.below, self.rest, self.turn = held, pointers or {}, now, within, below, rest, turn
 
     def but(self, **changes):
         return Place(**{**self.__dict__, **changes})
 
     def holds(self, local, held):
-        return self.but(held={**self.held, local: held})
+        return self.holds_all({local: held})
+
+    def holds_all(self, helds):
+        return self.but(held={**self.held, **helds})
 
 
 class Walk:
-    def __init__(self, crate, name, callees, claim, shown, uses="", asked=None):
+    def __init__(self, crate, name, callees, claim, shown, uses="", loop=None, sizes=None, asked=None, fits=None):
         """claim(r, z, xs): what the function promises of its result, of the table that it leaves and of its parameters.
         shown: the proof of it at each return, in their order. In it h is the table at entry, x2, x3, .. the parameters, r1, e1, r2, e2, .. each call's result and what it said,
-        z1, .. the table that a call left, held and failed how a test came out, len the length of the array that an index is beyond."""
+        z1, .. the table that a call left, held and failed how a test came out, len the length of an array that an index is beyond, or of sizes.
+        asked: the proof of a callee's `requires`, by the callee's name. fits: that a sum fits."""
         self.crate, self.name, self.callees, self.claim, self.shown, self.uses = crate, name, callees, claim, list(shown), uses
+        self.loop, self.sizes, self.asked, self.fits, self.compared = loop, sizes, asked or {}, fits, {}
         self.id = name.replace("_", "-")
         self.mir = mir.functions(crate)[name]
         self.mut = self.mir.locals[1].startswith("&mut")
@@ -68,6 +74,9 @@ class Walk:
     def number(self, place, node):
         return node[2] if node[0] == "int" else place.held[mir.local(node)[0]].x
 
+    def literal(self, node):
+        return Held(node[2], f"(vint w64 {node[2]})", "(refl, lit< tt)", NUMBER)
+
     def write(self, place, local, had, base=2):
         """The write of what a local is to hold."""
         held = place.held[local]
@@ -95,23 +104,36 @@ class Walk:
             if statement == "skip":
                 self.emit("skips ! $")
                 return opened + self.goes_on(place)
+            if statement[0] == "exit":
+                statements, at = place.turn
+                place = place.but(within=False, rest=None, turn=None)
+                self.emit("jumps ! $")
+                self.resume(place.but(rest=(statements, at)))
+                return opened + self.go(statements, place, at)
+            if statement[0] == "block":
+                self.loop.enters(self, place, statement, (statements[i + 1:], at + i + 1))
+                return opened
             if statement[0] == "if":
                 return opened + self.test(statement, place, statements[i + 1:], None if at is None else at + i + 1)
             place, more = self.call(statement, place) if statement[0] == "call" else self.assignment(statement, place, statements[i + 1:], last)
             opened += more
+            if last and place.rest:
+                return opened + self.go(place.rest[0], place.but(within=False, rest=None), place.rest[1])
             if last:
-                return opened + (0 if place.rest is None else self.go(place.rest[0], place.but(within=False, rest=None), place.rest[1]))
+                self.loop.again(self, place)
+                return opened
 
     def goes_on(self, place):
         statements, at = place.rest
         self.resume(place)
+        opened = 0
         if place.below:
-            place, more = self.beyond(place)
-            return more + self.go(statements, place.but(within=False, rest=None), at)
-        return self.go(statements, place.but(within=False, rest=None), at)
+            opened = self.learns(place.now, place.below[0])
+        return opened + self.go(statements, place.but(within=False, rest=None), at)
 
     def resume(self, place):
-        self.emit(f"exec ! C Λ _ (after {place.rest[1]} (code.function .body)) (atRet _ Post) $")
+        locals = "En" if self.loop else "_"
+        self.emit(f"exec ! C Λ {locals} (after {place.rest[1]} {'turn' if place.turn else '(code.function .body)'}) {'(anyQ (Turned i))' if place.turn else f'(atRet {locals} Post)'} $")
 
     def leave(self, place):
         held = place.held[0]
@@ -146,10 +168,8 @@ class Walk:
             if node[0] == "assign" and node[2][0] == "addrOf" and mir.local(node[2][1])[1]:
                 part = PARTS[int(mir.local(node[2][1])[1][1][1])]
                 if isinstance(part, Part) and (index := self.compared.get(local)):
-                    return part, f"({'inside' if name == 'held' else 'outside'} {index} _ {part.count} {name} (leb→le _ _ tt))"
+                    return part, f"({'reaches' if name == 'held' else 'passes'} {index} _ {part.count} {name} (leb→le _ _ tt))"
         return None
-
-    compared = {}
 
     def assignment(self, statement, place, rest, last):
         (local, steps), value = mir.local(statement[1]), statement[2]
@@ -162,8 +182,7 @@ class Walk:
                 self.emit(f"assigns ! (of-opd ! (unit-lit !)) {HERE} ({'store' if had else 'init'} ! {self.cell(local)} refl (tt, tt)) $")
                 return place.holds(local, Held("tt", "vunit", "tt", NOTHING)), 0
             if operand[0] == "int":
-                held = Held(operand[2], f"(vint w64 {operand[2]})", "(refl, lit< tt)", NUMBER)
-                return self.assign(place, local, "(of-opd ! (lit ! tt))", held, last), 0
+                return self.assign(place, local, "(of-opd ! (lit ! tt))", self.literal(operand), last), 0
             source, through = mir.local(operand)
             if through:
                 return self.part_read(place, local, source, through)
@@ -176,6 +195,11 @@ class Walk:
             self.compared = {**self.compared, local: x}
             self.emit(f"assigns ! (bin ! {self.operand(place, value[2])} {self.operand(place, value[3])} tt) {HERE} (init ! {self.cell(local)} refl (tt, tt)) $")
             return place.holds(local, Held(f"(ltb {x} {y})", None, "refl", BOOL)), 0
+        if operator == "add":
+            x, y = self.number(place, value[2]), self.number(place, value[3])
+            fits = f"record {{ fits = {self.fits} }}"
+            self.emit(f"assigns{'-last' if last else ''} ! (bin ! {self.operand(place, value[2])} {self.operand(place, value[3])} ({fits})) {HERE} ({'store' if local in place.held else 'init'} ! {self.cell(local)} refl (tt, {fits})) $")
+            return place.holds(local, Held(f"({x} + {y})", f"(vint w64 ({x} + {y}))", f"(refl, {self.fits})", NUMBER)), 0
         if operator == "mul":
             part = PARTS[int(mir.local(rest[0][2][1])[1][1][1])]
             index = self.number(place, value[2])
@@ -201,10 +225,10 @@ class Walk:
 
     # ---- the table opened, and closed again
 
-    def opens(self, place):
+    def opens(self, now):
         """[what lies there; the open borrow; two more; the locals], at the share that it returns."""
         if self.mut:
-            self.emit(f"fsplit3 ! $ drop ! $ open-ref ! tt (mem {TABLE.row}) {{x = {place.now}}} {{b = b}} {{o = o}} $")
+            self.emit(f"fsplit3 ! $ drop ! $ open-ref ! tt (mem {TABLE.row}) {{x = {now}}} {{b = b}} {{o = o}} $")
             return "fullShare", 0
         self.emit("move ! (1 ∷ []) $ fsplit3 ! $ drop ! $ move ! (1 ∷ 2 ∷ []) $ shr-bor-dup ! $ move ! (0 ∷ 2 ∷ []) $")
         self.emit(f"shr-bor-open ! tt (part-halves 𝓤 H A W {TABLE.row} (Is {TABLE.row}) (shows 𝓤 H A {TABLE.row}) ({TABLE.vals}) ({TABLE.tells}) (LL.copy TableR.the-type TableL.the-copy 𝓤 H A W) h b o) (λ q′. move ! (1 ∷ []) $")
@@ -217,13 +241,12 @@ class Walk:
         else:
             self.emit("move ! (1 ∷ []) $ obor-close ! tt $ drop ! $ feqI ! (List Val) (vptr b o ∷ []) (vptr b o ∷ []) refl $ move ! (0 ∷ 3 ∷ 2 ∷ []) $ fjoin3 ! $ move ! (1 ∷ 0 ∷ []) $")
 
-    def beyond(self, place):
-        """The index is beyond the array: its length is learnt."""
-        part = place.below[0]
-        share, opened = self.opens(place)
-        self.emit(f"use1 W (given (length ({bracket(place.now)} .{part.field}) ≡ {part.count}) (‵ (partAt {TABLE.row} {share} {bracket(place.now)} b o))) ({part.field}-sized 𝓤 H A W {share} {bracket(place.now)} b o) $ learn ! (λ len.")
-        self.shuts(place.now)
-        return place, opened + 1
+    def learns(self, now, part):
+        """The length of an array that lies there."""
+        share, opened = self.opens(now)
+        self.emit(f"use1 W (given (length ({bracket(now)} .{part.field}) ≡ {part.count}) (‵ (partAt {TABLE.row} {share} {bracket(now)} b o))) ({part.field}-sized 𝓤 H A W {share} {bracket(now)} b o) $ learn ! (λ len.")
+        self.shuts(now)
+        return opened + 1
 
     def spot(self, place, local, steps):
         """The part that a place means: its row, its value, where it lies, the way to it, the hole that it leaves, and the table with another value in it."""
@@ -253,7 +276,7 @@ class Walk:
         spot = self.spot(place, source, steps)
         part, old, _, way, _, _, same = spot
         R = part.row
-        share, opened = self.opens(place)
+        share, opened = self.opens(place.now)
         self.taken(spot, share, old, old)
         self.emit("pick ! (λ w. split ! $ move ! (1 ∷ []) $")
         self.emit(f"peeks ! {R.shows(old, 'w')} (λ gw. move ! (1 ∷ 0 ∷ []) $")
@@ -269,7 +292,7 @@ class Walk:
         spot = self.spot(place, local, steps)
         part, old, _, way, _, put, _ = spot
         R, new = part.row, place.held[source]
-        share, opened = self.opens(place)
+        share, opened = self.opens(place.now)
         self.taken(spot, share, old, new.x)
         self.emit("pick ! (λ w. split ! $")
         self.emit("-- [the part; what it owns; the way back; the open borrow; what it was; its owner's word; the locals]")
@@ -291,11 +314,11 @@ class Walk:
         n = self.calls
         id, R, had, opened, now = callee.id, callee.row, local in place.held, 0, bracket(place.now)
         values = args[1:] if callee.table else args
-        held = [place.held[i] for i in values]
+        held = [self.literal(i) if isinstance(i, list) else place.held[i] for i in values]
         xs = [x.x for x in held]
         pairs = "".join(f" {x.x} {x.v}" for x in held)
-        known = "".join(f" {x.g}" for x in held) + (f" ({callee.shown[self.name]})" if callee.asks else "")
-        self.emit(f"-- _{local} = {callee.crate}::{callee.name}({', '.join('_%d' % i for i in args)})")
+        known = "".join(f" {x.g}" for x in held) + (f" ({self.asked[callee.name]})" if callee.asks else "")
+        self.emit(f"-- _{local} = {callee.crate}::{callee.name}({', '.join(i[2] if isinstance(i, list) else '_%d' % i for i in args)})")
         if not callee.table:
             κ, κs, t, base = "", "tt", [], 3
             self.emit(f"nothing ! $ use1 W (raw (C-{id} {IN} .pre (to-{id} {AT}{pairs}))) (goes-{id} {AT}{pairs}{known}) $")
@@ -317,13 +340,13 @@ class Walk:
             self.emit(f"use2 W (raw (C-{id} {IN} .pre (to-{id} {AT}{pairs}))) (goes-{id} {AT}{pairs}{known}) $")
         operands = "(no-more !)"
         for i in reversed(args):
-            operands = f"(and-then ! {self.read(place, i, base)} {operands})"
+            operands = f"(and-then ! {'(lit ! tt)' if isinstance(i, list) else self.read(place, i, base)} {operands})"
         self.emit(f"calls-at ! fm (C-{id} {IN}) known-{id} (to-{id} {AT}{pairs}) {operands} (λ w{n}.")
         ensured = f"(ensured 𝓤 H A {id}.ended ({id}.clauses {IN}) {κs} {nest(t + xs)} tt r)"
         self.emit(f"use1 W (later (some (λ (r : {R.denotation}). ({token} ⊛ ‵ ({R.row} .own r (w{n} ∷ []))) ⊛ raw {ensured}))) (id⊢ 𝓤 _) $ await ! tt $ pick ! (λ r{n}. split ! $ move ! (1 ∷ []) $")
         opened += 2
-        place = place.holds(local, Held(f"r{n}", f"w{n}", f"g{n}", R) if R is not NOTHING else Held(f"r{n}", f"w{n}", f"g{n}", R))
-        facts = f"facts ! {R.shows(f'r{n}', f'w{n}')} (λ g{n}."
+        place = place.holds(local, Held(f"r{n}", f"w{n}", f"is{n}", R))
+        facts = f"facts ! {R.shows(f'r{n}', f'w{n}')} (λ is{n}."
         if callee.table == "&mut":
             left = "Table × " + product(["Unit {0}"] * len(xs))
             said = callee.leaves(f"r{n}", f"z{n} .0", now, xs)
@@ -349,7 +372,8 @@ class Walk:
         return {i: Held(f"x{i}", made.get(self.mir.locals[i], lambda i: f"m{i}")(i), f"g{i}", R) for i, R in self.rows.items()}
 
     def steps(self):
-        opened = self.go(mir.flat(self.mir.body), Place(self.parameters()))
+        opened = self.learns("h", self.sizes) if self.sizes else 0
+        opened += self.go(mir.flat(self.mir.body), Place(self.parameters()))
         self.close(opened + self.count)
         if self.returned != len(self.shown):
             raise SystemExit(f"{self.crate}::{self.name} returns {self.returned} times, {len(self.shown)} are shown")
@@ -366,14 +390,15 @@ class Walk:
         module = f"{path(me, me, 'proofs')}.{self.name}"
         kinds = {k.lstrip("&").removeprefix("mut ") for k in self.mir.locals} | {k for c in self.called for k in c.params + [c.result or "tyUnit"]} | {"rules::Table"}
         types = "".join(f"{path(me, c, 'specs')}.declared.{T}: {T}\n{path(me, c, 'proofs')}.{T} as {T}R\n{path(me, c, 'proofs')}.{T}.Laws as {T}L\n" for c, T in sorted(k.split("::") for k in kinds if "::" in k))
-        own = f"{module}.Key: name=#{me}·{self.id}\n{module} as me\n{module}.Statement as stated\n{module}.Code as code\n"
-        lent = "Rattle.table_lent.proofs.Bodies: after\nRattle·table_lent.proofs.Hole: inside outside\nRattle·table_lent.proofs.Hole: Back\nRattle·table_lent.proofs.Share: SharedOut shares-out comes-home\n" + LENT_PARTS
-        return f"-- `{me}::{self.name}` meets its contract: a walk of its MIR. walks/make writes this file.\n" + imports(body, LIBRARY + types + self.uses + lent + "".join(c.uses(me) for c in self.called) + own) + body
+        own = f"{module}.Key: name=#{me}·{self.id}\n{module} as me\n{module}.Statement as stated\n{module}.Code as code\n{module}.Code.Mir as Mir\n"
+        lent = "Rattle.table_lent.proofs.Bodies: tyAt inside after\nRattle·table_lent.proofs.Hole: reaches passes Back\nRattle·table_lent.proofs.Share: SharedOut shares-out comes-home\n" + LENT_PARTS
+        uses = self.uses + (self.loop.uses if self.loop else "")
+        return f"-- `{me}::{self.name}` meets its contract: a walk of its MIR. walks/make writes this file.\n" + imports(body, LIBRARY + types + uses + lent + "".join(c.uses(me) for c in self.called) + own) + body
 
     def opening(self):
         stays = "".join(f"(stay-none (λ _. {R.row}) yes, " for R in self.rows.values())
         table = f"stay-ref (0 ∷ []) tt (plain (λ _. {TABLE.row}))" if self.mut else f"stay-none-ref (0 ∷ []) tt (plain (λ _. {TABLE.row})) yes"
-        text = f"""
+        text = (self.loop.opening(self) if self.loop else "") + f"""
 abbrev stayed : Stays (me.ended .signature .params) (me.ended .kept)
 stayed = ({table}, {stays}tt{")" * len(self.rows)})
 """
@@ -426,7 +451,7 @@ module _ {BASE} {GIVEN} {RUN} (κ : Lft) (q : Share) (b o : ℕ) (γ : GName) (h
 
       abbrev Λ : Loops 𝓤 H
       Λ = 𝓣 .Λ
-{self.monotone()}
+{self.monotone()}{self.loop.text(self) if self.loop else ""}
       walk : ent 𝓤 (onEntry 𝓤 H A me.signature (κ, tt) (q, tt) x vs) (WpFn 𝓤 H C Λ code.function ({values}) Post)
       walk =
           qed W ((‵ (flft κ q) ⊛ ‵ ftrue) ∷ ‵ (owns ({" ∷ ".join([f"{'MutRef' if table else 'ShrRef'} (named 0) κ {TABLE.row}"] + [y.row.row for y in held.values()] + ["[]"])}) x vs) ∷ []) ∵

@@ -22,11 +22,11 @@ use borrow.Table.Elements.{at, focus}
 use borrow.Rule.Slice.Shared.{Sh, parts-cells}
 
 -- an index that is tested against m, and the end n of an array
-pub inside : (k m n : ℕ) → T (ltb k m) → m ≤ n → k < n
-inside k m n t le = omega (arith, ltb→lt k m t)
+pub reaches : (k m n : ℕ) → T (ltb k m) → m ≤ n → k < n
+reaches k m n t le = omega (arith, ltb→lt k m t)
 
-pub outside : (k m n : ℕ) → T (not (ltb k m)) → n ≤ m → n ≤ k
-outside k m n t le = omega (arith, nltb→le k m t)
+pub passes : (k m n : ℕ) → T (not (ltb k m)) → n ≤ m → n ≤ k
+passes k m n t le = omega (arith, nltb→le k m t)
 
 module _ {M : Type 1} (𝓤 : URA M) (H : Heap 𝓤) (A : Atoms 𝓤) where
   -- the way back

@@ -46,8 +46,7 @@ use Rattle.rules.proofs.Table as TableR
 use Rattle.rules.specs.Zero.{zeroChunk}
 use Rattle.rules.specs.Tables.{withChunks}
 use Rattle.table_lent.proofs.Bodies.{after}
-use Rattle.table_lent.proofs.Hole.{inside, outside}
-use Rattle.table_lent.proofs.Hole.{Back}
+use Rattle.table_lent.proofs.Hole.{reaches, passes, Back}
 use Rattle.table_lent.proofs.Parts.{chunks-at, chunk-hole, chunks-sized, chunk-unset}
 use Rattle.table_chunks.proofs.put_chunk.Key.{name as #table_chunks·put-chunk}
 use Rattle.table_chunks.proofs.put_chunk as me
@@ -95,12 +94,12 @@ module _ {M : Type 1} (𝓤 : URA M) (H : Heap 𝓤) (A : Atoms 𝓤) (W : Given
           assigns ! (bin ! (load ! (from ! (stop !)) (look ! 10 {q = fullShare} {τ = tyInt w64} {b = l4} {o = 0} {v = (vint w64 x2)} refl)) (lit ! tt) tt) (from ! (stop !)) (init ! 8 refl (tt, tt)) $
           first ! $ branches ! (load ! (from ! (stop !)) (look ! 8 refl))
           (λ held.
-          assigns ! (bin ! (load ! (from ! (stop !)) (look ! 10 {q = fullShare} {τ = tyInt w64} {b = l4} {o = 0} {v = (vint w64 x2)} refl)) (lit ! tt) (scaled-fits x2 8 32 (inside x2 _ 8 held (leb→le _ _ tt)) (lit< tt))) (from ! (stop !)) (init ! 6 refl (tt, (scaled-fits x2 8 32 (inside x2 _ 8 held (leb→le _ _ tt)) (lit< tt)))) $
+          assigns ! (bin ! (load ! (from ! (stop !)) (look ! 10 {q = fullShare} {τ = tyInt w64} {b = l4} {o = 0} {v = (vint w64 x2)} refl)) (lit ! tt) (scaled-fits x2 8 32 (reaches x2 _ 8 held (leb→le _ _ tt)) (lit< tt))) (from ! (stop !)) (init ! 6 refl (tt, (scaled-fits x2 8 32 (reaches x2 _ 8 held (leb→le _ _ tt)) (lit< tt)))) $
           assigns ! (addr ! (from ! (hop ! (look ! 16 refl) (fld ! {τ = tyArray ChunkL.mir 8} {d = 2280} refl (stop !))))) (from ! (stop !)) (init ! 4 refl (tt, tt)) $
           assigns ! (bin ! (load ! (from ! (stop !)) (look ! 4 refl)) (load ! (from ! (stop !)) (look ! 6 refl)) tt) (from ! (stop !)) (init ! 2 refl (tt, tt)) $
           rewrite ! 2 (λ (p : ℕ). ‵ (fat fullShare tyPtr l8 0 (vptr b p))) (sym (at-mul (o + 2280) 32 x2)) refl $
           fsplit3 ! $ drop ! $ open-ref ! tt (mem TableR.the-row) {x = h} {b = b} {o = o} $
-          use1 W (‵ (partAt ChunkR.the-row fullShare (getD (h .chunks) x2 zeroChunk) b (chunks-at o x2)) ⊛ raw (Back 𝓤 H A fullShare TableR.the-row ChunkR.the-row (withChunks h (set (h .chunks) x2 x3)) x3 b o (chunks-at o x2))) (chunk-hole 𝓤 H A W fullShare h x2 x3 b o (inside x2 _ 8 held (leb→le _ _ tt))) $ split ! $
+          use1 W (‵ (partAt ChunkR.the-row fullShare (getD (h .chunks) x2 zeroChunk) b (chunks-at o x2)) ⊛ raw (Back 𝓤 H A fullShare TableR.the-row ChunkR.the-row (withChunks h (set (h .chunks) x2 x3)) x3 b o (chunks-at o x2))) (chunk-hole 𝓤 H A W fullShare h x2 x3 b o (reaches x2 _ 8 held (leb→le _ _ tt))) $ split ! $
           use1 W (some (λ (w : Val). ‵ (fat fullShare (rawTy (lone (ChunkR.the-row .mir))) b (chunks-at o x2) w) ⊛ ‵ (ChunkR.the-row .own (getD (h .chunks) x2 zeroChunk) (w ∷ [])))) (part-out-at 𝓤 H A W ChunkR.the-row refl fullShare (getD (h .chunks) x2 zeroChunk) b (chunks-at o x2) (rawTy (lone (ChunkR.the-row .mir))) refl) $
           pick ! (λ w. split ! $
           -- [the part; what it owns; the way back; the open borrow; what it was; its owner's word; the locals]
@@ -125,7 +124,7 @@ module _ {M : Type 1} (𝓤 : URA M) (H : Heap 𝓤) (A : Atoms 𝓤) (W : Given
           returns ! (look ! 18 {q = fullShare} {τ = tyUnit} {b = l0} {o = 0} {v = vunit} refl) $
           forget ! 8 refl $ forget ! 10 refl $ forget ! 12 refl $ forget ! 14 refl $ forget ! 16 refl $ forget ! 18 refl $
           move ! (18 ∷ 19 ∷ []) $ free1 ! $ move ! (16 ∷ 17 ∷ []) $ free1 ! $ move ! (14 ∷ 15 ∷ []) $ free1 ! $ move ! (12 ∷ 13 ∷ []) $ free1 ! $ move ! (10 ∷ 11 ∷ []) $ free1 ! $ move ! (8 ∷ 9 ∷ []) $ free1 ! $ move ! (6 ∷ 7 ∷ []) $ free1 ! $ move ! (4 ∷ 5 ∷ []) $ free1 ! $ move ! (2 ∷ 3 ∷ []) $ free1 ! $ free0 ! $
-          by ! (exits h (chunk-unset h x2 x3 len (outside x2 _ 8 failed (leb→le _ _ tt)))))))))))))))
+          by ! (exits h (chunk-unset h x2 x3 len (passes x2 _ 8 failed (leb→le _ _ tt)))))))))))))))
 
 module _ {M : Type 1} (𝓤 : URA M) (H : Heap 𝓤) (A : Atoms 𝓤) (W : Given 𝓤 H A) (at-mem : Memory → SProp 𝓤) (run : Routine → Fun 𝓤) where
   put-chunk-walks : (𝓣 : Tables 𝓤 H) → Walks 𝓤 H A me.ended stayed (WpFn 𝓤 H (𝓣 .C) (𝓣 .Λ) code.function) (me.clauses 𝓤 H A at-mem run)

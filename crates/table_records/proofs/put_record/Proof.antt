@@ -46,8 +46,7 @@ use Rattle.rules.proofs.Table as TableR
 use Rattle.rules.specs.Zero.{zeroRecord}
 use Rattle.rules.specs.Tables.{withRecords}
 use Rattle.table_lent.proofs.Bodies.{after}
-use Rattle.table_lent.proofs.Hole.{inside, outside}
-use Rattle.table_lent.proofs.Hole.{Back}
+use Rattle.table_lent.proofs.Hole.{reaches, passes, Back}
 use Rattle.table_lent.proofs.Parts.{records-at, record-hole, records-sized, record-unset}
 use Rattle.table_records.proofs.put_record.Key.{name as #table_records·put-record}
 use Rattle.table_records.proofs.put_record as me
@@ -95,12 +94,12 @@ module _ {M : Type 1} (𝓤 : URA M) (H : Heap 𝓤) (A : Atoms 𝓤) (W : Given
           assigns ! (bin ! (load ! (from ! (stop !)) (look ! 10 {q = fullShare} {τ = tyInt w64} {b = l4} {o = 0} {v = (vint w64 x2)} refl)) (lit ! tt) tt) (from ! (stop !)) (init ! 8 refl (tt, tt)) $
           first ! $ branches ! (load ! (from ! (stop !)) (look ! 8 refl))
           (λ held.
-          assigns ! (bin ! (load ! (from ! (stop !)) (look ! 10 {q = fullShare} {τ = tyInt w64} {b = l4} {o = 0} {v = (vint w64 x2)} refl)) (lit ! tt) (scaled-fits x2 128 352 (inside x2 _ 128 held (leb→le _ _ tt)) (lit< tt))) (from ! (stop !)) (init ! 6 refl (tt, (scaled-fits x2 128 352 (inside x2 _ 128 held (leb→le _ _ tt)) (lit< tt)))) $
+          assigns ! (bin ! (load ! (from ! (stop !)) (look ! 10 {q = fullShare} {τ = tyInt w64} {b = l4} {o = 0} {v = (vint w64 x2)} refl)) (lit ! tt) (scaled-fits x2 128 352 (reaches x2 _ 128 held (leb→le _ _ tt)) (lit< tt))) (from ! (stop !)) (init ! 6 refl (tt, (scaled-fits x2 128 352 (reaches x2 _ 128 held (leb→le _ _ tt)) (lit< tt)))) $
           assigns ! (addr ! (from ! (hop ! (look ! 16 refl) (fld ! {τ = tyArray RecordL.mir 128} {d = 2536} refl (stop !))))) (from ! (stop !)) (init ! 4 refl (tt, tt)) $
           assigns ! (bin ! (load ! (from ! (stop !)) (look ! 4 refl)) (load ! (from ! (stop !)) (look ! 6 refl)) tt) (from ! (stop !)) (init ! 2 refl (tt, tt)) $
           rewrite ! 2 (λ (p : ℕ). ‵ (fat fullShare tyPtr l8 0 (vptr b p))) (sym (at-mul (o + 2536) 352 x2)) refl $
           fsplit3 ! $ drop ! $ open-ref ! tt (mem TableR.the-row) {x = h} {b = b} {o = o} $
-          use1 W (‵ (partAt RecordR.the-row fullShare (getD (h .records) x2 zeroRecord) b (records-at o x2)) ⊛ raw (Back 𝓤 H A fullShare TableR.the-row RecordR.the-row (withRecords h (set (h .records) x2 x3)) x3 b o (records-at o x2))) (record-hole 𝓤 H A W fullShare h x2 x3 b o (inside x2 _ 128 held (leb→le _ _ tt))) $ split ! $
+          use1 W (‵ (partAt RecordR.the-row fullShare (getD (h .records) x2 zeroRecord) b (records-at o x2)) ⊛ raw (Back 𝓤 H A fullShare TableR.the-row RecordR.the-row (withRecords h (set (h .records) x2 x3)) x3 b o (records-at o x2))) (record-hole 𝓤 H A W fullShare h x2 x3 b o (reaches x2 _ 128 held (leb→le _ _ tt))) $ split ! $
           use1 W (some (λ (w : Val). ‵ (fat fullShare (rawTy (lone (RecordR.the-row .mir))) b (records-at o x2) w) ⊛ ‵ (RecordR.the-row .own (getD (h .records) x2 zeroRecord) (w ∷ [])))) (part-out-at 𝓤 H A W RecordR.the-row refl fullShare (getD (h .records) x2 zeroRecord) b (records-at o x2) (rawTy (lone (RecordR.the-row .mir))) refl) $
           pick ! (λ w. split ! $
           -- [the part; what it owns; the way back; the open borrow; what it was; its owner's word; the locals]
@@ -125,7 +124,7 @@ module _ {M : Type 1} (𝓤 : URA M) (H : Heap 𝓤) (A : Atoms 𝓤) (W : Given
           returns ! (look ! 18 {q = fullShare} {τ = tyUnit} {b = l0} {o = 0} {v = vunit} refl) $
           forget ! 8 refl $ forget ! 10 refl $ forget ! 12 refl $ forget ! 14 refl $ forget ! 16 refl $ forget ! 18 refl $
           move ! (18 ∷ 19 ∷ []) $ free1 ! $ move ! (16 ∷ 17 ∷ []) $ free1 ! $ move ! (14 ∷ 15 ∷ []) $ free1 ! $ move ! (12 ∷ 13 ∷ []) $ free1 ! $ move ! (10 ∷ 11 ∷ []) $ free1 ! $ move ! (8 ∷ 9 ∷ []) $ free1 ! $ move ! (6 ∷ 7 ∷ []) $ free1 ! $ move ! (4 ∷ 5 ∷ []) $ free1 ! $ move ! (2 ∷ 3 ∷ []) $ free1 ! $ free0 ! $
-          by ! (exits h (record-unset h x2 x3 len (outside x2 _ 128 failed (leb→le _ _ tt)))))))))))))))
+          by ! (exits h (record-unset h x2 x3 len (passes x2 _ 128 failed (leb→le _ _ tt)))))))))))))))
 
 module _ {M : Type 1} (𝓤 : URA M) (H : Heap 𝓤) (A : Atoms 𝓤) (W : Given 𝓤 H A) (at-mem : Memory → SProp 𝓤) (run : Routine → Fun 𝓤) where
   put-record-walks : (𝓣 : Tables 𝓤 H) → Walks 𝓤 H A me.ended stayed (WpFn 𝓤 H (𝓣 .C) (𝓣 .Λ) code.function) (me.clauses 𝓤 H A at-mem run)
