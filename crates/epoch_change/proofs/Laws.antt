@@ -30,7 +30,7 @@ module _ (f : ℕ → ℕ → Record) where
   pub records-length : length (recordsBy f) ≡ 128
   records-length = grid-length chunkLimit blockLimit f
 
-  records-at : (c b : ℕ) → c < chunkLimit → b < blockLimit → getD (recordsBy f) (at c b) noRecord ≡ f c b
+  pub records-at : (c b : ℕ) → c < chunkLimit → b < blockLimit → getD (recordsBy f) (at c b) noRecord ≡ f c b
   records-at c b h k = grid-at f chunkLimit blockLimit c b noRecord h k
 
   records-of : (l : List Record) → length l ≡ 128 → ((c b : ℕ) → c < chunkLimit → b < blockLimit → getD l (at c b) noRecord ≡ f c b) → l ≡ recordsBy f

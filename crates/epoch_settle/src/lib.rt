@@ -175,24 +175,18 @@ fn settled_block(copies: [Copy; rules::CHUNKS]) -> Common
     let mut r = Timestamp(0);
     let mut i: usize = 0;
     while i < rules::CHUNKS {
-        w = later_in(w, copies[i].member, copies[i].held.write.0);
-        r = later_in(r, copies[i].member, copies[i].held.read.0);
+        let c = copies[i];
+        w = later_in(w, c.member, c.held.write.0);
+        r = later_in(r, c.member, c.held.read.0);
         i = i + 1;
     }
     let mut v: u64 = 0; // "V the value beside it (lowest chunk if several)"
     let mut n: u64 = 0; // how many wait in the lowest chunk not lost
     while 0 < i {
         i = i - 1;
-        v = choose(
-            copies[i].member & (copies[i].held.write.0 == w.0),
-            copies[i].held.value,
-            v,
-        );
-        n = choose(
-            copies[i].member & !copies[i].lost,
-            copies[i].held.waiting.count,
-            n,
-        );
+        let c = copies[i];
+        v = choose(c.member & (c.held.write.0 == w.0), c.held.value, v);
+        n = choose(c.member & !c.lost, c.held.waiting.count, n);
     }
     if n == 0 {
         return Common {
@@ -224,13 +218,12 @@ pub fn settle(copies: [Copy; rules::CHUNKS]) -> [Copy; rules::CHUNKS]
     let mut out = copies;
     let mut i: usize = 0;
     while i < rules::CHUNKS {
-        let member = copies[i].member;
-        let lost = copies[i].lost;
-        let value = choose(member, s.value, copies[i].held.value);
-        let read = choose(member, s.read.0, copies[i].held.read.0);
-        let write = choose(member, s.write.0, copies[i].held.write.0);
-        copy.member = member;
-        copy.lost = lost;
+        let c = copies[i];
+        let value = choose(c.member, s.value, c.held.value);
+        let read = choose(c.member, s.read.0, c.held.read.0);
+        let write = choose(c.member, s.write.0, c.held.write.0);
+        copy.member = c.member;
+        copy.lost = c.lost;
         copy.held.value = value;
         copy.held.read.0 = read;
         copy.held.write.0 = write;

@@ -31,41 +31,17 @@ loop-holds : tie.Need-loop-holds Inv-loop μ-loop
 unfolding each
 loop-holds c = (search needs, ap (λ (r : Record). r .waiting) (c .«record» .ensures), refl)
 
-mul-member : tie.Need-mul-member Inv-loop μ-loop
-mul-member c = search needs
+mul-c : tie.Need-mul-c Inv-loop μ-loop
+mul-c c = search needs
 
-element-copy-out-member : tie.Need-element-copy-out-member Inv-loop μ-loop
-element-copy-out-member c = search needs
-
-mul-lost : tie.Need-mul-lost Inv-loop μ-loop
-mul-lost c = search needs
-
-element-copy-out-lost : tie.Need-element-copy-out-lost Inv-loop μ-loop
-element-copy-out-lost c = search needs
-
-mul-choose : tie.Need-mul-choose Inv-loop μ-loop
-mul-choose c = search needs
-
-element-copy-out-choose : tie.Need-element-copy-out-choose Inv-loop μ-loop
-element-copy-out-choose c = search needs
+array-copy-out-c : tie.Need-array-copy-out-c Inv-loop μ-loop
+array-copy-out-c c = search needs
 
 choose-requires : tie.Need-choose-requires Inv-loop μ-loop
 choose-requires c κs = search needs
 
-mul-choose-2 : tie.Need-mul-choose-2 Inv-loop μ-loop
-mul-choose-2 c = search needs
-
-element-copy-out-choose-2 : tie.Need-element-copy-out-choose-2 Inv-loop μ-loop
-element-copy-out-choose-2 c = search needs
-
 choose-requires-2 : tie.Need-choose-requires-2 Inv-loop μ-loop
 choose-requires-2 c κs = search needs
-
-mul-choose-3 : tie.Need-mul-choose-3 Inv-loop μ-loop
-mul-choose-3 c = search needs
-
-element-copy-out-choose-3 : tie.Need-element-copy-out-choose-3 Inv-loop μ-loop
-element-copy-out-choose-3 c = search needs
 
 choose-requires-3 : tie.Need-choose-requires-3 Inv-loop μ-loop
 choose-requires-3 c κs = search needs
@@ -85,7 +61,7 @@ loop-less c = search needs
 loop-again : tie.Need-loop-again Inv-loop μ-loop
 loop-again c =
     let w = c .before .before .before in
-    let l = w .before .before .before .before in
+    let l = w .before .before .before .before .before in
     let b = l .before .before .settled-block in
     let s = l .before .before .before in
     let k = len s in (
@@ -111,18 +87,10 @@ settle-spec =
     settled-block-requires
     record-requires
     loop-holds
-    mul-member
-    element-copy-out-member
-    mul-lost
-    element-copy-out-lost
-    mul-choose
-    element-copy-out-choose
+    mul-c
+    array-copy-out-c
     choose-requires
-    mul-choose-2
-    element-copy-out-choose-2
     choose-requires-2
-    mul-choose-3
-    element-copy-out-choose-3
     choose-requires-3
     mul-out
     array-set-from-out

@@ -47,32 +47,14 @@ greatest-read c =
 loop-holds : tie.Need-loop-holds Inv-loop μ-loop Inv-loop2 μ-loop2
 loop-holds c = (search needs, refl, refl)
 
-mul-later-in : tie.Need-mul-later-in Inv-loop μ-loop Inv-loop2 μ-loop2
-mul-later-in c = search needs
+mul-c : tie.Need-mul-c Inv-loop μ-loop Inv-loop2 μ-loop2
+mul-c c = search needs
 
-element-copy-out-later-in : tie.Need-element-copy-out-later-in Inv-loop μ-loop Inv-loop2 μ-loop2
-element-copy-out-later-in c = search needs
-
-mul-later-in-2 : tie.Need-mul-later-in-2 Inv-loop μ-loop Inv-loop2 μ-loop2
-mul-later-in-2 c = search needs
-
-element-copy-out-later-in-2 : tie.Need-element-copy-out-later-in-2 Inv-loop μ-loop Inv-loop2 μ-loop2
-element-copy-out-later-in-2 c = search needs
+array-copy-out-c : tie.Need-array-copy-out-c Inv-loop μ-loop Inv-loop2 μ-loop2
+array-copy-out-c c = search needs
 
 later-in-requires : tie.Need-later-in-requires Inv-loop μ-loop Inv-loop2 μ-loop2
 later-in-requires c κs = search needs
-
-mul-later-in-3 : tie.Need-mul-later-in-3 Inv-loop μ-loop Inv-loop2 μ-loop2
-mul-later-in-3 c = search needs
-
-element-copy-out-later-in-3 : tie.Need-element-copy-out-later-in-3 Inv-loop μ-loop Inv-loop2 μ-loop2
-element-copy-out-later-in-3 c = search needs
-
-mul-later-in-4 : tie.Need-mul-later-in-4 Inv-loop μ-loop Inv-loop2 μ-loop2
-mul-later-in-4 c = search needs
-
-element-copy-out-later-in-4 : tie.Need-element-copy-out-later-in-4 Inv-loop μ-loop Inv-loop2 μ-loop2
-element-copy-out-later-in-4 c = search needs
 
 later-in-requires-2 : tie.Need-later-in-requires-2 Inv-loop μ-loop Inv-loop2 μ-loop2
 later-in-requires-2 c κs = search needs
@@ -85,7 +67,7 @@ loop-less c = search needs
 
 loop-again : tie.Need-loop-again Inv-loop μ-loop Inv-loop2 μ-loop2
 loop-again c =
-    let l = c .before .before .before in
+    let l = c .before .before .before .before in
     let cs = l .before .args .t1 in
     let k = len (l .before) in
     let i = l .loop .i in (
@@ -105,44 +87,14 @@ loop2-holds c =
 sub-i : tie.Need-sub-i Inv-loop μ-loop Inv-loop2 μ-loop2
 sub-i c = search needs
 
-mul-choose : tie.Need-mul-choose Inv-loop μ-loop Inv-loop2 μ-loop2
-mul-choose c = search needs
+mul-c-2 : tie.Need-mul-c-2 Inv-loop μ-loop Inv-loop2 μ-loop2
+mul-c-2 c = search needs
 
-element-copy-out-choose : tie.Need-element-copy-out-choose Inv-loop μ-loop Inv-loop2 μ-loop2
-element-copy-out-choose c = search needs
-
-mul-choose-2 : tie.Need-mul-choose-2 Inv-loop μ-loop Inv-loop2 μ-loop2
-mul-choose-2 c = search needs
-
-element-copy-out-choose-2 : tie.Need-element-copy-out-choose-2 Inv-loop μ-loop Inv-loop2 μ-loop2
-element-copy-out-choose-2 c = search needs
-
-mul-choose-3 : tie.Need-mul-choose-3 Inv-loop μ-loop Inv-loop2 μ-loop2
-mul-choose-3 c = search needs
-
-element-copy-out-choose-3 : tie.Need-element-copy-out-choose-3 Inv-loop μ-loop Inv-loop2 μ-loop2
-element-copy-out-choose-3 c = search needs
+array-copy-out-c-2 : tie.Need-array-copy-out-c-2 Inv-loop μ-loop Inv-loop2 μ-loop2
+array-copy-out-c-2 c = search needs
 
 choose-requires : tie.Need-choose-requires Inv-loop μ-loop Inv-loop2 μ-loop2
 choose-requires c κs = search needs
-
-mul-choose-4 : tie.Need-mul-choose-4 Inv-loop μ-loop Inv-loop2 μ-loop2
-mul-choose-4 c = search needs
-
-element-copy-out-choose-4 : tie.Need-element-copy-out-choose-4 Inv-loop μ-loop Inv-loop2 μ-loop2
-element-copy-out-choose-4 c = search needs
-
-mul-choose-5 : tie.Need-mul-choose-5 Inv-loop μ-loop Inv-loop2 μ-loop2
-mul-choose-5 c = search needs
-
-element-copy-out-choose-5 : tie.Need-element-copy-out-choose-5 Inv-loop μ-loop Inv-loop2 μ-loop2
-element-copy-out-choose-5 c = search needs
-
-mul-choose-6 : tie.Need-mul-choose-6 Inv-loop μ-loop Inv-loop2 μ-loop2
-mul-choose-6 c = search needs
-
-element-copy-out-choose-6 : tie.Need-element-copy-out-choose-6 Inv-loop μ-loop Inv-loop2 μ-loop2
-element-copy-out-choose-6 c = search needs
 
 choose-requires-2 : tie.Need-choose-requires-2 Inv-loop μ-loop Inv-loop2 μ-loop2
 choose-requires-2 c κs = search needs
@@ -152,12 +104,13 @@ loop2-less c = search needs
 
 loop2-again : tie.Need-loop2-again Inv-loop μ-loop Inv-loop2 μ-loop2
 loop2-again c =
-    let l = c .before .before .before .before in
+    let v = c .before .before .before in
+    let l = v .before .before .before .before .before .before in
     let s = l .before .before .before in
     let cs = s .args .t1 in
     let i = l .loop2 .i in (
       omega arith,
-      c .before .choose .ensures ∙ copy-front cs (i - 1) i (len s) (omega arith) (omega arith) (beside (l .before .before .loop .w)) (λ x. x .held .value) (l .loop2 .v) (l .loop2 .inv .1),
+      v .choose .ensures ∙ copy-front cs (i - 1) i (len s) (omega arith) (omega arith) (beside (l .before .before .loop .w)) (λ x. x .held .value) (l .loop2 .v) (l .loop2 .inv .1),
       c .choose2 .ensures ∙ copy-front cs (i - 1) i (len s) (omega arith) (omega arith) notLost (λ x. x .held .waiting .count) (l .loop2 .n) (l .loop2 .inv .2),
     )
 
@@ -200,34 +153,18 @@ settled-block-spec =
     Inv-loop2
     μ-loop2
     loop-holds
-    mul-later-in
-    element-copy-out-later-in
-    mul-later-in-2
-    element-copy-out-later-in-2
+    mul-c
+    array-copy-out-c
     later-in-requires
-    mul-later-in-3
-    element-copy-out-later-in-3
-    mul-later-in-4
-    element-copy-out-later-in-4
     later-in-requires-2
     add-i
     loop-less
     loop-again
     loop2-holds
     sub-i
-    mul-choose
-    element-copy-out-choose
-    mul-choose-2
-    element-copy-out-choose-2
-    mul-choose-3
-    element-copy-out-choose-3
+    mul-c-2
+    array-copy-out-c-2
     choose-requires
-    mul-choose-4
-    element-copy-out-choose-4
-    mul-choose-5
-    element-copy-out-choose-5
-    mul-choose-6
-    element-copy-out-choose-6
     choose-requires-2
     loop2-less
     loop2-again
