@@ -98,10 +98,7 @@ fn block(value: u64, read: u64, write: u64, w: Waiting) -> Record {
 }
 
 fn no_operation() -> Operation {
-    Operation {
-        block: 0,
-        action: Action::Read,
-    }
+    table_zero::operation()
 }
 
 fn queue(count: u64, first: Operation, rest: Operation) -> Queue {
@@ -161,14 +158,8 @@ fn chunk(state: State, lost: bool, epoch: u64, block: usize) -> Chunk
 
 // Its queue; where something else is in question, one operation.
 fn queue_case(n: u64) -> Queue {
-    let w = Operation {
-        block: 1,
-        action: Action::Write(7),
-    };
-    let far = Operation {
-        block: 2,
-        action: Action::Read,
-    };
+    let w = table_zero::operation_of(1, Action::Write(7));
+    let far = table_zero::operation_of(2, Action::Read);
     match n {
         0 => idle(),
         // eight operations, and nine
@@ -221,10 +212,7 @@ fn host_case(n: u64) -> Host {
 // ---- host 2, which the store lacks
 
 fn spare_host_case(n: u64) -> Host {
-    let w = Operation {
-        block: 1,
-        action: Action::Write(7),
-    };
+    let w = table_zero::operation_of(1, Action::Write(7));
     match n {
         0 => host(false, idle(), no_attempt(), 0, 0),
         1 => host(true, idle(), no_attempt(), 0, 0),

@@ -9,7 +9,7 @@ use Rattle.text_meanings.proofs.creation_of.Tie as tie
 
 returns : tie.Need-returns
 returns c =
-    let s = c .before .before .before in
+    let s = c .before .before .before .before in
     named-good _ _ _ (s .before .before .all-sums .ensures) (s .before .if1 .taken) _ (s .sets-of .ensures) _ (c .creation-of .ensures)
 
 returns-2 : tie.Need-returns-2
@@ -27,6 +27,7 @@ creation-of-spec =
     (λ c. search needs)
     (λ c. search needs)
     (λ c. search needs)
+    (λ c κs. search needs)
     returns
     (λ c κs. search needs)
     returns-2)
