@@ -1,6 +1,7 @@
 """The walks of table_sound: the look for code 8 where the table lies."""
 from callee import Callee
-from loop import Loop
+from loop import Changed, Loop
+from rows import BOOL, NUMBER
 from walk import Walk
 
 ME, N, E, R, U, B = "table_sound", "table_sound::Counts", "rules::Epoch", "rules::Record", "u64", "tyBool"
@@ -13,12 +14,8 @@ Rattle.table_sound.proofs.Laws: Within every-more every-end host-is chu
 """
 
 
-def callee(crate, name, table, params, result, says):
-    return {f"{crate}::{name}": Callee(crate, name, table, params, result, says)}
-
-
 def own(name, table, params, result, says):
-    return callee(ME, name, table, params, result, says)
+    return {f"{ME}::{name}": Callee(ME, name, table, params, result, says)}
 
 
 def every(name, calls, ok, count, test, says, is_so, last=""):
@@ -26,32 +23,29 @@ def every(name, calls, ok, count, test, says, is_so, last=""):
     at, test = ok + 1, f"({test})"
     less = f"(ltb→lt (i .0) {count} held)"
     fits = "lt-of-le-of-lt %s (lit< tt)"
-    values = {ok: (lambda n: f"every {test} (numbers {n})", None, f"e2 ∙ every-more {test} (i .0) _ _ refl ({is_so})"), at: (lambda n: n, lambda n: fits % "(i .1)", None)}
-    loop = Loop(count, f"Within {count}", "zero-le", {ok: f"sym (every-begin {test})"}, values, f"add-one-le {less}", less, "")
+    changed = {ok: Changed(BOOL, lambda n: f"every {test} (numbers {n})", "refl", f"sym (every-begin {test})", f"e2 ∙ every-more {test} (i .0) _ _ refl ({is_so})"),
+               at: Changed(NUMBER, lambda n: n, f"(refl, {fits % '(i .1)'})")}
+    loop = Loop(count, f"Within {count}", "zero-le", changed, f"add-one-le {less}", less, "")
     return Walk(ME, name, calls, lambda r, z, xs: f"{r} ≡ {says}", [f"every-end {test} (i .0) {count} (i .1) failed{last}"], USES, loop, fits=fits % f"(add-one-le {less})")
 
 
-def walks():
-    record_in = callee("table_records", "record_in", "&", [U], R, lambda a: f"getD ({a[0]} .records) {a[1]} zeroRecord")
+def walks(callees):
+    """callees: the accessors, by name."""
     return [
-        every("hosts_sound", {**callee("table_hosts", "host_in", "&", [U], "rules::Host", lambda a: f"getD ({a[0]} .hosts) {a[1]} zeroHost"),
-                              **own("host_next", None, [B, N, U, "rules::Host"], B, lambda a: f"{a[0]} && hostAt (counted {a[1]}) {a[2]} {a[3]}")},
+        every("hosts_sound", {**callees, **own("host_next", None, [B, N, U, "rules::Host"], B, lambda a: f"{a[0]} && hostAt (counted {a[1]}) {a[2]} {a[3]}")},
               3, 8, "hostInPlace x2 (h .hosts)", "hostsFormed (counted x2) (h .hosts)", "host-is x2 (h .hosts) (i .0) r1 e1"),
-        every("chunks_sound", {**callee("table_chunks", "chunk_in", "&", [U], "rules::Chunk", lambda a: f"getD ({a[0]} .chunks) {a[1]} zeroChunk"),
-                               **own("chunk_next", None, [B, N, E, U, "rules::Chunk"], B, lambda a: f"{a[0]} && chunkAt (counted {a[1]}) {a[2]} {a[3]} {a[4]}")},
+        every("chunks_sound", {**callees, **own("chunk_next", None, [B, N, E, U, "rules::Chunk"], B, lambda a: f"{a[0]} && chunkAt (counted {a[1]}) {a[2]} {a[3]} {a[4]}")},
               4, 8, "chunkInPlace x2 x3 (h .chunks)", "chunksFormed (counted x2) x3 (h .chunks)", "chunk-is x2 x3 (h .chunks) (i .0) r1 e1"),
-        Walk(ME, "record_sound", {**record_in, **own("is_quiet", None, [R], B, lambda a: f"isQuiet {a[0]}"), **own("quiet_at", None, [N, U, R], B, lambda a: f"quietAt {a[0]} {a[1]} {a[2]}"),
+        Walk(ME, "record_sound", {**callees, **own("is_quiet", None, [R], B, lambda a: f"isQuiet {a[0]}"), **own("quiet_at", None, [N, U, R], B, lambda a: f"quietAt {a[0]} {a[1]} {a[2]}"),
                                   **own("busy_at", None, [N, U, R], B, lambda a: f"busyAt {a[0]} {a[1]} {a[2]}")},
              lambda r, z, xs: f"{r} ≡ recordInPlace x2 (h .records) x3",
              ["quiet-in x2 x3 (h .records) r1 e1 r2 e2 held r3 e3 r4 e4", "busy-in x2 x3 (h .records) r1 e1 r2 e2 failed r5 e5 r6 e6"], USES),
         every("records_sound", {**own("record_sound", "&", [N, U], B, lambda a: f"recordInPlace {a[1]} ({a[0]} .records) {a[2]}"), **own("record_next", None, [B, B], B, lambda a: f"{a[0]} && {a[1]}")},
               3, 128, "recordInPlace x2 (h .records)", "recordsFormed (counted x2) (h .records)", "e1", " ∙ record-by-record x2 (h .records)"),
-        every("places_sound", {**callee("table_places", "place_in", "&", [U], "rules::Place", lambda a: f"getD ({a[0]} .places) {a[1]} zeroPlace"),
-                               **own("place_next", None, [B, N, "rules::Place"], B, lambda a: f"{a[0]} && slotFormed (counted {a[1]}) ({a[2]} .slot)")},
+        every("places_sound", {**callees, **own("place_next", None, [B, N, "rules::Place"], B, lambda a: f"{a[0]} && slotFormed (counted {a[1]}) ({a[2]} .slot)")},
               3, 64, "placeInPlace x2 (h .places)", "placesFormed (counted x2) (h .places)", "ap (λ (y : Place). slotFormed (counted x2) (y .slot)) e1"),
         Walk(ME, "sound_in", {
-            **callee("table_numbers", "creation_in", "&", [], "rules::Creation", lambda a: f"{a[0]} .creation"),
-            **callee("table_numbers", "epoch_in", "&", [], E, lambda a: f"{a[0]} .epoch"),
+            **callees,
             **own("counts_of", None, ["rules::Creation"], N, lambda a: f"countsOf {a[0]}"),
             **own("hosts_sound", "&", [N], B, lambda a: f"hostsFormed (counted {a[1]}) ({a[0]} .hosts)"),
             **own("chunks_sound", "&", [N, E], B, lambda a: f"chunksFormed (counted {a[1]}) {a[2]} ({a[0]} .chunks)"),

@@ -1,7 +1,7 @@
 -- `table_sound::chunks_sound` meets its contract: a walk of its MIR. walks/make writes this file.
 use mathlib.Core.Path.{_≡_, refl, sym, ap, _∙_}
 use Prim.Native.Nat.{ℕ, _+_, _-_, _<_, zero-le}
-use mathlib.Core.Bool.{Bool, true, _&&_}
+use mathlib.Core.Bool.{Bool, _&&_}
 use mathlib.Core.List.{List, [], _∷_}
 use mathlib.Core.WellFounded.{WellFounded, InvImage·wf}
 use native.Mathlib.Nat.{lt-of-le-of-lt}
@@ -28,7 +28,7 @@ use sound.WpLaws.{FmC, fmOf, WpFn-mono}
 use denote.Exit.{yes}
 use denote.RattleType.{owns}
 use denote.Laws.{Is, shows}
-use denote.Plain.{Boolean, uint-makes, uint-lawful, bool-tells, bool-makes, bool-lawful}
+use denote.Plain.{Boolean, uint-makes, bool-tells, bool-makes, bool-lawful}
 use denote.Builtin.{usize}
 use denote.Ref.{RefT, now, ShrRef, ptr-vals, shr-tells, shr-copy}
 use denote.Signature.{plain}
@@ -172,8 +172,8 @@ module _ {M : Type 1} (𝓤 : URA M) (H : Heap 𝓤) (A : Atoms 𝓤) (W : Given
         turns : (i : Upto) → Sq W (At i) (runs C Λ (En l0 l1 l2 l3 l4 l5 l6 l7 l8) turn (anyQ (Turned i)))
         unfolding afterTurn
         turns i =
-            assigns ! (of-opd ! (lit ! tt)) (from ! (stop !)) (init ! 6 {τ = tyInt w64} {v = (vint w64 8)} refl (uint-lawful 𝓤 H A W w64 .typed 8 _ (refl, lit< tt) .0)) $
-            assigns ! (bin ! (load ! (from ! (stop !)) (look ! 8 {q = fullShare} {τ = tyInt w64} {b = l5} {o = 0} {v = (vint w64 (i .0))} refl)) (load ! (from ! (stop !)) (look ! 6 {q = fullShare} {τ = tyInt w64} {b = l6} {o = 0} {v = (vint w64 8)} refl)) tt) (from ! (stop !)) (init ! 4 refl (tt, tt)) $
+            assigns ! (of-opd ! (lit ! tt)) (from ! (stop !)) (init ! 6 refl (tt, record { fits = lit< tt })) $
+            assigns ! (bin ! (load ! (from ! (stop !)) (look ! 8 {q = fullShare} {τ = tyInt w64} {b = l5} {o = 0} {v = (vint w64 (i .0))} refl)) (load ! (from ! (stop !)) (look ! 6 refl)) tt) (from ! (stop !)) (init ! 4 refl (tt, tt)) $
             first ! $ branches ! (load ! (from ! (stop !)) (look ! 4 refl))
             (λ held.
             skips ! $
@@ -211,8 +211,8 @@ module _ {M : Type 1} (𝓤 : URA M) (H : Heap 𝓤) (A : Atoms 𝓤) (W : Given
           alloc1 ! (λ l0. alloc1 ! (λ l1. alloc1 ! (λ l2. alloc1 ! (λ l3. alloc1 ! (λ l4. alloc1 ! (λ l5. alloc1 ! (λ l6. alloc1 ! (λ l7. alloc1 ! (λ l8. alloc0 ! $ params1 ! $
           pass1 ! (init ! 14 refl (tt, tt)) $ pass1 ! (init ! 12 {τ = CountsL.mir} {v = m2} refl (LL.lawful CountsR.the-type CountsL.the-laws 𝓤 H A W .typed x2 _ g2 .0)) $ pass1 ! (init ! 10 {τ = EpochL.mir} {v = m3} refl (LL.lawful EpochR.the-type EpochL.the-laws 𝓤 H A W .typed x3 _ g3 .0)) $ pass0 ! $ move ! (18 ∷ 19 ∷ []) $
           -- [the token; t; the locals]
-          assigns ! (of-opd ! (true-lit !)) (from ! (stop !)) (init ! 10 {τ = tyBool} {v = (vbool true)} refl (bool-lawful 𝓤 H A W .typed true _ refl .0)) $
-          assigns ! (of-opd ! (lit ! tt)) (from ! (stop !)) (init ! 8 {τ = tyInt w64} {v = (vint w64 0)} refl (uint-lawful 𝓤 H A W w64 .typed 0 _ (refl, lit< tt) .0)) $
+          assigns ! (of-opd ! (true-lit !)) (from ! (stop !)) (init ! 10 refl (tt, tt)) $
+          assigns ! (of-opd ! (lit ! tt)) (from ! (stop !)) (init ! 8 refl (tt, record { fits = lit< tt })) $
           rewrite ! 10 (λ (u : Bool). ‵ (fat fullShare tyBool l4 0 (vbool u))) (sym (every-begin (chunkInPlace x2 x3 (h .chunks)))) refl $
           first ! $ blocks ! $ loops ! 𝓣 Nearer Nearer-wf (At l0 l1 l2 l3 l4 l5 l6 l7 l8) (turns l0 l1 l2 l3 l4 l5 l6 l7 l8) (0, zero-le))))))))))
 
