@@ -53,13 +53,20 @@ fn copy_of(k: Creation, chunk: Chunk, held: Record, c: u64, b: u64) -> Copy
     }
 }
 
-fn gathered(c0: Copy, c1: Copy, c2: Copy, c3: Copy, c4: Copy, c5: Copy, c6: Copy, c7: Copy) -> Copies
+fn gathered(
+    c0: Copy,
+    c1: Copy,
+    c2: Copy,
+    c3: Copy,
+    c4: Copy,
+    c5: Copy,
+    c6: Copy,
+    c7: Copy,
+) -> Copies
     ensures { λ r. ⌜ r ≡ record { copies = c0 ∷ c1 ∷ c2 ∷ c3 ∷ c4 ∷ c5 ∷ c6 ∷ c7 ∷ [] } ⌝ }
 {
     let copies = [c0, c1, c2, c3, c4, c5, c6, c7];
-    Copies {
-        copies: copies,
-    }
+    Copies { copies: copies }
 }
 
 fn settle_copies(x: Copies) -> Copies
@@ -67,9 +74,7 @@ fn settle_copies(x: Copies) -> Copies
 {
     let copies = x.copies;
     let out = epoch_settle::settle(copies);
-    Copies {
-        copies: out,
-    }
+    Copies { copies: out }
 }
 
 // What chunk c holds; zero where there is no such chunk.
@@ -149,13 +154,20 @@ struct Chunks {
     chunks: [Chunk; rules::CHUNKS],
 }
 
-fn ranked(c0: Chunk, c1: Chunk, c2: Chunk, c3: Chunk, c4: Chunk, c5: Chunk, c6: Chunk, c7: Chunk) -> Chunks
+fn ranked(
+    c0: Chunk,
+    c1: Chunk,
+    c2: Chunk,
+    c3: Chunk,
+    c4: Chunk,
+    c5: Chunk,
+    c6: Chunk,
+    c7: Chunk,
+) -> Chunks
     ensures { λ r. ⌜ r ≡ record { chunks = c0 ∷ c1 ∷ c2 ∷ c3 ∷ c4 ∷ c5 ∷ c6 ∷ c7 ∷ [] } ⌝ }
 {
     let chunks = [c0, c1, c2, c3, c4, c5, c6, c7];
-    Chunks {
-        chunks: chunks,
-    }
+    Chunks { chunks: chunks }
 }
 
 fn code_of(k: Creation, epoch: Epoch, x: Chunks) -> u64
@@ -170,9 +182,7 @@ fn renew_chunks(k: Creation, next: Epoch, x: Chunks) -> Chunks
 {
     let chunks = x.chunks;
     let out = epoch_change::renew(k, next, chunks);
-    Chunks {
-        chunks: out,
-    }
+    Chunks { chunks: out }
 }
 
 // Chunk c; zero where there is none.
