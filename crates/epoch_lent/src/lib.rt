@@ -9,8 +9,9 @@ ghost use Rattle.rules.specs.Codes.{codeOf};
 ghost use Rattle.rules.specs.Events.{settledIn, renewed, epochRefusals};
 ghost use Rattle.rules.specs.Limits.{chunkLimit};
 ghost use Rattle.rules.specs.Settlement.{settled};
-ghost use Rattle.rules.specs.Tables.{withRecords, withChunks, withEpoch};
+ghost use Rattle.rules.specs.Tables.{setOf, withRecords, withChunks, withEpoch};
 ghost use Rattle.rules.specs.Words.{each, numbers};
+ghost use Rattle.rules.specs.Zero.{_among_};
 ghost use Rattle.epoch_lent.specs.Steps.{placeOf, copyOf, copyAt, copiesAt, heldAt, withHeld, withBlock, chunkAt, withChunkAt, changedTo};
 use rules::Chunk;
 use rules::Copy;
@@ -29,31 +30,34 @@ fn place_of(c: u64, b: u64) -> u64
     ensures { λ r. ⌜ r ≡ placeOf c b ⌝ }
 {
     if (c < rules::CHUNKS as u64) & (b < rules::BLOCKS as u64) {
-        return c * 16 + b;
+        return c * rules::BLOCKS as u64 + b;
     }
-    128
+    rules::RECORDS as u64
+}
+
+// The chunk has a copy of the block.
+fn holds(k: Creation, c: u64, b: u64) -> bool
+    ensures { λ r. ⌜ r ≡ (c among setOf k b) ⌝ }
+{
+    let i = b as usize;
+    if i < rules::BLOCKS {
+        let set = k.sets[i];
+        return table_sets::among(c, set);
+    }
+    false
 }
 
 fn copy_of(k: Creation, chunk: Chunk, held: Record, c: u64, b: u64) -> Copy
     ensures { λ r. ⌜ r ≡ copyOf k chunk held c b ⌝ }
 {
-    let i = b as usize;
-    if i < rules::BLOCKS {
-        let set = k.sets[i];
-        return Copy {
-            member: table_sets::among(c, set),
-            lost: chunk.lost,
-            held: held,
-        };
-    }
     Copy {
-        member: false,
+        member: holds(k, c, b),
         lost: chunk.lost,
         held: held,
     }
 }
 
-fn gathered(
+fn settle_copies(
     c0: Copy,
     c1: Copy,
     c2: Copy,
@@ -63,16 +67,9 @@ fn gathered(
     c6: Copy,
     c7: Copy,
 ) -> Copies
-    ensures { λ r. ⌜ r ≡ record { copies = c0 ∷ c1 ∷ c2 ∷ c3 ∷ c4 ∷ c5 ∷ c6 ∷ c7 ∷ [] } ⌝ }
+    ensures { λ r. ⌜ r ≡ record { copies = settled (c0 ∷ c1 ∷ c2 ∷ c3 ∷ c4 ∷ c5 ∷ c6 ∷ c7 ∷ []) } ⌝ }
 {
     let copies = [c0, c1, c2, c3, c4, c5, c6, c7];
-    Copies { copies: copies }
-}
-
-fn settle_copies(x: Copies) -> Copies
-    ensures { λ r. ⌜ r ≡ record { copies = settled (x .copies) } ⌝ }
-{
-    let copies = x.copies;
     let out = epoch_settle::settle(copies);
     Copies { copies: out }
 }
@@ -99,8 +96,9 @@ fn copy_in(t: &Table, c: u64, b: u64) -> Copy
     copy_of(k, chunk, held, c, b)
 }
 
-fn copies_in(t: &Table, b: u64) -> Copies
-    ensures { λ r. ⌜ r ≡ record { copies = copiesAt (now (t .entry)) b } ⌝ }
+// The copies of a block, gathered and settled.
+fn settled_in(t: &Table, b: u64) -> Copies
+    ensures { λ r. ⌜ r ≡ record { copies = settled (copiesAt (now (t .entry)) b) } ⌝ }
 {
     let c0 = copy_in(t, 0, b);
     let c1 = copy_in(t, 1, b);
@@ -110,7 +108,7 @@ fn copies_in(t: &Table, b: u64) -> Copies
     let c5 = copy_in(t, 5, b);
     let c6 = copy_in(t, 6, b);
     let c7 = copy_in(t, 7, b);
-    gathered(c0, c1, c2, c3, c4, c5, c6, c7)
+    settle_copies(c0, c1, c2, c3, c4, c5, c6, c7)
 }
 
 // What chunk c holds of block b is stored.
@@ -125,8 +123,7 @@ fn store_in(t: &mut Table, x: Copies, c: u64, b: u64)
 fn settle_block_in(t: &mut Table, b: u64)
     ensures { λ _. ⌜ now (t .exit) ≡ withBlock (now (t .entry)) b ⌝ }
 {
-    let copies = copies_in(&*t, b);
-    let x = settle_copies(copies);
+    let x = settled_in(&*t, b);
     store_in(&mut *t, x, 0, b);
     store_in(&mut *t, x, 1, b);
     store_in(&mut *t, x, 2, b);
@@ -142,7 +139,7 @@ fn settle_in(t: &mut Table)
     ensures { λ _. ⌜ now (t .exit) ≡ withRecords (now (t .entry)) (settledIn (now (t .entry) .creation) (now (t .entry) .chunks) (now (t .entry) .records)) ⌝ }
 {
     let mut b: u64 = 0;
-    while b < 16 {
+    while b < rules::BLOCKS as u64 {
         settle_block_in(&mut *t, b);
         b = b + 1;
     }
@@ -199,7 +196,7 @@ fn chunk_at(x: Chunks, c: u64) -> Chunk
 fn is_refused(code: u64) -> bool
     ensures { λ r. ⌜ r ≡ not (eqb code 0) ⌝ }
 {
-    !(code == 0)
+    code != rules::DONE
 }
 
 fn chunks_in(t: &Table) -> Chunks
