@@ -81,15 +81,15 @@ pub fn change_code(k: Creation, epoch: Epoch, chunks: [Chunk; rules::CHUNKS]) ->
     let failed = any_failed(chunks);
     let last = epoch.0 == rules::GREATEST_CLOCK;
     if failed {
-        return 2;
+        return rules::NOT_IN_STATE;
     }
     if last {
-        return 7;
+        return rules::LAST_EPOCH;
     }
     if any_all_lost(k, chunks) {
-        return 6;
+        return rules::ALL_LOST;
     }
-    0
+    rules::DONE
 }
 
 // "Settling takes all copies of one block together": they are gathered, settled and stored back. The inner loops stand
