@@ -62,7 +62,7 @@ fn empty_in(t: &mut Table, chunk: u64)
     ensures { λ _. ⌜ now (t .exit) ≡ withRecords (now (t .entry)) (withoutWaiting (now (t .entry) .records) chunk) ⌝ }
 {
     let mut b: u64 = 0;
-    while b < rules::BLOCKS as u64 {
+    while b < 16 {
         empty_block_in(&mut *t, chunk, b);
         b = b + 1;
     }

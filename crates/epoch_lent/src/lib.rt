@@ -139,7 +139,7 @@ fn settle_in(t: &mut Table)
     ensures { λ _. ⌜ now (t .exit) ≡ withRecords (now (t .entry)) (settledIn (now (t .entry) .creation) (now (t .entry) .chunks) (now (t .entry) .records)) ⌝ }
 {
     let mut b: u64 = 0;
-    while b < rules::BLOCKS as u64 {
+    while b < 16 {
         settle_block_in(&mut *t, b);
         b = b + 1;
     }
