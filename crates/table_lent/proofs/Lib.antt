@@ -1,0 +1,4 @@
+pub mod Bodies
+pub mod Hole
+pub mod Parts
+pub mod Share

@@ -1,0 +1,1 @@
+// What walks of functions over a lent table stand on (walks/README.md). It is all in proofs/.

@@ -1,0 +1,84 @@
+"""A loop in a walk: locals that the turns change, each with its value at the turn's number i.
+
+Before a turn the context is `At i`: the token, t, and the cells. i is a number with what is known of it (`good`): that it is not above the limit comes first.
+"""
+from rows import NUMBER
+from text import bracket
+
+
+class Loop:
+    def __init__(self, limit, good, start, begins, values, next, less, uses):
+        """good: a predicate of numbers, begins with i ≤ limit. start: a proof that 0 is good. values: local: its value at i, as a function; begins: local: a proof that 0 is the value at 0.
+        next: a proof that i + 1 is good, less: that i < limit, both at the end of a turn; a tuple by local (value's proof): what a callee returned is the value at i + 1."""
+        self.limit, self.good, self.start, self.begins, self.values, self.next, self.less, self.uses = limit, good, start, begins, values, next, less, uses
+        self.lines = None
+
+    def held(self, number):
+        from walk import Held
+        return {local: Held(bracket(value(number)), f"(vint w64 {bracket(value(number))})", f"(refl, {fits(number)})", NUMBER) for local, (value, fits, _) in self.values.items()}
+
+    def opening(self):
+        return f"""
+abbrev turn : Body
+turn = inside (inside (inside (after {self.before} (code.function .body))))
+"""
+
+    def enters(self, walk, place, block, rest):
+        """The loop is entered: what a turn does is walked apart."""
+        import mir
+        self.before = rest[1] - 1
+        for local, proof in self.begins.items():
+            walk.emit(f"rewrite ! {walk.cell(local)} (λ (u : ℕ). ‵ (fat fullShare (tyInt w64) l{local} 0 (vint w64 u))) {bracket(proof)} refl $")
+        names = walk.names()
+        size = " len" if walk.sizes else ""
+        walk.emit(f"first ! $ blocks ! $ loops ! 𝓣 Nearer Nearer-wf (At{size} {names}) (turns{size} {names}) (0, {self.start})")
+        self.cells = place.holds_all(self.held("(i .0)"))
+        outer, walk.lines = walk.lines, []
+        opened = walk.go(mir.flat(block[1][1]), self.cells.but(turn=rest), 0)
+        walk.close(opened)
+        self.lines, walk.lines = walk.lines, outer
+
+    def again(self, walk, place):
+        """The end of a turn: what it changed is the value at i + 1, what it made is forgotten."""
+        for local, (value, _, proof) in self.values.items():
+            held = place.held[local]
+            if proof:
+                walk.emit(f"rewrite ! {walk.cell(local)} (λ (u : Val). ‵ (fat fullShare (tyInt w64) l{local} 0 u)) (ap only (uint-tells w64 {held.x} _ {held.g}) ∙ ap (vint w64) {bracket(proof)}) refl $")
+        made = sorted({*place.held, *place.pointers} - set(self.cells.held), reverse=True)
+        forgets = " ".join(f"forget ! {walk.cell(i)} refl $" for i in made)
+        walk.emit(f"{forgets + ' ' if made else ''}again ! Nearer At i (i .0 + 1, {self.next}) (add-one-dec {self.limit} (i .0) {bracket(self.less)})")
+
+    def text(self, walk):
+        names = walk.names()
+        cells = []
+        for i in reversed(range(walk.count)):
+            value = "(vptr b o)" if i == 1 else self.cells.held[i].v if i in self.cells.held else None
+            cells.append(f"‵ (fat fullShare (ty {i}) l{i} 0 {value}) ∷ ‵ (fdies (ty {i}) l{i})" if value else f"‵ (froom (ty {i}) l{i} 0) ∷ ‵ (fdies (ty {i}) l{i})")
+        context = [walk.lent("h"), "‵ (flft κ q)"] if walk.mut else ["‵ (flft κ q)", walk.lent("h")]
+        size = f" (len : length (h .{walk.sizes.field}) ≡ {walk.sizes.count})" if walk.sizes else ""
+        lines = "\n".join("  " + line for line in self.lines)
+        return f"""
+      abbrev Upto : Type 0
+      Upto = (i : ℕ) × {bracket(self.good)} i
+
+      abbrev Nearer : Upto → Upto → Type 0
+      Nearer j i = {self.limit} - j .0 < {self.limit} - i .0
+
+      Nearer-wf : WellFounded Nearer
+      Nearer-wf = InvImage·wf (λ (i : Upto). {self.limit} - i .0) (Nat·lt-wfRel .wf)
+
+      module _{size} ({names} : ℕ) where
+        abbrev At : Upto → List (Item 𝓤)
+        At i =
+            {" ∷ ".join(context)}
+            ∷ {(chr(10) + "            ∷ ").join(cells)}
+            ∷ []
+
+        abbrev Turned : Upto → Out → SProp 𝓤
+        Turned i = afterTurn 𝓤 H (Below 𝓤 H A Nearer At i) (afterBlock 𝓤 H (afterSeq 𝓤 H (Wp 𝓤 H C Λ (En {names}) (after {self.before + 1} (code.function .body)) (atReturn 𝓤 H (En {names}) Post)) (atReturn 𝓤 H (En {names}) Post)))
+
+        turns : (i : Upto) → Sq W (At i) (runs C Λ (En {names}) turn (anyQ (Turned i)))
+        unfolding afterTurn
+        turns i =
+{lines}
+"""
