@@ -1,29 +1,27 @@
--- One event on the parts of the table that it touches
+-- One event on the parts of the table that it touches. What it leaves to who holds the table: to store the parts, to remove the
+-- message of a place that is delivered or dropped, and to put the new messages into the network
 use Prim.Native.Nat.{ℕ}
 use mathlib.Core.List.{List, []}
-use lib.Dec.{eqb}
 use Rattle.rules.specs.declared.Record.{Record}
 use Rattle.rules.specs.declared.Chunk.{Chunk}
 use Rattle.rules.specs.declared.Action.{Action}
 use Rattle.rules.specs.declared.Host.{Host}
-use Rattle.rules.specs.declared.Message.{Message}
 use Rattle.rules.specs.declared.Slot.{Slot}
+use Rattle.rules.specs.declared.Arrived.{Arrived}
 use Rattle.rules.specs.declared.Event.{Event}
 use Rattle.rules.specs.declared.Outcome.{Outcome}
-use Rattle.rules.specs.Chunks.{arrives, runRefusals, ran, recoverRefusals, recovered, takeLeaseRefusals, leaseTaken, giveLeaseRefusals, leaseGiven, overdueRefusals, overdue}
-use Rattle.rules.specs.Codes.{codeOf}
+use Rattle.rules.specs.Built.{operationOf}
+use Rattle.rules.specs.Chunks.{silent, arrives, runRefusals, ran, recoverRefusals, recovered, takeLeaseRefusals, leaseTaken, giveLeaseRefusals, leaseGiven, overdueRefusals, overdue}
+use Rattle.rules.specs.Codes.{Row, codeOf, unlessRefused}
 use Rattle.rules.specs.Hosts.{intakeRefusals, appended, hears, timeoutRefusals, timedOut, workingRefusals, refreshed, stopped}
 use Rattle.rules.specs.Messages.{sortOf, isForChunk}
-use Rattle.rules.specs.Network.{freePlaces, removed, replied, placeRefusals}
+use Rattle.rules.specs.Network.{placeRefusals}
 use Rattle.rules.specs.Words.{if_then_else_, Numbered, _⇒_⨾_, under}
 use Rattle.chunk_alone.specs.declared.Changed.{Changed}
-use Rattle.chunk_alone.specs.Changes.{changed}
-use Rattle.chunk_head.specs.declared.Ran.{Ran}
-use Rattle.chunk_head.specs.Runs.{ranOr}
 use Rattle.host_alone.specs.declared.Moved.{Moved}
-use Rattle.host_alone.specs.Moves.{moved}
 use Rattle.host_attempts.specs.declared.Sent.{Sent}
 use Rattle.host_attempts.specs.Moves.{starts, finishes}
+use Rattle.network_places.specs.Sending.{onlyReply, noMessages}
 use Rattle.event_parts.specs.declared.Parts.{Parts}
 use Rattle.event_parts.specs.declared.Acted.{Acted}
 use Rattle.event_parts.specs.declared.Delivered.{Delivered}
@@ -32,68 +30,65 @@ use Rattle.event_parts.specs.declared.Delivered.{Delivered}
 
 -- "same table, zeros": a refusal leaves them as they were
 abbrev pub unchanged : Parts → (code : ℕ) → Acted
-unchanged p code = record { code = code; host = p .host; chunk = p .chunk; block = p .block; places = p .places; outcome = Outcome.None }
+unchanged p code = record { code = code; host = p .host; chunk = p .chunk; held = p .held; messages = noMessages; outcome = Outcome.None }
 
--- .. where an event changes the host alone, the host and the network, the chunk alone, a record and the network
+-- .. where an event changes the host alone; the host, which sends; the chunk alone; what a message or a run reaches
 
 abbrev pub byHost : Parts → Moved → Acted
-byHost p m = record { code = m .code; host = m .host; chunk = p .chunk; block = p .block; places = p .places; outcome = Outcome.None }
+byHost p m = record { code = m .code; host = m .host; chunk = p .chunk; held = p .held; messages = noMessages; outcome = Outcome.None }
 
 abbrev pub byMessages : Parts → Sent → Acted
-byMessages p s = record { code = s .code; host = s .host; chunk = p .chunk; block = p .block; places = s .places; outcome = s .outcome }
+byMessages p s = record { code = s .code; host = s .host; chunk = p .chunk; held = p .held; messages = s .messages; outcome = s .outcome }
 
 abbrev pub byChunk : Parts → Changed → Acted
-byChunk p c = record { code = c .code; host = p .host; chunk = c .chunk; block = p .block; places = p .places; outcome = Outcome.None }
+byChunk p c = record { code = c .code; host = p .host; chunk = c .chunk; held = p .held; messages = noMessages; outcome = Outcome.None }
 
-abbrev pub byRun : Parts → Ran → Acted
-byRun p r = record { code = r .code; host = p .host; chunk = p .chunk; block = r .block; places = replied (p .places) (r .reply); outcome = Outcome.None }
+abbrev pub byMail : (code : ℕ) → Delivered → Acted
+byMail code d = record { code = code; host = d .host; chunk = d .chunk; held = d .held; messages = onlyReply (d .reply); outcome = Outcome.None }
 
--- .. where a message is removed: the host or the record that it names, and the network
-abbrev pub byMail : Parts → (place : ℕ) → Delivered → Acted
-byMail p place d =
-    let code = codeOf (placeRefusals (p .slot)) in
-    if eqb code 0 then record {
-      code = 0;
-      host = d .host;
-      chunk = p .chunk;
-      block = d .block;
-      places = replied (removed (p .places) place) (d .reply);
-      outcome = Outcome.None;
-    } else unchanged p code
+-- ---- whom a message or a run reaches: the chunk, or the host (nobody, where that is as it was)
 
--- ---- a place's message at the host and the chunk that it names: a request is the chunk's, a reply the host's
+abbrev pub toChunk : Host → Arrived → Delivered
+toChunk h a = record { host = h; chunk = a .chunk; held = a .held; reply = a .reply }
 
-abbrev pub toChunk : (blocks : ℕ) → Host → Chunk → Record → Message → Delivered
-toChunk blocks h c r m = record { host = h; block = arrives blocks c r m .block; reply = arrives blocks c r m .reply }
+abbrev pub toHost : Host → Chunk → Record → Delivered
+toHost h c r = record { host = h; chunk = c; held = r; reply = Slot.Empty }
 
-abbrev pub toHost : Host → Record → Message → Delivered
-toHost h r m = record { host = hears h m; block = r; reply = Slot.Empty }
-
-abbrev pub toNobody : Host → Record → Delivered
-toNobody h r = record { host = h; block = r; reply = Slot.Empty }
-
+-- a request is the chunk's, a reply the host's; an empty place has nothing for anybody
 abbrev pub delivered : (blocks : ℕ) → Host → Chunk → Record → Slot → Delivered
-delivered blocks h c r Slot.Empty = toNobody h r
-delivered blocks h c r (Slot.Full m) = if isForChunk (sortOf m) then toChunk blocks h c r m else toHost h r m
+delivered blocks h c r Slot.Empty = toHost h c r
+delivered blocks h c r (Slot.Full m) = if isForChunk (sortOf m) then toChunk h (arrives blocks c r m) else toHost (hears h m) c r
 
 -- ---- the events, by their numbers
 
+-- the host's, or the chunk's, own
+abbrev pub moves : (Event → Parts → List Row) → (Event → Parts → Host) → Event → Parts → Acted
+moves rows new e p = byHost p (record { code = codeOf (rows e p); host = unlessRefused (rows e p) (p .host) (new e p) })
+
+abbrev pub changes : (Event → Parts → List Row) → (Event → Parts → Chunk) → Event → Parts → Acted
+changes rows new e p = byChunk p (record { code = codeOf (rows e p); chunk = unlessRefused (rows e p) (p .chunk) (new e p) })
+
+abbrev pub runs : Event → Parts → Acted
+runs e p =
+    let rows = runRefusals (p .chunk .state) (p .held .waiting) (p .free) in
+    byMail (codeOf rows) (toChunk (p .host) (unlessRefused rows (silent (p .chunk) (p .held)) (ran (e .a) (e .b) (p .chunk) (p .held))))
+
 abbrev pub acts : List (Numbered (Event → Parts → Acted))
 acts =
-    1 ⇒ (λ e p. let h = p .host in byHost p (moved (intakeRefusals h) h (appended h (record { block = e .b; action = Action.Read })))) ⨾
-    2 ⇒ (λ e p. let h = p .host in byHost p (moved (intakeRefusals h) h (appended h (record { block = e .b; action = Action.Write (e .c) })))) ⨾
-    3 ⇒ (λ e p. byMessages p (starts (e .a) (e .b) (e .c) (p .set) (p .host) (p .places))) ⨾
-    4 ⇒ (λ e p. byMail p (e .a) (delivered (p .blocks) (p .host) (p .chunk) (p .block) (p .slot))) ⨾
-    5 ⇒ (λ e p. byMail p (e .a) (toNobody (p .host) (p .block))) ⨾
-    6 ⇒ (λ e p. byMessages p (finishes (e .a) (p .set) (p .host) (p .places))) ⨾
-    7 ⇒ (λ e p. let h = p .host in byHost p (moved (timeoutRefusals h) h (timedOut h))) ⨾
-    8 ⇒ (λ e p. let h = p .host in byHost p (moved (workingRefusals h) h (refreshed h (p .epoch)))) ⨾
-    9 ⇒ (λ e p. let r = p .block in byRun p (ranOr (runRefusals (p .chunk .state) (r .waiting) (freePlaces (p .places))) r (ran (e .a) (e .b) r))) ⨾
-    10 ⇒ (λ e p. let h = p .host in byHost p (moved (workingRefusals h) h (stopped h))) ⨾
-    12 ⇒ (λ e p. let c = p .chunk in byChunk p (changed (recoverRefusals (c .state)) c (recovered c))) ⨾
-    13 ⇒ (λ e p. let c = p .chunk in byChunk p (changed (takeLeaseRefusals (c .state)) c (leaseTaken c))) ⨾
-    14 ⇒ (λ e p. let c = p .chunk in byChunk p (changed (giveLeaseRefusals (c .state) (c .lost)) c (leaseGiven c))) ⨾
-    16 ⇒ (λ e p. let c = p .chunk in byChunk p (changed (overdueRefusals (c .state) (p .block .waiting) (e .c) (p .age)) c (overdue c (e .b)))) ⨾
+    1 ⇒ moves (λ e p. intakeRefusals (p .host)) (λ e p. appended (p .host) (operationOf (e .b) Action.Read)) ⨾
+    2 ⇒ moves (λ e p. intakeRefusals (p .host)) (λ e p. appended (p .host) (operationOf (e .b) (Action.Write (e .c)))) ⨾
+    3 ⇒ (λ e p. byMessages p (starts (e .a) (e .b) (e .c) (p .set) (p .host) (p .free))) ⨾
+    4 ⇒ (λ e p. byMail (codeOf (placeRefusals (p .slot))) (delivered (p .creation .blocks) (p .host) (p .chunk) (p .held) (p .slot))) ⨾
+    5 ⇒ (λ e p. byMail (codeOf (placeRefusals (p .slot))) (toHost (p .host) (p .chunk) (p .held))) ⨾
+    6 ⇒ (λ e p. byMessages p (finishes (e .a) (p .set) (p .host) (p .free))) ⨾
+    7 ⇒ moves (λ e p. timeoutRefusals (p .host)) (λ e p. timedOut (p .host)) ⨾
+    8 ⇒ moves (λ e p. workingRefusals (p .host)) (λ e p. refreshed (p .host) (p .epoch)) ⨾
+    9 ⇒ runs ⨾
+    10 ⇒ moves (λ e p. workingRefusals (p .host)) (λ e p. stopped (p .host)) ⨾
+    12 ⇒ changes (λ e p. recoverRefusals (p .chunk .state)) (λ e p. recovered (p .chunk)) ⨾
+    13 ⇒ changes (λ e p. takeLeaseRefusals (p .chunk .state)) (λ e p. leaseTaken (p .chunk)) ⨾
+    14 ⇒ changes (λ e p. giveLeaseRefusals (p .chunk .state) (p .chunk .lost)) (λ e p. leaseGiven (p .chunk)) ⨾
+    16 ⇒ changes (λ e p. overdueRefusals (p .chunk .state) (p .held .waiting) (e .c) (p .creation .age)) (λ e p. overdue (p .chunk) (e .b)) ⨾
     []
 
 -- "unknown kind" here is one that is not done on parts too: 11 fail and 15 epoch change

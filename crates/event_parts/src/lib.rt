@@ -1,49 +1,51 @@
-// One event on the parts of the table that it touches: a host, a chunk, a record, the network. Failure and epoch change touch more.
+// One event on the parts of the table that it touches: a host, a chunk, a record, and the network as its place's slot, how many
+// places are free, and new messages. Failure and epoch change touch more.
 ghost use mathlib.Core.Path.{_≡_};
-ghost use Rattle.event_parts.specs.Acts.{unchanged, byHost, byMessages, byChunk, byRun, byMail, toNobody, delivered, acted};
+ghost use Rattle.event_parts.specs.Acts.{unchanged, byHost, byMessages, byChunk, byMail, toChunk, toHost, delivered, acted};
 use chunk_alone::Changed;
-use chunk_head::Ran;
 use host_alone::Moved;
 use host_attempts::Sent;
 use rules::Action;
+use rules::Arrived;
 use rules::Chunk;
+use rules::Creation;
 use rules::Epoch;
 use rules::Event;
 use rules::Host;
-use rules::Operation;
 use rules::Outcome;
 use rules::Place;
 use rules::Record;
 use rules::Set;
 use rules::Slot;
 
-// What an event looks at: numbers of the store, the place's slot, and the parts.
+// What an event looks at: what the store was created with, its epoch, the place's slot, the parts, how many places are free.
 pub struct Parts {
-    pub blocks: u64,
-    pub age: u64,
+    pub creation: Creation,
     pub epoch: Epoch,
     pub slot: Slot,
     pub host: Host,
     pub chunk: Chunk,
     pub set: Set,
-    pub block: Record,
-    pub places: [Place; rules::PLACES],
+    pub held: Record,
+    pub free: u64,
 }
 
-// What it leaves: 0 and the parts after it, or a refusal's code and the parts as they were.
+// What it leaves: 0, the parts after it and new messages, at most one a chunk; or a refusal's code, the parts as they were and no
+// message. (A delivered or dropped message is not removed here.)
 pub struct Acted {
     pub code: u64,
     pub host: Host,
     pub chunk: Chunk,
-    pub block: Record,
-    pub places: [Place; rules::PLACES],
+    pub held: Record,
+    pub messages: [Place; rules::CHUNKS],
     pub outcome: Outcome,
 }
 
-// What a delivery leaves of the host and the record that the message names, and the reply, if any.
+// What a message leaves of the host, the chunk and the record that it names, and the reply, if any.
 struct Delivered {
     host: Host,
-    block: Record,
+    chunk: Chunk,
+    held: Record,
     reply: Slot,
 }
 
@@ -55,14 +57,14 @@ fn unchanged(p: Parts, code: u64) -> Acted
 {
     let host = p.host;
     let chunk = p.chunk;
-    let block = p.block;
-    let places = p.places;
+    let held = p.held;
+    let none = network_places::only(Slot::Empty);
     Acted {
         code: code,
         host: host,
         chunk: chunk,
-        block: block,
-        places: places,
+        held: held,
+        messages: none,
         outcome: Outcome::None,
     }
 }
@@ -77,21 +79,21 @@ fn by_host(p: Parts, m: Moved) -> Acted
     out
 }
 
-// The host and the network change, and there may be an outcome.
+// The host changes and sends, and there may be an outcome.
 fn by_messages(p: Parts, s: Sent) -> Acted
     ensures { λ r. ⌜ r ≡ byMessages p s ⌝ }
 {
     let host = s.host;
-    let places = s.places;
+    let messages = s.messages;
     let outcome = s.outcome;
     let chunk = p.chunk;
-    let block = p.block;
+    let held = p.held;
     Acted {
         code: s.code,
         host: host,
         chunk: chunk,
-        block: block,
-        places: places,
+        held: held,
+        messages: messages,
         outcome: outcome,
     }
 }
@@ -106,78 +108,65 @@ fn by_chunk(p: Parts, c: Changed) -> Acted
     out
 }
 
-// A record changes, and the sender may have a reply.
-fn by_run(p: Parts, r: Ran) -> Acted
-    ensures { λ a. ⌜ a ≡ byRun p r ⌝ }
+// What a message or a run reaches changes, and there may be a reply.
+fn by_mail(code: u64, d: Delivered) -> Acted
+    ensures { λ r. ⌜ r ≡ byMail code d ⌝ }
 {
-    let block = r.block;
-    let reply = r.reply;
-    let before = p.places;
-    let places = network_places::reply(before, reply);
-    let mut out = unchanged(p, r.code);
-    out.block = block;
-    out.places = places;
-    out
-}
-
-// A message is removed: the host or the record that it names changes, and the sender may have a reply.
-fn by_mail(p: Parts, place: u64, d: Delivered) -> Acted
-    ensures { λ r. ⌜ r ≡ byMail p place d ⌝ }
-{
-    let slot = p.slot;
-    let code = network_places::place_code(slot);
-    if code != 0 {
-        return unchanged(p, code);
-    }
     let host = d.host;
-    let block = d.block;
+    let chunk = d.chunk;
+    let held = d.held;
     let reply = d.reply;
-    let before = p.places;
-    let left = network_places::remove(before, place);
-    let places = network_places::reply(left, reply);
-    let mut out = unchanged(p, 0);
-    out.host = host;
-    out.block = block;
-    out.places = places;
-    out
+    let messages = network_places::only(reply);
+    Acted {
+        code: code,
+        host: host,
+        chunk: chunk,
+        held: held,
+        messages: messages,
+        outcome: Outcome::None,
+    }
 }
 
-// ---- whom a message reaches
+// ---- whom a message or a run reaches
 
-// A dropped one, nobody.
-fn drop(h: Host, r: Record) -> Delivered
-    ensures { λ d. ⌜ d ≡ toNobody h r ⌝ }
+// The chunk, with its record: the host stays as it is.
+fn to_chunk(h: Host, a: Arrived) -> Delivered
+    ensures { λ d. ⌜ d ≡ toChunk h a ⌝ }
+{
+    let chunk = a.chunk;
+    let held = a.held;
+    let reply = a.reply;
+    Delivered {
+        host: h,
+        chunk: chunk,
+        held: held,
+        reply: reply,
+    }
+}
+
+// The host, or nobody where it is as it was.
+fn to_host(h: Host, c: Chunk, r: Record) -> Delivered
+    ensures { λ d. ⌜ d ≡ toHost h c r ⌝ }
 {
     Delivered {
         host: h,
-        block: r,
+        chunk: c,
+        held: r,
         reply: Slot::Empty,
     }
 }
 
-// A request is the chunk's, a reply the host's.
+// A request is the chunk's, a reply the host's. An empty place has nothing for anybody.
 fn deliver(blocks: u64, h: Host, c: Chunk, r: Record, s: Slot) -> Delivered
     ensures { λ d. ⌜ d ≡ delivered blocks h c r s ⌝ }
 {
     match s {
-        Slot::Empty => drop(h, r),
+        Slot::Empty => to_host(h, c, r),
         Slot::Full(m) => {
             if network_messages::is_for_chunk(m) {
-                let a = chunk_arrival::arrive(blocks, c, r, m);
-                let block = a.block;
-                let reply = a.reply;
-                Delivered {
-                    host: h,
-                    block: block,
-                    reply: reply,
-                }
+                to_chunk(h, chunk_arrival::arrive(blocks, c, r, m))
             } else {
-                let new = host_replies::at_host(h, m);
-                Delivered {
-                    host: new,
-                    block: r,
-                    reply: Slot::Empty,
-                }
+                to_host(host_replies::at_host(h, m), c, r)
             }
         }
     }
@@ -191,49 +180,35 @@ pub fn act(e: Event, p: Parts) -> Acted
 {
     let h = p.host;
     let c = p.chunk;
-    let r = p.block;
+    let r = p.held;
     let set = p.set;
-    let places = p.places;
+    let slot = p.slot;
     let kind = e.kind;
     match kind {
         1 => by_host(
             p,
-            host_alone::intake(
-                h,
-                Operation {
-                    block: e.b,
-                    action: Action::Read,
-                },
-            ),
+            host_alone::intake(h, table_zero::operation_of(e.b, Action::Read)),
         ),
         2 => by_host(
             p,
-            host_alone::intake(
-                h,
-                Operation {
-                    block: e.b,
-                    action: Action::Write(e.c),
-                },
-            ),
+            host_alone::intake(h, table_zero::operation_of(e.b, Action::Write(e.c))),
         ),
-        3 => by_messages(p, host_attempts::start(e.a, e.b, e.c, set, h, places)),
-        4 => {
-            let slot = p.slot;
-            by_mail(p, e.a, deliver(p.blocks, h, c, r, slot))
-        }
-        5 => by_mail(p, e.a, drop(h, r)),
-        6 => by_messages(p, host_attempts::finish(e.a, set, h, places)),
+        3 => by_messages(p, host_attempts::start(e.a, e.b, e.c, set, h, p.free)),
+        4 => by_mail(
+            network_places::place_code(slot),
+            deliver(p.creation.blocks, h, c, r, slot),
+        ),
+        5 => by_mail(network_places::place_code(slot), to_host(h, c, r)),
+        6 => by_messages(p, host_attempts::finish(e.a, set, h, p.free)),
         7 => by_host(p, host_alone::time_out(h)),
         8 => {
             let epoch = p.epoch;
             by_host(p, host_alone::refresh(h, epoch))
         }
         9 => {
-            let state = c.state;
-            by_run(
-                p,
-                chunk_head::run(e.a, e.b, state, r, network_places::free_places(places)),
-            )
+            let ran = chunk_head::run(e.a, e.b, c, r, p.free);
+            let left = ran.left;
+            by_mail(ran.code, to_chunk(h, left))
         }
         10 => by_host(p, host_alone::stop(h)),
         12 => by_chunk(p, chunk_alone::recover(c)),
@@ -241,8 +216,8 @@ pub fn act(e: Event, p: Parts) -> Acted
         14 => by_chunk(p, chunk_alone::give_lease(c)),
         16 => {
             let w = r.waiting;
-            by_chunk(p, chunk_head::overdue(c, e.b, w, e.c, p.age))
+            by_chunk(p, chunk_head::overdue(c, e.b, w, e.c, p.creation.age))
         }
-        _ => unchanged(p, 1),
+        _ => unchanged(p, rules::OUT_OF_RANGE),
     }
 }

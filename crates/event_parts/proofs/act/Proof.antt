@@ -7,11 +7,17 @@ use Rattle.event_parts.proofs.Laws.{no-act}
 use Rattle.event_parts.proofs.act.Statement.{statement}
 use Rattle.event_parts.proofs.act.Tie as tie
 
+operation-of-requires : tie.Need-operation-of-requires
+operation-of-requires c κs = search needs
+
 intake-requires : tie.Need-intake-requires
 intake-requires c κs = search needs
 
 by-host-requires : tie.Need-by-host-requires
 by-host-requires c κs = search needs
+
+operation-of-requires-2 : tie.Need-operation-of-requires-2
+operation-of-requires-2 c κs = search needs
 
 intake-requires-2 : tie.Need-intake-requires-2
 intake-requires-2 c κs = search needs
@@ -25,14 +31,20 @@ start-requires c κs = search needs
 by-messages-requires : tie.Need-by-messages-requires
 by-messages-requires c κs = search needs
 
+place-code-requires : tie.Need-place-code-requires
+place-code-requires c κs = search needs
+
 deliver-requires : tie.Need-deliver-requires
 deliver-requires c κs = search needs
 
 by-mail-requires : tie.Need-by-mail-requires
 by-mail-requires c κs = search needs
 
-drop-requires : tie.Need-drop-requires
-drop-requires c κs = search needs
+place-code-requires-2 : tie.Need-place-code-requires-2
+place-code-requires-2 c κs = search needs
+
+to-host-requires : tie.Need-to-host-requires
+to-host-requires c κs = search needs
 
 by-mail-requires-2 : tie.Need-by-mail-requires-2
 by-mail-requires-2 c κs = search needs
@@ -55,14 +67,14 @@ refresh-requires c κs = search needs
 by-host-requires-4 : tie.Need-by-host-requires-4
 by-host-requires-4 c κs = search needs
 
-free-places-requires : tie.Need-free-places-requires
-free-places-requires c κs = search needs
-
 run-requires : tie.Need-run-requires
 run-requires c κs = search needs
 
-by-run-requires : tie.Need-by-run-requires
-by-run-requires c κs = search needs
+to-chunk-requires : tie.Need-to-chunk-requires
+to-chunk-requires c κs = search needs
+
+by-mail-requires-3 : tie.Need-by-mail-requires-3
+by-mail-requires-3 c κs = search needs
 
 stop-requires : tie.Need-stop-requires
 stop-requires c κs = search needs
@@ -99,11 +111,11 @@ unchanged-requires c κs = search needs
 
 returns : tie.Need-returns
 unfolding acted place
-returns c = c .by-host .ensures ∙ rw (c .before .before .match .keys1, c .before .intake .ensures) refl
+returns c = c .by-host .ensures ∙ rw (c .before .before .before .match .keys1, c .before .intake .ensures, c .before .before .operation-of .ensures) refl
 
 returns-2 : tie.Need-returns-2
 unfolding acted place
-returns-2 c = c .by-host2 .ensures ∙ rw (c .before .before .match .keys2, c .before .intake2 .ensures) refl
+returns-2 c = c .by-host2 .ensures ∙ rw (c .before .before .before .match .keys2, c .before .intake2 .ensures, c .before .before .operation-of2 .ensures) refl
 
 returns-3 : tie.Need-returns-3
 unfolding acted place
@@ -111,11 +123,11 @@ returns-3 c = c .by-messages .ensures ∙ rw (c .before .before .match .keys3, c
 
 returns-4 : tie.Need-returns-4
 unfolding acted place
-returns-4 c = c .by-mail .ensures ∙ rw (c .before .before .match .keys4, c .before .deliver .ensures) refl
+returns-4 c = c .by-mail .ensures ∙ rw (c .before .before .before .match .keys4, c .before .before .place-code .ensures, c .before .deliver .ensures) refl
 
 returns-5 : tie.Need-returns-5
 unfolding acted place
-returns-5 c = c .by-mail2 .ensures ∙ rw (c .before .before .match .keys5, c .before .drop .ensures) refl
+returns-5 c = c .by-mail2 .ensures ∙ rw (c .before .before .before .match .keys5, c .before .before .place-code2 .ensures, c .before .to-host .ensures) refl
 
 returns-6 : tie.Need-returns-6
 unfolding acted place
@@ -131,7 +143,7 @@ returns-8 c = c .by-host4 .ensures ∙ rw (c .before .before .before .match .key
 
 returns-9 : tie.Need-returns-9
 unfolding acted place
-returns-9 c = c .by-run .ensures ∙ rw (c .before .before .before .match .keys9, c .before .run .ensures, c .before .before .free-places .ensures) refl
+returns-9 c = c .by-mail3 .ensures ∙ rw (c .before .before .before .before .match .keys9, c .before .to-chunk .ensures, c .before .before .before .run .ensures) refl
 
 returns-10 : tie.Need-returns-10
 unfolding acted place
@@ -155,22 +167,26 @@ returns-14 c = c .by-chunk4 .ensures ∙ rw (c .before .before .before .match .k
 
 returns-15 : tie.Need-returns-15
 returns-15 c =
-    let s = c .before .before .before .before .before .before .before in
+    let s = c .before .before .before .before .before .before in
     c .unchanged .ensures ∙ no-act (s .args .e) (s .args .p) (c .before .match .rest)
 
 pub act-spec : {M : Type 1} → statement M
 act-spec =
     tie.close
     (tie.spec
+    operation-of-requires
     intake-requires
     by-host-requires
+    operation-of-requires-2
     intake-requires-2
     by-host-requires-2
     start-requires
     by-messages-requires
+    place-code-requires
     deliver-requires
     by-mail-requires
-    drop-requires
+    place-code-requires-2
+    to-host-requires
     by-mail-requires-2
     finish-requires
     by-messages-requires-2
@@ -178,9 +194,9 @@ act-spec =
     by-host-requires-3
     refresh-requires
     by-host-requires-4
-    free-places-requires
     run-requires
-    by-run-requires
+    to-chunk-requires
+    by-mail-requires-3
     stop-requires
     by-host-requires-5
     recover-requires
