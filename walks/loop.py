@@ -1,21 +1,27 @@
 """A loop in a walk: locals that the turns change, each with its value at the turn's number i.
 
-Before a turn the context is `At i`: the token, t, and the cells. i is a number with what is known of it (`good`): that it is not above the limit comes first.
+Before a turn the context is `At i`: the token, t, and the cells. i is a number with what is known of it (good): that it is not above the limit comes first.
 """
-from rows import NUMBER
+import mir
 from text import bracket
 
 
-class Loop:
-    def __init__(self, limit, good, start, begins, values, next, less, uses):
-        """good: a predicate of numbers, begins with i ≤ limit. start: a proof that 0 is good. values: local: its value at i, as a function; begins: local: a proof that 0 is the value at 0.
-        next: a proof that i + 1 is good, less: that i < limit, both at the end of a turn; a tuple by local (value's proof): what a callee returned is the value at i + 1."""
-        self.limit, self.good, self.start, self.begins, self.values, self.next, self.less, self.uses = limit, good, start, begins, values, next, less, uses
-        self.lines = None
+class Changed:
+    """A local that the turns change. value(n): what it is at n; known: that its machine's value Is that, at i; begins: a proof that what the loop is entered with is the value at 0, next: that what a turn left in it is the value at i + 1 (None: by computation)."""
 
-    def held(self, number):
-        from walk import Held
-        return {local: Held(bracket(value(number)), f"(vint w64 {bracket(value(number))})", f"(refl, {fits(number)})", NUMBER) for local, (value, fits, _) in self.values.items()}
+    def __init__(self, row, value, known, begins=None, next=None):
+        self.row, self.value, self.known, self.begins, self.next = row, value, known, begins, next
+
+
+class Loop:
+    def __init__(self, limit, good, start, changed, next, less, uses):
+        """good: a predicate of numbers that begins with i ≤ limit. start: a proof that 0 is good. changed: local: Changed. next: a proof that i + 1 is good, less: that i < limit, both at the end of a turn."""
+        self.limit, self.good, self.start, self.changed, self.next, self.less, self.uses = limit, good, start, changed, next, less, uses
+
+    def held(self, made):
+        """What the changed locals hold at i; made(x, v, g, row) makes a Held."""
+        values = {local: bracket(c.value("(i .0)")) for local, c in self.changed.items()}
+        return {local: made(values[local], c.row.value(values[local]), c.known, c.row) for local, c in self.changed.items()}
 
     def opening(self):
         return f"""
@@ -23,16 +29,15 @@ abbrev turn : Body
 turn = inside (inside (inside (after {self.before} (code.function .body))))
 """
 
-    def enters(self, walk, place, block, rest):
+    def enters(self, walk, place, block, rest, made):
         """The loop is entered: what a turn does is walked apart."""
-        import mir
         self.before = rest[1] - 1
-        for local, proof in self.begins.items():
-            walk.emit(f"rewrite ! {walk.cell(local)} (λ (u : ℕ). ‵ (fat fullShare (tyInt w64) l{local} 0 (vint w64 u))) {bracket(proof)} refl $")
-        names = walk.names()
-        size = " len" if walk.sizes else ""
-        walk.emit(f"first ! $ blocks ! $ loops ! 𝓣 Nearer Nearer-wf (At{size} {names}) (turns{size} {names}) (0, {self.start})")
-        self.cells = place.holds_all(self.held("(i .0)"))
+        for local, c in self.changed.items():
+            if c.begins:
+                walk.emit(f"rewrite ! {walk.cell(local)} (λ (u : {c.row.denotation}). ‵ (fat fullShare {bracket(c.row.mir)} l{local} 0 {c.row.value('u')})) {bracket(c.begins)} refl $")
+        at = f"len {walk.names()}" if walk.sizes else walk.names()
+        walk.emit(f"first ! $ blocks ! $ loops ! 𝓣 Nearer Nearer-wf (At {at}) (turns {at}) (0, {self.start})")
+        self.cells = place.holds_all(self.held(made))
         outer, walk.lines = walk.lines, []
         opened = walk.go(mir.flat(block[1][1]), self.cells.but(turn=rest), 0)
         walk.close(opened)
@@ -40,13 +45,13 @@ turn = inside (inside (inside (after {self.before} (code.function .body))))
 
     def again(self, walk, place):
         """The end of a turn: what it changed is the value at i + 1, what it made is forgotten."""
-        for local, (value, _, proof) in self.values.items():
-            held = place.held[local]
-            if proof:
-                walk.emit(f"rewrite ! {walk.cell(local)} (λ (u : Val). ‵ (fat fullShare (tyInt w64) l{local} 0 u)) (ap only (uint-tells w64 {held.x} _ {held.g}) ∙ ap (vint w64) {bracket(proof)}) refl $")
+        for local, c in self.changed.items():
+            if c.next:
+                held = place.held[local]
+                walk.emit(f"rewrite ! {walk.cell(local)} (λ (u : Val). ‵ (fat fullShare {bracket(c.row.mir)} l{local} 0 u)) (ap only ({c.row.tells} {held.x} _ {held.g}) ∙ ap {bracket(c.row.machine)} {bracket(c.next)}) refl $")
         made = sorted({*place.held, *place.pointers} - set(self.cells.held), reverse=True)
-        forgets = " ".join(f"forget ! {walk.cell(i)} refl $" for i in made)
-        walk.emit(f"{forgets + ' ' if made else ''}again ! Nearer At i (i .0 + 1, {self.next}) (add-one-dec {self.limit} (i .0) {bracket(self.less)})")
+        forgets = "".join(f"forget ! {walk.cell(i)} refl $ " for i in made)
+        walk.emit(f"{forgets}again ! Nearer At i (i .0 + 1, {self.next}) (add-one-dec {self.limit} (i .0) {bracket(self.less)})")
 
     def text(self, walk):
         names = walk.names()

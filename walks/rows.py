@@ -2,8 +2,13 @@
 
 
 class Row:
-    def __init__(self, denotation, row, mir, makes, typed, vals, tells, crate=None):
-        self.denotation, self.row, self.mir, self.makes, self.typed, self.vals, self.tells, self.crate = denotation, row, mir, makes, typed, vals, tells, crate
+    """machine: what makes the machine's value of a denotation, where that is one word."""
+
+    def __init__(self, denotation, row, mir, makes, typed, vals, tells, machine=None):
+        self.denotation, self.row, self.mir, self.makes, self.typed, self.vals, self.tells, self.machine = denotation, row, mir, makes, typed, vals, tells, machine
+
+    def value(self, x):
+        return f"({self.machine} {x})"
 
     def own(self, x, g):
         """What x owns is had for nothing, since g says that it Is."""
@@ -13,19 +18,19 @@ class Row:
         return f"{self.row} (Is {self.row}) (shows 𝓤 H A {self.row}) {x} ({v} ∷ [])"
 
 
-NUMBER = Row("ℕ", "usize", "tyInt w64", "uint-makes 𝓤 H A W w64", "uint-lawful 𝓤 H A W w64 .typed", "uint-vals w64", "uint-tells w64")
-BOOL = Row("Bool", "Boolean", "tyBool", "bool-makes 𝓤 H A W", "bool-lawful 𝓤 H A W .typed", "bool-vals", "bool-tells")
+NUMBER = Row("ℕ", "usize", "tyInt w64", "uint-makes 𝓤 H A W w64", "uint-lawful 𝓤 H A W w64 .typed", "uint-vals w64", "uint-tells w64", "vint w64")
+BOOL = Row("Bool", "Boolean", "tyBool", "bool-makes 𝓤 H A W", "bool-lawful 𝓤 H A W .typed", "bool-vals", "bool-tells", "vbool")
 NOTHING = Row("Unit {0}", "Nothing", "tyUnit", "nothing-makes 𝓤 H A W", "nothing-lawful 𝓤 H A W .typed", "nothing-vals", "nothing-tells")
 
 
-def struct(crate, T):
+def struct(T):
     return Row(T, f"{T}R.the-row", f"{T}L.mir", f"LL.makes {T}R.the-type {T}L.the-plain 𝓤 H A", f"LL.lawful {T}R.the-type {T}L.the-laws 𝓤 H A W .typed",
-               f"LL.vals {T}R.the-type {T}L.the-laws", f"LL.tells {T}R.the-type {T}L.the-laws", crate)
+               f"LL.vals {T}R.the-type {T}L.the-laws", f"LL.tells {T}R.the-type {T}L.the-laws")
 
 
-def enum(crate, T):
+def enum(T):
     return Row(T, f"{T}R.the-row", f"{T}L.mir", f"EL.makes {T}R.the-type {T}L.the-plain 𝓤 H A", f"EL.lawful {T}R.the-type {T}L.the-laws 𝓤 H A W tt .typed",
-               f"EL.vals {T}R.the-type {T}L.the-laws", f"EL.tells {T}R.the-type {T}L.the-laws", crate)
+               f"EL.vals {T}R.the-type {T}L.the-laws", f"EL.tells {T}R.the-type {T}L.the-laws")
 
 
 ENUMS = {"rules::Slot"}
@@ -34,7 +39,7 @@ MADE = {"u64": NUMBER, "tyBool": BOOL, "tyUnit": NOTHING}
 
 def row(kind):
     if kind not in MADE:
-        MADE[kind] = (enum if kind in ENUMS else struct)(*kind.split("::"))
+        MADE[kind] = (enum if kind in ENUMS else struct)(kind.split("::")[1])
     return MADE[kind]
 
 

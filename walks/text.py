@@ -60,7 +60,7 @@ ghost.Atoms: Atoms sem
 contract.Monad: Fun fact
 contract.Running: givenOf tables tablesOf
 types.Kit: Given Item ‵ raw given _⊛_ some later ⋆ runs anyQ atRet Sq _$_ _∵_ ! qed by move keep drop use1 use2 use3 split join pick learn rewrite fsplit fsplit3 fjoin fjoin3 feqI suffices frame await done
-types.Run: look look-raw store store-raw init forget stop hop fld from load lit true-lit unit-lit of-opd bin and-then no-more addr assigns assigns-last first skips jumps blocks branches land returns returns-within enter alloc1 alloc0 params1 pass1 pass0 free1 free0 exec Below again loops
+types.Run: look look-raw store store-raw init forget stop hop fld from load lit true-lit false-lit unit-lit of-opd bin and-then no-more addr assigns assigns-last first skips jumps blocks branches land returns returns-within enter alloc1 alloc0 params1 pass1 pass0 free1 free0 exec Below again loops
 types.Tokens: lft-new lft-end shr-bor-dup shr-bor-open obor-close
 types.Mut: open-ref close-ref
 sound.WpLaws: FmC fmOf WpFn-mono

@@ -11,10 +11,10 @@ from text import AT, BASE, GIVEN, HERE, IN, LIBRARY, RUN, bracket, imports, nest
 
 
 class Held:
-    """A local's value: its denotation x, the machine's value v (of a test none: it is found), a proof g that v Is x, and its type."""
+    """A local's value: its denotation x, the machine's value v, a proof g that v Is x, and its type. found: the prover finds v, of a literal or a test: then an edit of it fails where it matters."""
 
-    def __init__(self, x, v, g, row):
-        self.x, self.v, self.g, self.row = x, v, g, row
+    def __init__(self, x, v, g, row, found=False):
+        self.x, self.v, self.g, self.row, self.found = x, v, g, row, found
 
 
 class Place:
@@ -63,7 +63,7 @@ class Walk:
 
     def read(self, place, local, base=2):
         """The operand that is a local."""
-        if local not in place.held or place.held[local].v is None:
+        if local not in place.held or place.held[local].found:
             return f"(load ! {HERE} (look ! {self.cell(local, base)} refl))"
         held = place.held[local]
         return f"(load ! {HERE} (look ! {self.cell(local, base)} {{q = fullShare}} {{τ = {held.row.mir}}} {{b = l{local}}} {{o = 0}} {{v = {held.v}}} refl))"
@@ -111,7 +111,7 @@ class Walk:
                 self.resume(place.but(rest=(statements, at)))
                 return opened + self.go(statements, place, at)
             if statement[0] == "block":
-                self.loop.enters(self, place, statement, (statements[i + 1:], at + i + 1))
+                self.loop.enters(self, place, statement, (statements[i + 1:], at + i + 1), Held)
                 return opened
             if statement[0] == "if":
                 return opened + self.test(statement, place, statements[i + 1:], None if at is None else at + i + 1)
@@ -151,9 +151,9 @@ class Walk:
     def test(self, statement, place, rest, at):
         local = mir.local(statement[1])[0]
         held = place.held[local]
-        if held.v and not held.v.startswith("(vbool"):
+        if not held.found:
             self.emit(f"rewrite ! {self.cell(local)} (λ (u : Val). ‵ (fat fullShare tyBool l{local} 0 u)) (ap only (bool-tells {held.x} _ {held.g})) refl $")
-            place = place.holds(local, Held(held.x, f"(vbool {held.x})", held.g, BOOL))
+            place = place.holds(local, Held(held.x, BOOL.value(held.x), held.g, BOOL))
         inside = place.but(within=True, rest=(rest, at))
         self.emit(f"first ! $ branches ! {self.read(place, local)}")
         for node, name in ((statement[2], "held"), (statement[3], "failed")):
@@ -181,9 +181,12 @@ class Walk:
                 had = local in place.held
                 self.emit(f"assigns ! (of-opd ! (unit-lit !)) {HERE} ({'store' if had else 'init'} ! {self.cell(local)} refl (tt, tt)) $")
                 return place.holds(local, Held("tt", "vunit", "tt", NOTHING)), 0
+            if operand in ("true", "false"):
+                self.emit(f"assigns ! (of-opd ! ({operand}-lit !)) {HERE} ({'store' if local in place.held else 'init'} ! {self.cell(local)} refl (tt, tt)) $")
+                return place.holds(local, Held(operand, BOOL.value(operand), "refl", BOOL, True)), 0
             if operand[0] == "int":
-                held = Held(operand[2], f"(vint w64 {operand[2]})", "(refl, lit< tt)", NUMBER)
-                return self.assign(place, local, "(of-opd ! (lit ! tt))", held, last), 0
+                self.emit(f"assigns ! (of-opd ! (lit ! tt)) {HERE} ({'store' if local in place.held else 'init'} ! {self.cell(local)} refl (tt, record {{ fits = lit< tt }})) $")
+                return place.holds(local, Held(operand[2], NUMBER.value(operand[2]), "(refl, lit< tt)", NUMBER, True)), 0
             source, through = mir.local(operand)
             if through:
                 return self.part_read(place, local, source, through)
@@ -195,12 +198,12 @@ class Walk:
             x, y = self.number(place, value[2]), self.number(place, value[3])
             self.compared = {**self.compared, local: x}
             self.emit(f"assigns ! (bin ! {self.operand(place, value[2])} {self.operand(place, value[3])} tt) {HERE} (init ! {self.cell(local)} refl (tt, tt)) $")
-            return place.holds(local, Held(f"(ltb {x} {y})", None, "refl", BOOL)), 0
+            return place.holds(local, Held(f"(ltb {x} {y})", BOOL.value(f"(ltb {x} {y})"), "refl", BOOL, True)), 0
         if operator == "add":
             x, y = self.number(place, value[2]), self.number(place, value[3])
             fits = f"record {{ fits = {self.fits} }}"
             self.emit(f"assigns{'-last' if last else ''} ! (bin ! {self.operand(place, value[2])} {self.operand(place, value[3])} ({fits})) {HERE} ({'store' if local in place.held else 'init'} ! {self.cell(local)} refl (tt, {fits})) $")
-            return place.holds(local, Held(f"({x} + {y})", f"(vint w64 ({x} + {y}))", f"(refl, {self.fits})", NUMBER)), 0
+            return place.holds(local, Held(f"({x} + {y})", NUMBER.value(f"({x} + {y})"), f"(refl, {self.fits})", NUMBER)), 0
         if operator == "mul":
             part = PARTS[int(mir.local(rest[0][2][1])[1][1][1])]
             index = self.number(place, value[2])
@@ -369,8 +372,7 @@ class Walk:
 
     def parameters(self):
         """The by-value parameters, as the walk begins."""
-        made = {"u64": lambda i: f"(vint w64 x{i})", "tyBool": lambda i: f"(vbool x{i})"}
-        return {i: Held(f"x{i}", made.get(self.mir.locals[i], lambda i: f"m{i}")(i), f"g{i}", R) for i, R in self.rows.items()}
+        return {i: Held(f"x{i}", R.value(f"x{i}") if R.machine else f"m{i}", f"g{i}", R) for i, R in self.rows.items()}
 
     def steps(self):
         opened = self.learns("h", self.sizes) if self.sizes else 0

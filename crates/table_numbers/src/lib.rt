@@ -14,7 +14,7 @@ pub fn creation_in(t: &Table) -> Creation
 pub fn epoch_in(t: &Table) -> Epoch
     ensures { λ r. ⌜ r ≡ now (t .entry) .epoch ⌝ }
 {
-    t.epoch
+    t.epoch // the store's, not one that a host or a chunk knows
 }
 
 pub fn put_epoch(t: &mut Table, x: Epoch)

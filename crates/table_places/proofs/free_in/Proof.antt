@@ -166,8 +166,8 @@ module _ {M : Type 1} (𝓤 : URA M) (H : Heap 𝓤) (A : Atoms 𝓤) (W : Given
         turns : (i : Upto) → Sq W (At i) (runs C Λ (En l0 l1 l2 l3 l4 l5 l6) turn (anyQ (Turned i)))
         unfolding afterTurn
         turns i =
-            assigns ! (of-opd ! (lit ! tt)) (from ! (stop !)) (init ! 6 {τ = tyInt w64} {v = (vint w64 64)} refl (uint-lawful 𝓤 H A W w64 .typed 64 _ (refl, lit< tt) .0)) $
-            assigns ! (bin ! (load ! (from ! (stop !)) (look ! 8 {q = fullShare} {τ = tyInt w64} {b = l3} {o = 0} {v = (vint w64 (i .0))} refl)) (load ! (from ! (stop !)) (look ! 6 {q = fullShare} {τ = tyInt w64} {b = l4} {o = 0} {v = (vint w64 64)} refl)) tt) (from ! (stop !)) (init ! 4 refl (tt, tt)) $
+            assigns ! (of-opd ! (lit ! tt)) (from ! (stop !)) (init ! 6 refl (tt, record { fits = lit< tt })) $
+            assigns ! (bin ! (load ! (from ! (stop !)) (look ! 8 {q = fullShare} {τ = tyInt w64} {b = l3} {o = 0} {v = (vint w64 (i .0))} refl)) (load ! (from ! (stop !)) (look ! 6 refl)) tt) (from ! (stop !)) (init ! 4 refl (tt, tt)) $
             first ! $ branches ! (load ! (from ! (stop !)) (look ! 4 refl))
             (λ held.
             skips ! $
@@ -209,8 +209,8 @@ module _ {M : Type 1} (𝓤 : URA M) (H : Heap 𝓤) (A : Atoms 𝓤) (W : Given
           shr-bor-open ! tt (part-halves 𝓤 H A W TableR.the-row (Is TableR.the-row) (shows 𝓤 H A TableR.the-row) (LL.vals TableR.the-type TableL.the-laws) (LL.tells TableR.the-type TableL.the-laws) (LL.copy TableR.the-type TableL.the-copy 𝓤 H A W) h b o) (λ q′. move ! (1 ∷ []) $
           use1 W (given (length (h .places) ≡ 64) (‵ (partAt TableR.the-row q′ h b o))) (places-sized 𝓤 H A W q′ h b o) $ learn ! (λ len.
           move ! (1 ∷ []) $ obor-close ! tt $ drop ! $ feqI ! (List Val) (vptr b o ∷ []) (vptr b o ∷ []) refl $ move ! (0 ∷ 3 ∷ 2 ∷ []) $ fjoin3 ! $ move ! (1 ∷ 0 ∷ []) $
-          assigns ! (of-opd ! (lit ! tt)) (from ! (stop !)) (init ! 10 {τ = tyInt w64} {v = (vint w64 0)} refl (uint-lawful 𝓤 H A W w64 .typed 0 _ (refl, lit< tt) .0)) $
-          assigns ! (of-opd ! (lit ! tt)) (from ! (stop !)) (init ! 8 {τ = tyInt w64} {v = (vint w64 0)} refl (uint-lawful 𝓤 H A W w64 .typed 0 _ (refl, lit< tt) .0)) $
+          assigns ! (of-opd ! (lit ! tt)) (from ! (stop !)) (init ! 10 refl (tt, record { fits = lit< tt })) $
+          assigns ! (of-opd ! (lit ! tt)) (from ! (stop !)) (init ! 8 refl (tt, record { fits = lit< tt })) $
           rewrite ! 10 (λ (u : ℕ). ‵ (fat fullShare (tyInt w64) l2 0 (vint w64 u))) (counted-none (h .places)) refl $
           first ! $ blocks ! $ loops ! 𝓣 Nearer Nearer-wf (At len l0 l1 l2 l3 l4 l5 l6) (turns len l0 l1 l2 l3 l4 l5 l6) (0, counting-starts (h .places)))))))))))
 

@@ -205,7 +205,7 @@ module _ {M : Type 1} (𝓤 : URA M) (H : Heap 𝓤) (A : Atoms 𝓤) (W : Given
           shr-bor-open ! tt (part-halves 𝓤 H A W TableR.the-row (Is TableR.the-row) (shows 𝓤 H A TableR.the-row) (LL.vals TableR.the-type TableL.the-laws) (LL.tells TableR.the-type TableL.the-laws) (LL.copy TableR.the-type TableL.the-copy 𝓤 H A W) h b o) (λ q′. move ! (1 ∷ []) $
           use1 W (given (length (h .places) ≡ 64) (‵ (partAt TableR.the-row q′ h b o))) (places-sized 𝓤 H A W q′ h b o) $ learn ! (λ len.
           move ! (1 ∷ []) $ obor-close ! tt $ drop ! $ feqI ! (List Val) (vptr b o ∷ []) (vptr b o ∷ []) refl $ move ! (0 ∷ 3 ∷ 2 ∷ []) $ fjoin3 ! $ move ! (1 ∷ 0 ∷ []) $
-          assigns ! (of-opd ! (lit ! tt)) (from ! (stop !)) (init ! 6 {τ = tyInt w64} {v = (vint w64 0)} refl (uint-lawful 𝓤 H A W w64 .typed 0 _ (refl, lit< tt) .0)) $
+          assigns ! (of-opd ! (lit ! tt)) (from ! (stop !)) (init ! 6 refl (tt, record { fits = lit< tt })) $
           first ! $ blocks ! $ loops ! 𝓣 Nearer Nearer-wf (At len l0 l1 l2 l3 l4) (turns len l0 l1 l2 l3 l4) (0, looking-starts (h .places)))))))))
 
 module _ {M : Type 1} (𝓤 : URA M) (H : Heap 𝓤) (A : Atoms 𝓤) (W : Given 𝓤 H A) (at-mem : Memory → SProp 𝓤) (run : Routine → Fun 𝓤) where
