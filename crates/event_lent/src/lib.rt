@@ -129,7 +129,13 @@ fn touch_in(t: &Table, e: Event) -> Touched
     let chunk = table_chunks::chunk_in(t, c);
     let held = table_records::record_in(t, j);
     let free = table_places::free_in(t);
-    touched_by(e, i, c, j, parts_by(k, epoch, slot, b, host, chunk, held, free))
+    touched_by(
+        e,
+        i,
+        c,
+        j,
+        parts_by(k, epoch, slot, b, host, chunk, held, free),
+    )
 }
 
 // ---- what is stored back, and where
