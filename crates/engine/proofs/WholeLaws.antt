@@ -17,7 +17,7 @@ use Rattle.rules.specs.declared.Chunk.{Chunk}
 use Rattle.rules.specs.declared.Table.{Table}
 use Rattle.rules.specs.declared.Event.{Event}
 use Rattle.rules.specs.Chunks.{withWaiting, failRefusals, failed, emptied}
-use Rattle.rules.specs.Codes.{codeOf}
+use Rattle.rules.specs.Codes.{Row, codeOf, unlessRefused}
 use Rattle.rules.specs.Events.{quietly, done, refused, withoutWaiting, settledIn, renewed, epochRefusals, kindOf, ranges, ruleOf, step}
 use Rattle.rules.specs.Formed.{wellFormed}
 use Rattle.rules.specs.Limits.{chunkLimit, blockLimit}
@@ -29,7 +29,6 @@ use Rattle.rules.proofs.Events.{refused-own, granted-own}
 use Rattle.rules.proofs.Formed.{formed, chunk-place}
 use Rattle.rules.proofs.Lists.{three, grid-at}
 use Rattle.chunk_alone.specs.declared.Changed.{Changed}
-use Rattle.chunk_alone.specs.Changes.{changed}
 
 -- ---- fail
 
@@ -38,7 +37,10 @@ module _ (t : Table) (e : Event) (ok : wellFormed t ≡ true) (inside : ranges (
   unfolding ranges kindOf place
   fail-below = chunk-place (t .creation) (e .a) (three _ _ _ (rw kind at inside) .0) (formed t ok .creation)
 
-  module _ (d : Changed) (d-is : d ≡ changed (failRefusals (chunkOf t (e .a) .state)) (chunkOf t (e .a)) (failed (chunkOf t (e .a)))) where
+  abbrev refusals : List Row
+  refusals = failRefusals (chunkOf t (e .a) .state)
+
+  module _ (d : Changed) (d-is : d ≡ record { code = codeOf refusals; chunk = unlessRefused refusals (chunkOf t (e .a)) (failed (chunkOf t (e .a))) }) where
     fail-code : d .code ≡ codeOf (ruleOf t e .refusals)
     unfolding ruleOf kindOf place
     fail-code = rw (kind, d-is) refl
@@ -50,7 +52,7 @@ module _ (t : Table) (e : Event) (ok : wellFormed t ≡ true) (inside : ranges (
         → quietly (withRecords (withChunk t (e .a) (d .chunk)) rest) ≡ ruleOf t e .effect
     unfolding ruleOf kindOf place
     fail-effect rest z rest-is =
-        let granted : codeOf (failRefusals (chunkOf t (e .a) .state)) ≡ 0 = ap (λ (x : Changed). x .code) (sym d-is) ∙ z in
+        let granted : codeOf refusals ≡ 0 = ap (λ (x : Changed). x .code) (sym d-is) ∙ z in
         rw (kind, rest-is, d-is, granted) refl
 
     pub fail-granted : (rest : List Record) → d .code ≡ 0 → rest ≡ withoutWaiting (t .records) (e .a)

@@ -1,11 +1,21 @@
--- An event that touches one host, one chunk, one record and the network: where they stand, and what it leaves of them
+-- An event that touches one host, one chunk, one record and the network: where they stand, what it leaves of them, and the table
+-- after it
 use Prim.Native.Nat.{ℕ}
+use mathlib.Core.Bool.{_||_}
+use mathlib.Core.List.{List}
+use lib.Dec.{eqb}
 use Rattle.rules.specs.declared.Slot.{Slot}
+use Rattle.rules.specs.declared.Place.{Place}
 use Rattle.rules.specs.declared.Table.{Table}
 use Rattle.rules.specs.declared.Event.{Event}
-use Rattle.rules.specs.Tables.{setOf, hostOf, chunkOf, recordOf, slotOf}
+use Rattle.rules.specs.Limits.{placeLimit}
+use Rattle.rules.specs.Network.{freePlaces, removed}
+use Rattle.rules.specs.Tables.{setOf, hostOf, chunkOf, recordOf, slotOf, withHost, withChunk, withRecord, withPlaces}
+use Rattle.rules.specs.Words.{if_then_else_}
+use Rattle.network_places.specs.Sending.{sentAll}
 use Rattle.event_operands.specs.Address.{placeAt, hostAt, chunkAt, blockAt}
 use Rattle.event_parts.specs.declared.Parts.{Parts}
+use Rattle.event_parts.specs.declared.Acted.{Acted}
 use Rattle.event_parts.specs.Acts.{acted}
 use Rattle.engine.specs.declared.Touched.{Touched}
 
@@ -24,16 +34,29 @@ blockHere t e = blockAt e (slotHere t e) (hostOf t (hostHere t e))
 
 abbrev pub partsOf : Table → Event → Parts
 partsOf t e = record {
-  blocks = t .creation .blocks;
-  age = t .creation .age;
+  creation = t .creation;
   epoch = t .epoch;
   slot = slotHere t e;
   host = hostOf t (hostHere t e);
   chunk = chunkOf t (chunkHere t e);
   «set» = setOf (t .creation) (blockHere t e);
-  block = recordOf t (chunkHere t e) (blockHere t e);
-  places = t .places;
+  held = recordOf t (chunkHere t e) (blockHere t e);
+  free = freePlaces (t .places);
 }
 
 abbrev pub touched : Table → Event → Touched
 touched t e = record { host = hostHere t e; chunk = chunkHere t e; block = blockHere t e; left = acted e (partsOf t e) }
+
+-- "4 deliver (place), 5 drop (place) .. The message is removed". Other events remove none: there is nothing beyond the last place
+abbrev pub removedAt : Event → ℕ
+removedAt e = if eqb (e .kind) 4 || eqb (e .kind) 5 then e .a else placeLimit
+
+-- the network after it: its message removed, then the new ones sent
+abbrev pub mailed : List Place → Event → (messages : List Place) → List Place
+mailed places e messages = sentAll (removed places (removedAt e)) messages
+
+-- the table after it: what it leaves of the parts, where they stand
+abbrev pub stored : Table → Event → Acted → Table
+stored t e a =
+    withPlaces (withRecord (withChunk (withHost t (hostHere t e) (a .host)) (chunkHere t e) (a .chunk)) (chunkHere t e) (blockHere t e) (a .held))
+    (mailed (t .places) e (a .messages))

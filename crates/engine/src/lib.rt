@@ -6,7 +6,7 @@ ghost use Rattle.rules.specs.Creation.{created};
 ghost use Rattle.rules.specs.Events.{done, refused, withoutWaiting, ranges, step};
 ghost use Rattle.rules.specs.Formed.{wellFormed};
 ghost use Rattle.rules.specs.Limits.{chunkLimit};
-ghost use Rattle.engine.specs.Touches.{touched};
+ghost use Rattle.engine.specs.Touches.{touched, removedAt, mailed};
 use event_parts::Acted;
 use event_parts::Parts;
 use rules::Answer;
@@ -15,6 +15,7 @@ use rules::Creation;
 use rules::Epoch;
 use rules::Event;
 use rules::Outcome;
+use rules::Place;
 use rules::Record;
 use rules::Table;
 
@@ -42,7 +43,7 @@ fn grant(t: Table, outcome: Outcome) -> Answer
 {
     Answer {
         table: t,
-        code: 0,
+        code: rules::DONE,
         outcome: outcome,
     }
 }
@@ -63,6 +64,7 @@ fn touch(t: Table, e: Event) -> Touched
     let k = t.creation;
     let epoch = t.epoch;
     let places = t.places;
+    let free = network_places::free_places(places);
     let p = event_operands::place_at(e) as usize;
     let place = places[p];
     let slot = place.slot;
@@ -72,19 +74,18 @@ fn touch(t: Table, e: Event) -> Touched
     let b = event_operands::block_at(e, slot, host);
     let set = k.sets[b as usize];
     let chunk = t.chunks[c as usize];
-    let block = t.records[c as usize * rules::BLOCKS + b as usize];
+    let held = t.records[c as usize * rules::BLOCKS + b as usize];
     let left = event_parts::act(
         e,
         Parts {
-            blocks: k.blocks,
-            age: k.age,
+            creation: k,
             epoch: epoch,
             slot: slot,
             host: host,
             chunk: chunk,
             set: set,
-            block: block,
-            places: places,
+            held: held,
+            free: free,
         },
     );
     Touched {
@@ -93,6 +94,28 @@ fn touch(t: Table, e: Event) -> Touched
         block: b,
         left: left,
     }
+}
+
+// "4 deliver (place), 5 drop (place) .. The message is removed". Other events remove none: there is nothing beyond the last place.
+fn removed_at(e: Event) -> u64
+    ensures { λ r. ⌜ r ≡ removedAt e ⌝ }
+{
+    if (e.kind == 4) | (e.kind == 5) {
+        return e.a;
+    }
+    rules::PLACES as u64
+}
+
+// The network after an event: its message removed, then the new ones sent.
+fn mail(
+    places: [Place; rules::PLACES],
+    e: Event,
+    messages: [Place; rules::CHUNKS],
+) -> [Place; rules::PLACES]
+    ensures { λ r. ⌜ r ≡ mailed places e messages ⌝ }
+{
+    let left = network_places::remove(places, removed_at(e));
+    network_places::send_all(left, messages)
 }
 
 // "all its waiting entries .. go": those of the chunk's blocks.
@@ -121,7 +144,7 @@ fn fail(mut t: Table, e: Event) -> Answer
     let i = e.a as usize;
     let old = t.chunks[i];
     let failed = chunk_alone::fail(old);
-    if failed.code != 0 {
+    if failed.code != rules::DONE {
         return refuse(t, failed.code);
     }
     let new = failed.chunk;
@@ -141,7 +164,7 @@ fn change_epoch(mut t: Table, e: Event) -> Answer
     let epoch = t.epoch;
     let chunks = t.chunks;
     let code = epoch_change::change_code(k, epoch, chunks);
-    if code != 0 {
+    if code != rules::DONE {
         return refuse(t, code);
     }
     let next = Epoch(epoch.0 + 1);
@@ -155,16 +178,16 @@ fn change_epoch(mut t: Table, e: Event) -> Answer
 }
 
 // One event, with any numbers, on any table. "Code 8 is looked for first, then ranges (1), then the order in each event". What an
-// event leaves of the parts that it touches is stored back.
+// event leaves of the parts that it touches is stored back, and its messages are sent.
 pub fn step(mut t: Table, e: Event) -> Answer
     ensures { λ r. ⌜ r ≡ step t e ⌝ }
 {
     if !table_sound::well_formed(t) {
-        return refuse(t, 8);
+        return refuse(t, rules::NOT_FORMED);
     }
     let k = t.creation;
     if !event_operands::in_range(k, e) {
-        return refuse(t, 1);
+        return refuse(t, rules::OUT_OF_RANGE);
     }
     let kind = e.kind;
     if kind == 11 {
@@ -175,17 +198,19 @@ pub fn step(mut t: Table, e: Event) -> Answer
     }
     let d = touch(t, e);
     let left = d.left;
-    if left.code != 0 {
+    if left.code != rules::DONE {
         return refuse(t, left.code);
     }
     let host = left.host;
     let chunk = left.chunk;
-    let block = left.block;
-    let places = left.places;
+    let held = left.held;
     let outcome = left.outcome;
+    let messages = left.messages;
+    let before = t.places;
+    let places = mail(before, e, messages);
     t.hosts[d.host as usize] = host;
     t.chunks[d.chunk as usize] = chunk;
-    t.records[d.chunk as usize * rules::BLOCKS + d.block as usize] = block;
+    t.records[d.chunk as usize * rules::BLOCKS + d.block as usize] = held;
     t.places = places;
     grant(t, outcome)
 }

@@ -3,15 +3,20 @@ use Prim.Native.Nat.{_<_}
 use mathlib.Core.Path.{_≡_, sym, _∙_}
 use mathlib.Core.Bool.{true}
 use native.Mathlib.Omega.{arith}
+use lib.ListN.{length, length-map}
 use borrow.Author.Tests.{not-true, not-false}
 use borrow.Author.Needs.{needs}
 use Rattle.rules.specs.Events.{ranges}
 use Rattle.rules.specs.Formed.{wellFormed}
-use Rattle.rules.specs.Limits.{hostLimit, chunkLimit, blockLimit}
+use Rattle.rules.specs.Limits.{hostLimit, chunkLimit, blockLimit, placeLimit}
 use Rattle.rules.proofs.Events.{ill-formed, out-of-range}
 use Rattle.engine.proofs.PartLaws.{Acts, acts, parts-inside, touch-refused, touch-granted}
 use Rattle.engine.proofs.step.Statement.{statement}
 use Rattle.engine.proofs.step.Tie as tie
+
+-- the network has 64 places
+sized : (c : tie.Start) → length (c .args .t1 .places) ≡ placeLimit
+sized c = simp length-map at (c .good .0 .1 .1 .1 .1 .1 .1 .1 .0 .1 .0 .1)
 
 -- past the first test the table is well formed ..
 formed : (c : tie.Else1) → wellFormed (c .before .before .args .t1) ≡ true
@@ -66,7 +71,7 @@ touch-requires c κs = (formed (c .before .before .before .before .before), insi
 facts : (c : tie.Else4) → let s = c .before .before .before .before .before .before .before in Acts (s .args .t1) (s .args .e)
 facts c =
     let s = c .before .before .before .before .before .before .before in
-    acts (s .args .t1) (s .args .e) (formed (c .before .before .before .before .before)) (inside (c .before .before)) (c .before .if3 .left) (c .if4 .left)
+    acts (s .args .t1) (s .args .e) (sized s) (formed (c .before .before .before .before .before)) (inside (c .before .before)) (c .before .if3 .left) (c .if4 .left)
 
 -- the parts that it touches are places of the arrays
 below : (c : tie.After-touch) → (c .touch .result .host < hostLimit) × (c .touch .result .chunk < chunkLimit) × (c .touch .result .block < blockLimit)
@@ -74,6 +79,10 @@ below c =
     let k = c .before in
     let s = k .before .before .before .before .before .before .before in
     parts-inside (s .args .t1) (s .args .e) (formed (k .before .before .before .before .before)) (inside (k .before .before)) _ (c .touch .ensures)
+
+-- .. when the network is made
+abbrev acted : tie.After-mail → tie.After-touch
+acted c = c .before .before .before .before .before .before .before .before .before
 
 refuse-requires-3 : tie.Need-refuse-requires-3
 refuse-requires-3 c κs = search needs
@@ -86,41 +95,45 @@ returns-5 c =
     c .refuse3 .ensures
     ∙ touch-refused (s .args .t1) (s .args .e) (formed (k .before .before .before .before .before)) (inside (k .before .before)) _ (d .touch .ensures) (facts k) (c .before .if5 .taken)
 
+mail-requires : tie.Need-mail-requires
+mail-requires c κs = search needs
+
 mul-host : tie.Need-mul-host
-mul-host c = let k = below (c .before .before .before .before .before .before .before) in search needs
+mul-host c = let k = below (acted c) in search needs
 
 element-set-from-host : tie.Need-element-set-from-host
-element-set-from-host c = below (c .before .before .before .before .before .before .before) .0
+element-set-from-host c = below (acted c) .0
 
 mul-chunk : tie.Need-mul-chunk
-mul-chunk c = let k = below (c .before .before .before .before .before .before .before) .1 in search needs
+mul-chunk c = let k = below (acted c) .1 in search needs
 
 element-set-from-chunk : tie.Need-element-set-from-chunk
-element-set-from-chunk c = below (c .before .before .before .before .before .before .before) .1
+element-set-from-chunk c = below (acted c) .1
 
-mul-block : tie.Need-mul-block
-mul-block c = let k = below (c .before .before .before .before .before .before .before) .1 in search needs
+mul-held : tie.Need-mul-held
+mul-held c = let k = below (acted c) .1 in search needs
 
-add-block : tie.Need-add-block
-add-block c = let k = below (c .before .before .before .before .before .before .before) in let m = k .1 in let n = k .2 in search needs
+add-held : tie.Need-add-held
+add-held c = let k = below (acted c) in let m = k .1 in let n = k .2 in search needs
 
-mul-block-2 : tie.Need-mul-block-2
-mul-block-2 c = let k = below (c .before .before .before .before .before .before .before) in let m = k .1 in let n = k .2 in search needs
+mul-held-2 : tie.Need-mul-held-2
+mul-held-2 c = let k = below (acted c) in let m = k .1 in let n = k .2 in search needs
 
-element-set-from-block : tie.Need-element-set-from-block
-element-set-from-block c = let k = below (c .before .before .before .before .before .before .before) in let m = k .1 in let n = k .2 in omega arith
+element-set-from-held : tie.Need-element-set-from-held
+element-set-from-held c = let k = below (acted c) in let m = k .1 in let n = k .2 in omega arith
 
 grant-requires : tie.Need-grant-requires
 grant-requires c κs = search needs
 
 returns-6 : tie.Need-returns-6
 returns-6 c =
-    let d = c .before .before .before .before .before .before .before .before in
+    let m = c .before in
+    let d = acted m in
     let k = d .before in
     let s = k .before .before .before .before .before .before .before in
     c .grant .ensures
     ∙ touch-granted (s .args .t1) (s .args .e) (formed (k .before .before .before .before .before)) (inside (k .before .before)) _ (d .touch .ensures) (facts k)
-    (c .before .before .before .before .before .if5 .left)
+    (m .before .before .before .before .before .before .if5 .left) _ (m .mail .ensures)
 
 pub step-spec : {M : Type 1} → statement M
 step-spec =
@@ -139,13 +152,14 @@ step-spec =
     touch-requires
     refuse-requires-3
     returns-5
+    mail-requires
     mul-host
     element-set-from-host
     mul-chunk
     element-set-from-chunk
-    mul-block
-    add-block
-    mul-block-2
-    element-set-from-block
+    mul-held
+    add-held
+    mul-held-2
+    element-set-from-held
     grant-requires
     returns-6)
