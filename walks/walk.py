@@ -165,8 +165,9 @@ class Walk:
     def tested(self, place, local, statement, name):
         """What a test of an index against the length of an array tells: that it is below it, or not."""
         for node in mir.flat(statement[2]):
-            if node[0] == "assign" and node[2][0] == "addrOf" and mir.local(node[2][1])[1]:
-                part = PARTS[int(mir.local(node[2][1])[1][1][1])]
+            steps = mir.local(node[2][1])[1] if node[0] == "assign" and node[2][0] == "addrOf" else []
+            if len(steps) == 2:
+                part = PARTS[int(steps[1][1])]
                 if isinstance(part, Part) and (index := self.compared.get(local)):
                     return part, f"({'reaches' if name == 'held' else 'passes'} {index} _ {part.count} {name} (leb→le _ _ tt))"
         return None
