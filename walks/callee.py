@@ -5,11 +5,12 @@ from text import IN, nest, path
 
 class Callee:
     """table: None, '&' or '&mut', where the first parameter is a lent table; params and result: kinds of the others.
-    says(args): the right side of result ≡ ..; of a '&mut' leaves(result, table after, table before, args): the whole promise. args begin with the table, where there is one.
-    asks(args): its `requires`."""
+    says(args): the right side of result ≡ ..; tells(result, args): the whole promise, where it is more; of a '&mut' leaves(result, table after, table before, args): the whole promise.
+    args begin with the table, where there is one. asks(args): its `requires`."""
 
-    def __init__(self, crate, name, table, params, result, says=None, leaves=None, asks=None):
-        self.crate, self.name, self.table, self.params, self.result, self.says, self.leaves, self.asks = crate, name, table, params, result, says, leaves, asks
+    def __init__(self, crate, name, table, params, result, says=None, leaves=None, asks=None, tells=None):
+        self.crate, self.name, self.table, self.params, self.result, self.leaves, self.asks = crate, name, table, params, result, leaves, asks
+        self.tells = tells or (lambda r, a: f"{r} ≡ {says(a)}")
         self.called = name.replace("_", "-")
         self.id = self.called if "_" in name else f"{crate.split('_')[-1]}-{name}"  # `record` and `set` are other things in a proof
         self.symbol = f"#{crate}·{self.called}"
@@ -33,10 +34,10 @@ class Callee:
         xs = self.names("x")
         bound = "".join(f"({x} : {r.denotation}) " for x, r in zip(xs, self.rows)) + f"(r : {self.row.denotation})"
         κ, t, args = ("(κ, tt)", "(κ : Lft) (t : RefT Table) ", ["t"] + xs) if self.table else ("tt", "", xs)
-        said = self.says((["(now t)"] if self.table else []) + xs)
+        said = self.tells("r", (["(now t)"] if self.table else []) + xs)
         return text + f"""
-  said-{self.id} : {t}{bound} → ent 𝓤 (ensured 𝓤 H A {self.id}.ended ({self.id}.clauses {IN}) {κ} {nest(args)} tt r) (fact 𝓤 (r ≡ {said}))
-  said-{self.id} {" ".join((["κ"] if self.table else []) + args + ["r"])} = exE 𝓤 _ (λ ws. snd∗ 𝓤 (sem 𝓤 H A (lasts {self.id}.ended {κ} {nest(args)} ws)) (fact 𝓤 (r ≡ {said})))
+  said-{self.id} : {t}{bound} → ent 𝓤 (ensured 𝓤 H A {self.id}.ended ({self.id}.clauses {IN}) {κ} {nest(args)} tt r) (fact 𝓤 ({said}))
+  said-{self.id} {" ".join((["κ"] if self.table else []) + args + ["r"])} = exE 𝓤 _ (λ ws. snd∗ 𝓤 (sem 𝓤 H A (lasts {self.id}.ended {κ} {nest(args)} ws)) (fact 𝓤 ({said})))
 """
 
     def goes(self):

@@ -83,5 +83,5 @@ def callee(call):
 
 
 def arguments(call):
-    """The locals that a call is given; a number as it stands."""
+    """The operands of a call: locals, and literals as they stand."""
     return [operand if operand[0] == "int" else local(operand)[0] for operand in items(call[2])]

@@ -165,8 +165,9 @@ class Walk:
     def tested(self, place, local, statement, name):
         """What a test of an index against the length of an array tells: that it is below it, or not."""
         for node in mir.flat(statement[2]):
-            if node[0] == "assign" and node[2][0] == "addrOf" and mir.local(node[2][1])[1]:
-                part = PARTS[int(mir.local(node[2][1])[1][1][1])]
+            steps = mir.local(node[2][1])[1] if node[0] == "assign" and node[2][0] == "addrOf" else []
+            if len(steps) == 2:
+                part = PARTS[int(steps[1][1])]
                 if isinstance(part, Part) and (index := self.compared.get(local)):
                     return part, f"({'reaches' if name == 'held' else 'passes'} {index} _ {part.count} {name} (leb→le _ _ tt))"
         return None
@@ -186,7 +187,7 @@ class Walk:
                 return place.holds(local, Held(operand, BOOL.value(operand), "refl", BOOL, True)), 0
             if operand[0] == "int":
                 self.emit(f"assigns ! (of-opd ! (lit ! tt)) {HERE} ({'store' if local in place.held else 'init'} ! {self.cell(local)} refl (tt, record {{ fits = lit< tt }})) $")
-                return place.holds(local, Held(operand[2], NUMBER.value(operand[2]), "(refl, lit< tt)", NUMBER, True)), 0
+                return place.holds(local, self.literal(operand[2])), 0
             source, through = mir.local(operand)
             if through:
                 return self.part_read(place, local, source, through)
@@ -310,6 +311,12 @@ class Walk:
 
     # ---- a call
 
+    def argument(self, place, operand):
+        return self.literal(operand[2]) if isinstance(operand, list) else place.held[operand]
+
+    def literal(self, number):
+        return Held(number, NUMBER.value(number), "(refl, lit< tt)", NUMBER, True)
+
     def call(self, statement, place):
         callee, args, local = self.callees[mir.callee(statement)], mir.arguments(statement), int(statement[3][1])
         if callee not in self.called:
@@ -318,11 +325,11 @@ class Walk:
         n = self.calls
         id, R, had, opened, now = callee.id, callee.row, local in place.held, 0, bracket(place.now)
         values = args[1:] if callee.table else args
-        held = [place.held[i] for i in values]
+        held = [self.argument(place, i) for i in values]
         xs = [x.x for x in held]
         pairs = "".join(f" {x.x} {x.v}" for x in held)
         known = "".join(f" {x.g}" for x in held) + (f" ({self.asked[callee.name]})" if callee.asks else "")
-        self.emit(f"-- _{local} = {callee.crate}::{callee.name}({', '.join('_%d' % i for i in args)})")
+        self.emit(f"-- _{local} = {callee.crate}::{callee.name}({', '.join(i[2] if isinstance(i, list) else '_%d' % i for i in args)})")
         if not callee.table:
             κ, κs, t, base = "", "tt", [], 3
             self.emit(f"nothing ! $ use1 W (raw (C-{id} {IN} .pre (to-{id} {AT}{pairs}))) (goes-{id} {AT}{pairs}{known}) $")
@@ -344,7 +351,7 @@ class Walk:
             self.emit(f"use2 W (raw (C-{id} {IN} .pre (to-{id} {AT}{pairs}))) (goes-{id} {AT}{pairs}{known}) $")
         operands = "(no-more !)"
         for i in reversed(args):
-            operands = f"(and-then ! {self.read(place, i, base)} {operands})"
+            operands = f"(and-then ! {'(lit ! tt)' if isinstance(i, list) else self.read(place, i, base)} {operands})"
         self.emit(f"calls-at ! fm (C-{id} {IN}) known-{id} (to-{id} {AT}{pairs}) {operands} (λ w{n}.")
         ensured = f"(ensured 𝓤 H A {id}.ended ({id}.clauses {IN}) {κs} {nest(t + xs)} tt r)"
         self.emit(f"use1 W (later (some (λ (r : {R.denotation}). ({token} ⊛ ‵ ({R.row} .own r (w{n} ∷ []))) ⊛ raw {ensured}))) (id⊢ 𝓤 _) $ await ! tt $ pick ! (λ r{n}. split ! $ move ! (1 ∷ []) $")
@@ -359,7 +366,7 @@ class Walk:
             self.emit(f"land ! {HERE} {self.write(place, local, had, 4)} $ split ! $ lft-end ! tt $ move ! (0 ∷ 4 ∷ 2 ∷ []) $")
             self.emit(f"use3 W (later ({self.lent(f'z{n} .0')} ⊛ ‵ (flft κ q))) (comes-back 𝓤 H A W {TABLE.row} (named 0) κ {κ} q γ b o δ{n} {now} (z{n} .0)) $ await ! tt $ split ! $ move ! (2 ∷ 3 ∷ []) $ drop ! $ drop ! $")
             return place.but(now=f"z{n} .0"), opened + 3
-        said = f"r{n} ≡ {callee.says(([now] if callee.table else []) + xs)}"
+        said = callee.tells(f"r{n}", ([now] if callee.table else []) + xs)
         self.emit(f"use1 W (raw (fact 𝓤 ({said}))) (said-{id} {IN}{f' {κ}' if κ else ''}{''.join(' ' + x for x in t + xs)} r{n}) $ heard ! ({said}) (λ e{n}. split ! $ {'move ! (1 ∷ [])' if callee.table else 'drop !'} $ {facts}")
         self.emit(f"land ! {HERE} {self.write(place, local, had)} $")
         if callee.table and self.mut:
