@@ -4,11 +4,8 @@ use borrow.Author.Needs.{needs}
 use Rattle.epoch_settle.proofs.aborted_with.Statement.{statement}
 use Rattle.epoch_settle.proofs.aborted_with.Tie as tie
 
-is-aborted-requires : tie.Need-is-aborted-requires
-is-aborted-requires c κs = search needs
-
 returns : tie.Need-returns
 returns c = rw (c .is-aborted .ensures) refl
 
 pub aborted-with-spec : {M : Type 1} → statement M
-aborted-with-spec = tie.close (tie.spec is-aborted-requires returns)
+aborted-with-spec = tie.close (tie.spec (λ c κs. search needs) returns)

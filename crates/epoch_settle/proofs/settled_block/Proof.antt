@@ -47,24 +47,6 @@ greatest-read c =
 loop-holds : tie.Need-loop-holds Inv-loop μ-loop Inv-loop2 μ-loop2
 loop-holds c = (search needs, refl, refl)
 
-mul-c : tie.Need-mul-c Inv-loop μ-loop Inv-loop2 μ-loop2
-mul-c c = search needs
-
-array-copy-out-c : tie.Need-array-copy-out-c Inv-loop μ-loop Inv-loop2 μ-loop2
-array-copy-out-c c = search needs
-
-later-in-requires : tie.Need-later-in-requires Inv-loop μ-loop Inv-loop2 μ-loop2
-later-in-requires c κs = search needs
-
-later-in-requires-2 : tie.Need-later-in-requires-2 Inv-loop μ-loop Inv-loop2 μ-loop2
-later-in-requires-2 c κs = search needs
-
-add-i : tie.Need-add-i Inv-loop μ-loop Inv-loop2 μ-loop2
-add-i c = search needs
-
-loop-less : tie.Need-loop-less Inv-loop μ-loop Inv-loop2 μ-loop2
-loop-less c = search needs
-
 loop-again : tie.Need-loop-again Inv-loop μ-loop Inv-loop2 μ-loop2
 loop-again c =
     let l = c .before .before .before .before in
@@ -84,24 +66,6 @@ loop2-holds c =
     let e = drop-of-length-le (l .before .args .t1) {i = l .loop .i} (omega arith) in
     (omega arith, rw e refl, rw e refl)
 
-sub-i : tie.Need-sub-i Inv-loop μ-loop Inv-loop2 μ-loop2
-sub-i c = search needs
-
-mul-c-2 : tie.Need-mul-c-2 Inv-loop μ-loop Inv-loop2 μ-loop2
-mul-c-2 c = search needs
-
-array-copy-out-c-2 : tie.Need-array-copy-out-c-2 Inv-loop μ-loop Inv-loop2 μ-loop2
-array-copy-out-c-2 c = search needs
-
-choose-requires : tie.Need-choose-requires Inv-loop μ-loop Inv-loop2 μ-loop2
-choose-requires c κs = search needs
-
-choose-requires-2 : tie.Need-choose-requires-2 Inv-loop μ-loop Inv-loop2 μ-loop2
-choose-requires-2 c κs = search needs
-
-loop2-less : tie.Need-loop2-less Inv-loop μ-loop Inv-loop2 μ-loop2
-loop2-less c = search needs
-
 loop2-again : tie.Need-loop2-again Inv-loop μ-loop Inv-loop2 μ-loop2
 loop2-again c =
     let v = c .before .before .before in
@@ -120,18 +84,6 @@ returns c =
     let e : l .loop2 .i ≡ 0 = omega arith in
     let m = l .before in
     common-none (m .before .before .args .t1) (m .before .loop .w) (m .before .loop .r) (l .loop2 .v) (greatest-write m) (greatest-read m) (rw e at (l .loop2 .inv .1)) (sym (rw e at (l .loop2 .inv .2)) ∙ c .if1 .taken)
-
-candidates-requires : tie.Need-candidates-requires Inv-loop μ-loop Inv-loop2 μ-loop2
-candidates-requires c κs = search needs
-
-latest-requires : tie.Need-latest-requires Inv-loop μ-loop Inv-loop2 μ-loop2
-latest-requires c κs = search needs
-
-value-with-requires : tie.Need-value-with-requires Inv-loop μ-loop Inv-loop2 μ-loop2
-value-with-requires c κs = search needs
-
-choose-requires-3 : tie.Need-choose-requires-3 Inv-loop μ-loop Inv-loop2 μ-loop2
-choose-requires-3 c κs = search needs
 
 returns-2 : tie.Need-returns-2 Inv-loop μ-loop Inv-loop2 μ-loop2
 returns-2 c =
@@ -153,24 +105,24 @@ settled-block-spec =
     Inv-loop2
     μ-loop2
     loop-holds
-    mul-c
-    array-copy-out-c
-    later-in-requires
-    later-in-requires-2
-    add-i
-    loop-less
+    (λ c. search needs)
+    (λ c. search needs)
+    (λ c κs. search needs)
+    (λ c κs. search needs)
+    (λ c. search needs)
+    (λ c. search needs)
     loop-again
     loop2-holds
-    sub-i
-    mul-c-2
-    array-copy-out-c-2
-    choose-requires
-    choose-requires-2
-    loop2-less
+    (λ c. search needs)
+    (λ c. search needs)
+    (λ c. search needs)
+    (λ c κs. search needs)
+    (λ c κs. search needs)
+    (λ c. search needs)
     loop2-again
     returns
-    candidates-requires
-    latest-requires
-    value-with-requires
-    choose-requires-3
+    (λ c κs. search needs)
+    (λ c κs. search needs)
+    (λ c κs. search needs)
+    (λ c κs. search needs)
     returns-2)

@@ -7,17 +7,11 @@ use Rattle.epoch_settle.proofs.Laws.{entry-passed, entry-looked}
 use Rattle.epoch_settle.proofs.with_entry.Statement.{statement}
 use Rattle.epoch_settle.proofs.with_entry.Tie as tie
 
-is-read-requires : tie.Need-is-read-requires
-is-read-requires c κs = search needs
-
 returns : tie.Need-returns
 returns c =
     let r = c .before .before .before in
     let a = r .before .before .args in
     entry-passed (a .copies) (a .waits) (r .is-read .result) (a .m) (a .e) (r .is-read .ensures) (c .if1 .taken)
-
-agreed-requires : tie.Need-agreed-requires
-agreed-requires c κs = search needs
 
 -- the timestamp where it is agreed, else m
 looked : (c : tie.After-agreed) →
@@ -35,4 +29,4 @@ returns-3 : tie.Need-returns-3
 returns-3 c = rw (c .if2 .left) at (looked (c .before))
 
 pub with-entry-spec : {M : Type 1} → statement M
-with-entry-spec = tie.close (tie.spec is-read-requires returns agreed-requires returns-2 returns-3)
+with-entry-spec = tie.close (tie.spec (λ c κs. search needs) returns (λ c κs. search needs) returns-2 returns-3)

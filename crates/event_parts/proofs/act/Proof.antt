@@ -7,108 +7,6 @@ use Rattle.event_parts.proofs.Laws.{no-act}
 use Rattle.event_parts.proofs.act.Statement.{statement}
 use Rattle.event_parts.proofs.act.Tie as tie
 
-operation-of-requires : tie.Need-operation-of-requires
-operation-of-requires c κs = search needs
-
-intake-requires : tie.Need-intake-requires
-intake-requires c κs = search needs
-
-by-host-requires : tie.Need-by-host-requires
-by-host-requires c κs = search needs
-
-operation-of-requires-2 : tie.Need-operation-of-requires-2
-operation-of-requires-2 c κs = search needs
-
-intake-requires-2 : tie.Need-intake-requires-2
-intake-requires-2 c κs = search needs
-
-by-host-requires-2 : tie.Need-by-host-requires-2
-by-host-requires-2 c κs = search needs
-
-start-requires : tie.Need-start-requires
-start-requires c κs = search needs
-
-by-messages-requires : tie.Need-by-messages-requires
-by-messages-requires c κs = search needs
-
-place-code-requires : tie.Need-place-code-requires
-place-code-requires c κs = search needs
-
-deliver-requires : tie.Need-deliver-requires
-deliver-requires c κs = search needs
-
-by-mail-requires : tie.Need-by-mail-requires
-by-mail-requires c κs = search needs
-
-place-code-requires-2 : tie.Need-place-code-requires-2
-place-code-requires-2 c κs = search needs
-
-to-host-requires : tie.Need-to-host-requires
-to-host-requires c κs = search needs
-
-by-mail-requires-2 : tie.Need-by-mail-requires-2
-by-mail-requires-2 c κs = search needs
-
-finish-requires : tie.Need-finish-requires
-finish-requires c κs = search needs
-
-by-messages-requires-2 : tie.Need-by-messages-requires-2
-by-messages-requires-2 c κs = search needs
-
-time-out-requires : tie.Need-time-out-requires
-time-out-requires c κs = search needs
-
-by-host-requires-3 : tie.Need-by-host-requires-3
-by-host-requires-3 c κs = search needs
-
-refresh-requires : tie.Need-refresh-requires
-refresh-requires c κs = search needs
-
-by-host-requires-4 : tie.Need-by-host-requires-4
-by-host-requires-4 c κs = search needs
-
-run-requires : tie.Need-run-requires
-run-requires c κs = search needs
-
-to-chunk-requires : tie.Need-to-chunk-requires
-to-chunk-requires c κs = search needs
-
-by-mail-requires-3 : tie.Need-by-mail-requires-3
-by-mail-requires-3 c κs = search needs
-
-stop-requires : tie.Need-stop-requires
-stop-requires c κs = search needs
-
-by-host-requires-5 : tie.Need-by-host-requires-5
-by-host-requires-5 c κs = search needs
-
-recover-requires : tie.Need-recover-requires
-recover-requires c κs = search needs
-
-by-chunk-requires : tie.Need-by-chunk-requires
-by-chunk-requires c κs = search needs
-
-take-lease-requires : tie.Need-take-lease-requires
-take-lease-requires c κs = search needs
-
-by-chunk-requires-2 : tie.Need-by-chunk-requires-2
-by-chunk-requires-2 c κs = search needs
-
-give-lease-requires : tie.Need-give-lease-requires
-give-lease-requires c κs = search needs
-
-by-chunk-requires-3 : tie.Need-by-chunk-requires-3
-by-chunk-requires-3 c κs = search needs
-
-overdue-requires : tie.Need-overdue-requires
-overdue-requires c κs = search needs
-
-by-chunk-requires-4 : tie.Need-by-chunk-requires-4
-by-chunk-requires-4 c κs = search needs
-
-unchanged-requires : tie.Need-unchanged-requires
-unchanged-requires c κs = search needs
-
 returns : tie.Need-returns
 unfolding acted place
 returns c = c .by-host .ensures ∙ rw (c .before .before .before .match .keys1, c .before .intake .ensures, c .before .before .operation-of .ensures) refl
@@ -174,40 +72,40 @@ pub act-spec : {M : Type 1} → statement M
 act-spec =
     tie.close
     (tie.spec
-    operation-of-requires
-    intake-requires
-    by-host-requires
-    operation-of-requires-2
-    intake-requires-2
-    by-host-requires-2
-    start-requires
-    by-messages-requires
-    place-code-requires
-    deliver-requires
-    by-mail-requires
-    place-code-requires-2
-    to-host-requires
-    by-mail-requires-2
-    finish-requires
-    by-messages-requires-2
-    time-out-requires
-    by-host-requires-3
-    refresh-requires
-    by-host-requires-4
-    run-requires
-    to-chunk-requires
-    by-mail-requires-3
-    stop-requires
-    by-host-requires-5
-    recover-requires
-    by-chunk-requires
-    take-lease-requires
-    by-chunk-requires-2
-    give-lease-requires
-    by-chunk-requires-3
-    overdue-requires
-    by-chunk-requires-4
-    unchanged-requires
+    (λ c κs. search needs)
+    (λ c κs. search needs)
+    (λ c κs. search needs)
+    (λ c κs. search needs)
+    (λ c κs. search needs)
+    (λ c κs. search needs)
+    (λ c κs. search needs)
+    (λ c κs. search needs)
+    (λ c κs. search needs)
+    (λ c κs. search needs)
+    (λ c κs. search needs)
+    (λ c κs. search needs)
+    (λ c κs. search needs)
+    (λ c κs. search needs)
+    (λ c κs. search needs)
+    (λ c κs. search needs)
+    (λ c κs. search needs)
+    (λ c κs. search needs)
+    (λ c κs. search needs)
+    (λ c κs. search needs)
+    (λ c κs. search needs)
+    (λ c κs. search needs)
+    (λ c κs. search needs)
+    (λ c κs. search needs)
+    (λ c κs. search needs)
+    (λ c κs. search needs)
+    (λ c κs. search needs)
+    (λ c κs. search needs)
+    (λ c κs. search needs)
+    (λ c κs. search needs)
+    (λ c κs. search needs)
+    (λ c κs. search needs)
+    (λ c κs. search needs)
+    (λ c κs. search needs)
     returns
     returns-2
     returns-3

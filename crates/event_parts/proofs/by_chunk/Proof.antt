@@ -4,11 +4,8 @@ use borrow.Author.Needs.{needs}
 use Rattle.event_parts.proofs.by_chunk.Statement.{statement}
 use Rattle.event_parts.proofs.by_chunk.Tie as tie
 
-unchanged-requires : tie.Need-unchanged-requires
-unchanged-requires c κs = search needs
-
 returns : tie.Need-returns
 returns c = rw (c .unchanged .ensures) refl
 
 pub by-chunk-spec : {M : Type 1} → statement M
-by-chunk-spec = tie.close (tie.spec unchanged-requires returns)
+by-chunk-spec = tie.close (tie.spec (λ c κs. search needs) returns)

@@ -4,11 +4,8 @@ use borrow.Author.Needs.{needs}
 use Rattle.event_parts.proofs.by_host.Statement.{statement}
 use Rattle.event_parts.proofs.by_host.Tie as tie
 
-unchanged-requires : tie.Need-unchanged-requires
-unchanged-requires c κs = search needs
-
 returns : tie.Need-returns
 returns c = rw (c .unchanged .ensures) refl
 
 pub by-host-spec : {M : Type 1} → statement M
-by-host-spec = tie.close (tie.spec unchanged-requires returns)
+by-host-spec = tie.close (tie.spec (λ c κs. search needs) returns)

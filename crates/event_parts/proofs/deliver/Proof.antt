@@ -4,30 +4,6 @@ use borrow.Author.Needs.{needs}
 use Rattle.event_parts.proofs.deliver.Statement.{statement}
 use Rattle.event_parts.proofs.deliver.Tie as tie
 
-enum-told : tie.Need-enum-told
-enum-told c = search needs
-
-to-host-requires : tie.Need-to-host-requires
-to-host-requires c κs = search needs
-
-enum-known-s : tie.Need-enum-known-s
-enum-known-s c = search needs
-
-is-for-chunk-requires : tie.Need-is-for-chunk-requires
-is-for-chunk-requires c κs = search needs
-
-arrive-requires : tie.Need-arrive-requires
-arrive-requires c κs = search needs
-
-to-chunk-requires : tie.Need-to-chunk-requires
-to-chunk-requires c κs = search needs
-
-at-host-requires : tie.Need-at-host-requires
-at-host-requires c κs = search needs
-
-to-host-requires-2 : tie.Need-to-host-requires-2
-to-host-requires-2 c κs = search needs
-
 returns : tie.Need-returns
 returns c = rw (c .before .enum-told .given .1) (c .to-host .ensures)
 
@@ -45,14 +21,14 @@ pub deliver-spec : {M : Type 1} → statement M
 deliver-spec =
     tie.close
     (tie.spec
-    enum-told
-    to-host-requires
-    enum-known-s
-    is-for-chunk-requires
-    arrive-requires
-    to-chunk-requires
-    at-host-requires
-    to-host-requires-2
+    (λ c. search needs)
+    (λ c κs. search needs)
+    (λ c. search needs)
+    (λ c κs. search needs)
+    (λ c κs. search needs)
+    (λ c κs. search needs)
+    (λ c κs. search needs)
+    (λ c κs. search needs)
     returns
     returns-2
     returns-3)

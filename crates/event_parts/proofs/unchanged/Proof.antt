@@ -4,11 +4,8 @@ use borrow.Author.Needs.{needs}
 use Rattle.event_parts.proofs.unchanged.Statement.{statement}
 use Rattle.event_parts.proofs.unchanged.Tie as tie
 
-only-requires : tie.Need-only-requires
-only-requires c κs = search needs
-
 returns : tie.Need-returns
 returns c = rw (c .only .ensures) refl
 
 pub unchanged-spec : {M : Type 1} → statement M
-unchanged-spec = tie.close (tie.spec only-requires returns)
+unchanged-spec = tie.close (tie.spec (λ c κs. search needs) returns)

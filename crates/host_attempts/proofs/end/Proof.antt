@@ -5,15 +5,9 @@ use Rattle.rules.specs.Hosts.{finished}
 use Rattle.host_attempts.proofs.end.Statement.{statement}
 use Rattle.host_attempts.proofs.end.Tie as tie
 
-attempt-requires : tie.Need-attempt-requires
-attempt-requires c κs = search needs
-
 returns : tie.Need-returns
 unfolding finished
 returns c = rw (c .if1 .taken, c .before .before .before .attempt .ensures) refl
-
-without-front-requires : tie.Need-without-front-requires
-without-front-requires c κs = search needs
 
 returns-2 : tie.Need-returns-2
 unfolding finished
@@ -22,4 +16,4 @@ returns-2 c =
     rw (e .if1 .left, e .before .before .before .attempt .ensures, c .without-front .ensures) refl
 
 pub end-spec : {M : Type 1} → statement M
-end-spec = tie.close (tie.spec attempt-requires returns without-front-requires returns-2)
+end-spec = tie.close (tie.spec (λ c κs. search needs) returns (λ c κs. search needs) returns-2)

@@ -5,31 +5,10 @@ use Rattle.host_attempts.proofs.Laws.{finish-refused, finish-granted}
 use Rattle.host_attempts.proofs.finish.Statement.{statement}
 use Rattle.host_attempts.proofs.finish.Tie as tie
 
-front-requires : tie.Need-front-requires
-front-requires c κs = search needs
-
-closing-to-requires : tie.Need-closing-to-requires
-closing-to-requires c κs = search needs
-
-finish-code-requires : tie.Need-finish-code-requires
-finish-code-requires c κs = search needs
-
-refuse-requires : tie.Need-refuse-requires
-refuse-requires c κs = search needs
-
 returns : tie.Need-returns
 returns c =
     let k = c .before .before in
     c .refuse .ensures ∙ finish-refused _ _ _ _ _ _ _ (k .before .before .front .ensures) (k .before .closing-to .ensures) (k .finish-code .ensures) (c .before .if1 .taken)
-
-end-requires : tie.Need-end-requires
-end-requires c κs = search needs
-
-close-requires : tie.Need-close-requires
-close-requires c κs = search needs
-
-finish-outcome-requires : tie.Need-finish-outcome-requires
-finish-outcome-requires c κs = search needs
 
 returns-2 : tie.Need-returns-2
 returns-2 c =
@@ -42,12 +21,12 @@ pub finish-spec : {M : Type 1} → statement M
 finish-spec =
     tie.close
     (tie.spec
-    front-requires
-    closing-to-requires
-    finish-code-requires
-    refuse-requires
+    (λ c κs. search needs)
+    (λ c κs. search needs)
+    (λ c κs. search needs)
+    (λ c κs. search needs)
     returns
-    end-requires
-    close-requires
-    finish-outcome-requires
+    (λ c κs. search needs)
+    (λ c κs. search needs)
+    (λ c κs. search needs)
     returns-2)

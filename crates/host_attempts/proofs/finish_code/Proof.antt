@@ -27,20 +27,11 @@ past3 c n e = past2 (c .before .before) n (refused-later _ _ _ n (sym (ap not (c
 returns : tie.Need-returns
 returns c = refused-here _ _ _ (c .if1 .taken)
 
-has-current-requires : tie.Need-has-current-requires
-has-current-requires c κs = search needs
-
 returns-2 : tie.Need-returns-2
 returns-2 c = past1 (c .before .before) 2 (refused-here _ _ _ (sym (ap not (c .before .has-current .ensures)) ∙ c .if2 .taken))
 
-is-empty-requires : tie.Need-is-empty-requires
-is-empty-requires c κs = search needs
-
 returns-3 : tie.Need-returns-3
 returns-3 c = past2 (c .before .before) 2 (refused-here _ _ _ (sym (ap not (c .before .is-empty .ensures)) ∙ c .if3 .taken))
-
-lacks-room-requires : tie.Need-lacks-room-requires
-lacks-room-requires c κs = search needs
 
 returns-4 : tie.Need-returns-4
 returns-4 c = past3 (c .before .before) 5 (refused-here _ _ _ (sym (c .before .lacks-room .ensures) ∙ c .if4 .taken))
@@ -53,10 +44,10 @@ finish-code-spec =
     tie.close
     (tie.spec
     returns
-    has-current-requires
+    (λ c κs. search needs)
     returns-2
-    is-empty-requires
+    (λ c κs. search needs)
     returns-3
-    lacks-room-requires
+    (λ c κs. search needs)
     returns-4
     returns-5)

@@ -5,12 +5,6 @@ use Rattle.rules.specs.Hosts.{finishOutcome}
 use Rattle.host_attempts.proofs.finish_outcome.Statement.{statement}
 use Rattle.host_attempts.proofs.finish_outcome.Tie as tie
 
-front-requires : tie.Need-front-requires
-front-requires c κs = search needs
-
-done-as-requires : tie.Need-done-as-requires
-done-as-requires c κs = search needs
-
 returns : tie.Need-returns
 unfolding finishOutcome
 returns c = rw (← c .before .before .front .ensures, c .before .if1 .taken) (c .done-as .ensures)
@@ -18,9 +12,6 @@ returns c = rw (← c .before .before .front .ensures, c .before .if1 .taken) (c
 returns-2 : tie.Need-returns-2
 unfolding finishOutcome
 returns-2 c = rw (c .before .if1 .left, c .if2 .taken) refl
-
-failed-as-requires : tie.Need-failed-as-requires
-failed-as-requires c κs = search needs
 
 returns-3 : tie.Need-returns-3
 unfolding finishOutcome
@@ -31,4 +22,4 @@ returns-3 c =
 pub finish-outcome-spec : {M : Type 1} → statement M
 finish-outcome-spec =
     tie.close
-    (tie.spec front-requires done-as-requires returns returns-2 failed-as-requires returns-3)
+    (tie.spec (λ c κs. search needs) (λ c κs. search needs) returns returns-2 (λ c κs. search needs) returns-3)

@@ -4,15 +4,6 @@ use borrow.Author.Needs.{needs}
 use Rattle.host_attempts.proofs.lacks_copy.Statement.{statement}
 use Rattle.host_attempts.proofs.lacks_copy.Tie as tie
 
-enum-told : tie.Need-enum-told
-enum-told c = search needs
-
-among-requires : tie.Need-among-requires
-among-requires c κs = search needs
-
-enum-told-2 : tie.Need-enum-told-2
-enum-told-2 c = search needs
-
 returns : tie.Need-returns
 returns c = rw (c .before .enum-told .given .1, c .among .ensures) refl
 
@@ -20,4 +11,4 @@ returns-2 : tie.Need-returns-2
 returns-2 c = rw (c .enum-told2 .given .1) refl
 
 pub lacks-copy-spec : {M : Type 1} → statement M
-lacks-copy-spec = tie.close (tie.spec enum-told among-requires enum-told-2 returns returns-2)
+lacks-copy-spec = tie.close (tie.spec (λ c. search needs) (λ c κs. search needs) (λ c. search needs) returns returns-2)

@@ -4,11 +4,8 @@ use borrow.Author.Needs.{needs}
 use Rattle.host_attempts.proofs.lacks_room.Statement.{statement}
 use Rattle.host_attempts.proofs.lacks_room.Tie as tie
 
-how-many-requires : tie.Need-how-many-requires
-how-many-requires c κs = search needs
-
 returns : tie.Need-returns
 returns c = rw (c .how-many .ensures) refl
 
 pub lacks-room-spec : {M : Type 1} → statement M
-lacks-room-spec = tie.close (tie.spec how-many-requires returns)
+lacks-room-spec = tie.close (tie.spec (λ c κs. search needs) returns)

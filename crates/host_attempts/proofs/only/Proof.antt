@@ -10,12 +10,6 @@ use Rattle.rules.proofs.Loops.{marked-only}
 use Rattle.host_attempts.proofs.only.Statement.{statement}
 use Rattle.host_attempts.proofs.only.Tie as tie
 
-set-requires : tie.Need-set-requires
-set-requires c κs = search needs
-
-element-write-out : tie.Need-element-write-out
-element-write-out c = search needs
-
 returns : tie.Need-returns
 returns c = rw (c .before .set .ensures, ← marked-only 8 (c .before .before .args .chunk)) refl
 
@@ -26,4 +20,4 @@ returns-2 c =
     rw (c .before .set .ensures, ← marked-only 8 n, set-out (replicate 8 false) n true k) refl
 
 pub only-spec : {M : Type 1} → statement M
-only-spec = tie.close (tie.spec set-requires element-write-out returns returns-2)
+only-spec = tie.close (tie.spec (λ c κs. search needs) (λ c. search needs) returns returns-2)

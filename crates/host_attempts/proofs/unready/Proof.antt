@@ -4,11 +4,8 @@ use borrow.Author.Needs.{needs}
 use Rattle.host_attempts.proofs.unready.Statement.{statement}
 use Rattle.host_attempts.proofs.unready.Tie as tie
 
-has-current-requires : tie.Need-has-current-requires
-has-current-requires c κs = search needs
-
 returns : tie.Need-returns
 returns c = rw (c .before .before .has-current .ensures) refl
 
 pub unready-spec : {M : Type 1} → statement M
-unready-spec = tie.close (tie.spec has-current-requires returns)
+unready-spec = tie.close (tie.spec (λ c κs. search needs) returns)

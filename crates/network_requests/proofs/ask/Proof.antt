@@ -4,9 +4,6 @@ use borrow.Author.Needs.{needs}
 use Rattle.network_requests.proofs.ask.Statement.{statement}
 use Rattle.network_requests.proofs.ask.Tie as tie
 
-message-of-requires : tie.Need-message-of-requires
-message-of-requires c κs = search needs
-
 returns : tie.Need-returns
 returns c = rw (c .before .if1 .taken, c .message-of .ensures) refl
 
@@ -14,4 +11,4 @@ returns-2 : tie.Need-returns-2
 returns-2 c = rw (c .if1 .left) refl
 
 pub ask-spec : {M : Type 1} → statement M
-ask-spec = tie.close (tie.spec message-of-requires returns returns-2)
+ask-spec = tie.close (tie.spec (λ c κs. search needs) returns returns-2)

@@ -17,29 +17,8 @@ Inv-loop request host block now epoch to out₀ c₀ out c =
 abbrev μ-loop : tie.MeasureT-loop
 μ-loop request host block now epoch to out₀ c₀ out c = 8 - c
 
-only-requires : tie.Need-only-requires Inv-loop μ-loop
-only-requires c κs = search needs
-
 loop-holds : tie.Need-loop-holds Inv-loop μ-loop
 loop-holds c = (search needs, c .only .ensures ∙ made-blank _ zeroPlace 8)
-
-element-copy-out-ask : tie.Need-element-copy-out-ask Inv-loop μ-loop
-element-copy-out-ask c = search needs
-
-ask-requires : tie.Need-ask-requires Inv-loop μ-loop
-ask-requires c κs = search needs
-
-mul-out : tie.Need-mul-out Inv-loop μ-loop
-mul-out c = search needs
-
-array-set-from-out : tie.Need-array-set-from-out Inv-loop μ-loop
-array-set-from-out c = search needs
-
-add-c : tie.Need-add-c Inv-loop μ-loop
-add-c c = search needs
-
-loop-less : tie.Need-loop-less Inv-loop μ-loop
-loop-less c = search needs
 
 loop-again : tie.Need-loop-again Inv-loop μ-loop
 loop-again c =
@@ -59,13 +38,13 @@ ask-each-spec =
     (tie.spec
     Inv-loop
     μ-loop
-    only-requires
+    (λ c κs. search needs)
     loop-holds
-    element-copy-out-ask
-    ask-requires
-    mul-out
-    array-set-from-out
-    add-c
-    loop-less
+    (λ c. search needs)
+    (λ c κs. search needs)
+    (λ c. search needs)
+    (λ c. search needs)
+    (λ c. search needs)
+    (λ c. search needs)
     loop-again
     returns)

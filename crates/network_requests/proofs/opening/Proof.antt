@@ -4,12 +4,6 @@ use borrow.Author.Needs.{needs}
 use Rattle.network_requests.proofs.opening.Statement.{statement}
 use Rattle.network_requests.proofs.opening.Tie as tie
 
-enum-told : tie.Need-enum-told
-enum-told c = search needs
-
-enum-known-action : tie.Need-enum-known-action
-enum-known-action c = search needs
-
 returns : tie.Need-returns
 returns c = search needs
 
@@ -17,4 +11,4 @@ returns-2 : tie.Need-returns-2
 returns-2 c = rw (c .before .action .given .1) refl
 
 pub opening-spec : {M : Type 1} → statement M
-opening-spec = tie.close (tie.spec enum-told enum-known-action returns returns-2)
+opening-spec = tie.close (tie.spec (λ c. search needs) (λ c. search needs) returns returns-2)
