@@ -1,27 +1,46 @@
 """A loop in a walk: locals that the turns change, each with its value at the turn's number i.
 
-Before a turn the context is `At i`: the token, t, and the cells. i is a number with what is known of it (good): that it is not above the limit comes first.
+Before a turn the context is `At i`: the token, t, and the cells. i is a number with what is known of it: that it is not above the limit, and more where the loop says so.
 """
 import mir
+from rows import NUMBER
 from text import bracket
 
 
 class Changed:
-    """A local that the turns change. value(n): what it is at n; known: that its machine's value Is that, at i; begins: a proof that what the loop is entered with is the value at 0, next: that what a turn left in it is the value at i + 1 (None: by computation)."""
+    """What the turns change, a local or the table. value(n): what it is at n; known: that a local's machine's value Is that, at i; begins: a proof that what the loop is entered with is the value at 0, next: that what a turn left is the value at i + 1 (None: by computation)."""
 
     def __init__(self, row, value, known, begins=None, next=None):
         self.row, self.value, self.known, self.begins, self.next = row, value, known, begins, next
 
 
+def below(limit):
+    """i < limit, where the test of it held."""
+    return f"(reaches (i .0) _ {limit} held (leb→le _ _ tt))"
+
+
+def beyond(limit):
+    """limit ≤ i, where the test of i < limit failed."""
+    return f"(passes (i .0) _ {limit} failed (leb→le _ _ tt))"
+
+
 class Loop:
-    def __init__(self, limit, good, start, changed, next, less, uses):
-        """good: a predicate of numbers that begins with i ≤ limit. start: a proof that 0 is good. changed: local: Changed. next: a proof that i + 1 is good, less: that i < limit, both at the end of a turn."""
-        self.limit, self.good, self.start, self.changed, self.next, self.less, self.uses = limit, good, start, changed, next, less, uses
+    def __init__(self, limit, counter, changed=None, table=None, good=None, start="zero-le", next=None, less=None):
+        """counter: the local that is i. changed: the others, local: Changed; table: the Changed of the table. good: a predicate of numbers that begins with i ≤ limit, where more than that is known.
+        start: a proof that 0 is good, next: that i + 1 is, less: that i < limit, both at the end of a turn."""
+        self.limit, self.table, self.good, self.start = limit, table, f"{good} i" if good else f"i ≤ {limit}", start
+        self.less = less or below(limit)
+        self.next = next or f"add-one-le {bracket(self.less)}"
+        self.fits = f"lt-of-le-of-lt (add-one-le {bracket(self.less)}) (lit< tt)"
+        self.changed = {**(changed or {}), counter: Changed(NUMBER, lambda n: n, f"(refl, lt-of-le-of-lt (i .1{' .0' if good else ''}) (lit< tt))")}
 
     def held(self, made):
         """What the changed locals hold at i; made(x, v, g, row) makes a Held."""
         values = {local: bracket(c.value("(i .0)")) for local, c in self.changed.items()}
         return {local: made(values[local], c.row.value(values[local]), c.known, c.row) for local, c in self.changed.items()}
+
+    def now(self):
+        return self.table.value("(i .0)") if self.table else "h"
 
     def opening(self):
         return f"""
@@ -35,13 +54,19 @@ turn = inside (inside (inside (after {self.before} (code.function .body))))
         for local, c in self.changed.items():
             if c.begins:
                 walk.emit(f"rewrite ! {walk.cell(local)} (λ (u : {c.row.denotation}). ‵ (fat fullShare {bracket(c.row.mir)} l{local} 0 {c.row.value('u')})) {bracket(c.begins)} refl $")
+        if self.table:
+            self.turned(walk, self.table.begins)
         at = f"len {walk.names()}" if walk.sizes else walk.names()
         walk.emit(f"first ! $ blocks ! $ loops ! 𝓣 Nearer Nearer-wf (At {at}) (turns {at}) (0, {self.start})")
-        self.cells = place.holds_all(self.held(made))
+        self.cells = place.holds_all(self.held(made)).but(now=self.now())
         outer, walk.lines = walk.lines, []
         opened = walk.go(mir.flat(block[1][1]), self.cells.but(turn=rest), 0)
         walk.close(opened)
         self.lines, walk.lines = walk.lines, outer
+
+    def turned(self, walk, proof):
+        """The table at the head is what a proof says that it is."""
+        walk.emit(f"rewrite ! 0 (λ (z : Table). {walk.lent('z')}) {bracket(proof)} refl $")
 
     def again(self, walk, place):
         """The end of a turn: what it changed is the value at i + 1, what it made is forgotten."""
@@ -49,6 +74,8 @@ turn = inside (inside (inside (after {self.before} (code.function .body))))
             if c.next:
                 held = place.held[local]
                 walk.emit(f"rewrite ! {walk.cell(local)} (λ (u : Val). ‵ (fat fullShare {bracket(c.row.mir)} l{local} 0 u)) (ap only ({c.row.tells} {held.x} _ {held.g}) ∙ ap {bracket(c.row.machine)} {bracket(c.next)}) refl $")
+        if self.table:
+            self.turned(walk, self.table.next)
         made = sorted({*place.held, *place.pointers} - set(self.cells.held), reverse=True)
         forgets = "".join(f"forget ! {walk.cell(i)} refl $ " for i in made)
         walk.emit(f"{forgets}again ! Nearer At i (i .0 + 1, {self.next}) (add-one-dec {self.limit} (i .0) {bracket(self.less)})")
@@ -59,12 +86,12 @@ turn = inside (inside (inside (after {self.before} (code.function .body))))
         for i in reversed(range(walk.count)):
             value = "(vptr b o)" if i == 1 else self.cells.held[i].v if i in self.cells.held else None
             cells.append(f"‵ (fat fullShare (ty {i}) l{i} 0 {value}) ∷ ‵ (fdies (ty {i}) l{i})" if value else f"‵ (froom (ty {i}) l{i} 0) ∷ ‵ (fdies (ty {i}) l{i})")
-        context = [walk.lent("h"), "‵ (flft κ q)"] if walk.mut else ["‵ (flft κ q)", walk.lent("h")]
+        context = [walk.lent(self.now()), "‵ (flft κ q)"] if walk.mut else ["‵ (flft κ q)", walk.lent("h")]
         size = f" (len : length (h .{walk.sizes.field}) ≡ {walk.sizes.count})" if walk.sizes else ""
         lines = "\n".join("  " + line for line in self.lines)
         return f"""
       abbrev Upto : Type 0
-      Upto = (i : ℕ) × {bracket(self.good)} i
+      Upto = (i : ℕ) × ({self.good})
 
       abbrev Nearer : Upto → Upto → Type 0
       Nearer j i = {self.limit} - j .0 < {self.limit} - i .0
