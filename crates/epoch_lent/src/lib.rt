@@ -11,7 +11,7 @@ ghost use Rattle.rules.specs.Limits.{chunkLimit};
 ghost use Rattle.rules.specs.Settlement.{settled};
 ghost use Rattle.rules.specs.Tables.{withRecords, withChunks, withEpoch};
 ghost use Rattle.rules.specs.Words.{each, numbers};
-ghost use Rattle.epoch_lent.specs.Steps.{placeOf, copyOf, copyAt, copiesAt, heldAt, withHeld, withBlock, chunkAt, withChunkAt, changedTo};
+ghost use Rattle.epoch_lent.specs.Steps.{copyOf, copyAt, copiesAt, heldAt, withHeld, withBlock, chunkAt, withChunkAt, changedTo};
 use rules::Chunk;
 use rules::Copy;
 use rules::Creation;
@@ -22,16 +22,6 @@ use rules::Table;
 // The copies of one block, one a chunk.
 struct Copies {
     copies: [Copy; rules::CHUNKS],
-}
-
-// Where chunk c has block b among the records; beyond them, where there is no such chunk or block.
-fn place_of(c: u64, b: u64) -> u64
-    ensures { λ r. ⌜ r ≡ placeOf c b ⌝ }
-{
-    if (c < rules::CHUNKS as u64) & (b < rules::BLOCKS as u64) {
-        return c * 16 + b;
-    }
-    128
 }
 
 fn copy_of(k: Creation, chunk: Chunk, held: Record, c: u64, b: u64) -> Copy
@@ -53,13 +43,20 @@ fn copy_of(k: Creation, chunk: Chunk, held: Record, c: u64, b: u64) -> Copy
     }
 }
 
-fn gathered(c0: Copy, c1: Copy, c2: Copy, c3: Copy, c4: Copy, c5: Copy, c6: Copy, c7: Copy) -> Copies
+fn gathered(
+    c0: Copy,
+    c1: Copy,
+    c2: Copy,
+    c3: Copy,
+    c4: Copy,
+    c5: Copy,
+    c6: Copy,
+    c7: Copy,
+) -> Copies
     ensures { λ r. ⌜ r ≡ record { copies = c0 ∷ c1 ∷ c2 ∷ c3 ∷ c4 ∷ c5 ∷ c6 ∷ c7 ∷ [] } ⌝ }
 {
     let copies = [c0, c1, c2, c3, c4, c5, c6, c7];
-    Copies {
-        copies: copies,
-    }
+    Copies { copies: copies }
 }
 
 fn settle_copies(x: Copies) -> Copies
@@ -67,9 +64,7 @@ fn settle_copies(x: Copies) -> Copies
 {
     let copies = x.copies;
     let out = epoch_settle::settle(copies);
-    Copies {
-        copies: out,
-    }
+    Copies { copies: out }
 }
 
 // What chunk c holds; zero where there is no such chunk.
@@ -89,7 +84,7 @@ fn copy_in(t: &Table, c: u64, b: u64) -> Copy
 {
     let k = table_numbers::creation_in(t);
     let chunk = table_chunks::chunk_in(t, c);
-    let i = place_of(c, b);
+    let i = table_records::record_number(c, b);
     let held = table_records::record_in(t, i);
     copy_of(k, chunk, held, c, b)
 }
@@ -112,7 +107,7 @@ fn copies_in(t: &Table, b: u64) -> Copies
 fn store_in(t: &mut Table, x: Copies, c: u64, b: u64)
     ensures { λ _. ⌜ now (t .exit) ≡ withHeld (x .copies) b (now (t .entry)) c ⌝ }
 {
-    let i = place_of(c, b);
+    let i = table_records::record_number(c, b);
     let held = held_at(x, c);
     table_records::put_record(&mut *t, i, held);
 }
@@ -137,7 +132,7 @@ fn settle_in(t: &mut Table)
     ensures { λ _. ⌜ now (t .exit) ≡ withRecords (now (t .entry)) (settledIn (now (t .entry) .creation) (now (t .entry) .chunks) (now (t .entry) .records)) ⌝ }
 {
     let mut b: u64 = 0;
-    while b < 16 {
+    while b < rules::BLOCKS as u64 {
         settle_block_in(&mut *t, b);
         b = b + 1;
     }
@@ -149,13 +144,20 @@ struct Chunks {
     chunks: [Chunk; rules::CHUNKS],
 }
 
-fn ranked(c0: Chunk, c1: Chunk, c2: Chunk, c3: Chunk, c4: Chunk, c5: Chunk, c6: Chunk, c7: Chunk) -> Chunks
+fn ranked(
+    c0: Chunk,
+    c1: Chunk,
+    c2: Chunk,
+    c3: Chunk,
+    c4: Chunk,
+    c5: Chunk,
+    c6: Chunk,
+    c7: Chunk,
+) -> Chunks
     ensures { λ r. ⌜ r ≡ record { chunks = c0 ∷ c1 ∷ c2 ∷ c3 ∷ c4 ∷ c5 ∷ c6 ∷ c7 ∷ [] } ⌝ }
 {
     let chunks = [c0, c1, c2, c3, c4, c5, c6, c7];
-    Chunks {
-        chunks: chunks,
-    }
+    Chunks { chunks: chunks }
 }
 
 fn code_of(k: Creation, epoch: Epoch, x: Chunks) -> u64
@@ -170,9 +172,7 @@ fn renew_chunks(k: Creation, next: Epoch, x: Chunks) -> Chunks
 {
     let chunks = x.chunks;
     let out = epoch_change::renew(k, next, chunks);
-    Chunks {
-        chunks: out,
-    }
+    Chunks { chunks: out }
 }
 
 // Chunk c; zero where there is none.
