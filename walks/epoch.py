@@ -27,11 +27,10 @@ def listed(*xs):
 
 CONTRACTS = [
     gives("epoch_lent::copy_of", lambda k, chunk, held, c, b: f"copyOf {k} {chunk} {held} {c} {b}"),
-    gives("epoch_lent::gathered", lambda *copies: f"record {{ copies = {listed(*copies)} }}"),
-    gives("epoch_lent::settle_copies", lambda x: f"record {{ copies = settled ({x} .copies) }}"),
+    gives("epoch_lent::settle_copies", lambda *copies: f"record {{ copies = settled ({listed(*copies)}) }}"),
     gives("epoch_lent::held_at", lambda x, c: f"heldAt ({x} .copies) {c}"),
     gives("epoch_lent::copy_in", lambda t, c, b: f"copyAt {t} {b} {c}"),
-    gives("epoch_lent::copies_in", lambda t, b: f"record {{ copies = copiesAt {t} {b} }}"),
+    gives("epoch_lent::settled_in", lambda t, b: f"record {{ copies = settled (copiesAt {t} {b}) }}"),
     leaves("epoch_lent::store_in", lambda t, x, c, b: f"withHeld ({x} .copies) {b} {t} {c}"),
     leaves("epoch_lent::settle_block_in", lambda t, b: f"withBlock {t} {b}"),
     leaves("epoch_lent::settle_in", lambda t: f"withRecords {t} (settledIn ({t} .creation) ({t} .chunks) ({t} .records))"),
@@ -54,9 +53,9 @@ def walks(contracts):
     settling = Loop(16, 2, table=Changed(TABLE, lambda n: f"tableTo h len {n}", None, "table-begins h len", f"e1 ∙ table-next h len (i .0) {below(16)}"))
     return [
         walk("copy_in", [f"copy-is h x2 x3 {some('r%d', 1, 5)} {some('e%d', 1, 5)}"]),
-        walk("copies_in", [f"copies-are h x2 {some('r%d', 1, 8)} {some('e%d', 1, 8)} r9 e9"]),
+        walk("settled_in", [f"copies-are h x2 {some('r%d', 1, 8)} {some('e%d', 1, 8)} r9 e9"]),
         walk("store_in", ["held-is h (z3 .0) x2 x3 x4 r1 r2 e1 e2 e3"]),
-        walk("settle_block_in", [f"block-is h x2 r1 r2 {some('(z%d .0)', 3, 8)} {some('e%d', 1, 10)}"]),
+        walk("settle_block_in", [f"block-is h x2 r1 {some('(z%d .0)', 2, 8)} {some('e%d', 1, 9)}"]),
         walk("settle_in", [f"table-ends h len (i .0) (i .1) {beyond(16)}"], settling, PARTS[4]),
         walk("chunks_in", [f"chunks-are h len {some('r%d', 1, 8)} {some('e%d', 1, 8)} r9 e9"], sizes=PARTS[3]),
         walk("change_code_in", [f"code-is h {some('r%d', 1, 4)} {some('e%d', 1, 4)}"]),

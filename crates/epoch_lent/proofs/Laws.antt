@@ -37,22 +37,22 @@ copy-is t c b k chunk i held x hk hc hi hh hx = hx ∙ rw (hh, hi, hc, hk) refl
 
 module _ (t : Table) (b : ℕ) (c0 c1 c2 c3 c4 c5 c6 c7 : Copy) where
   pub copies-are : c0 ≡ copyAt t b 0 → c1 ≡ copyAt t b 1 → c2 ≡ copyAt t b 2 → c3 ≡ copyAt t b 3 → c4 ≡ copyAt t b 4 → c5 ≡ copyAt t b 5 → c6 ≡ copyAt t b 6 → c7 ≡ copyAt t b 7
-      → (x : Copies) → x ≡ record { copies = c0 ∷ c1 ∷ c2 ∷ c3 ∷ c4 ∷ c5 ∷ c6 ∷ c7 ∷ [] } → x ≡ record { copies = copiesAt t b }
+      → (x : Copies) → x ≡ record { copies = settled (c0 ∷ c1 ∷ c2 ∷ c3 ∷ c4 ∷ c5 ∷ c6 ∷ c7 ∷ []) } → x ≡ record { copies = settled (copiesAt t b) }
   unfolding each from
   copies-are h0 h1 h2 h3 h4 h5 h6 h7 x h = h ∙ rw (h0, h1, h2, h3, h4, h5, h6, h7) refl
 
 pub held-is : (t z : Table) (x : Copies) (c b i : ℕ) (held : Record) → i ≡ recordNumber c b → held ≡ heldAt (x .copies) c → z ≡ withRecords t (set (t .records) i held) → z ≡ withHeld (x .copies) b t c
 held-is t z x c b i held hi hh h = h ∙ rw (hi, hh) refl
 
-module _ (t : Table) (b : ℕ) (x y : Copies) (t0 t1 t2 t3 t4 t5 t6 t7 : Table) where
+module _ (t : Table) (b : ℕ) (y : Copies) (t0 t1 t2 t3 t4 t5 t6 t7 : Table) where
   abbrev stored : Table → ℕ → Table
   stored = withHeld (y .copies) b
 
-  pub block-is : x ≡ record { copies = copiesAt t b } → y ≡ record { copies = settled (x .copies) } → t0 ≡ stored t 0 → t1 ≡ stored t0 1 → t2 ≡ stored t1 2 → t3 ≡ stored t2 3
+  pub block-is : y ≡ record { copies = settled (copiesAt t b) } → t0 ≡ stored t 0 → t1 ≡ stored t0 1 → t2 ≡ stored t1 2 → t3 ≡ stored t2 3
       → t4 ≡ stored t3 4 → t5 ≡ stored t4 5 → t6 ≡ stored t5 6 → t7 ≡ stored t6 7 → t7 ≡ withBlock t b
   unfolding withBlock fold from
-  block-is hx hy h0 h1 h2 h3 h4 h5 h6 h7 =
-      let is : y .copies ≡ settled (copiesAt t b) = ap (λ (z : Copies). z .copies) hy ∙ ap (λ (z : Copies). settled (z .copies)) hx in
+  block-is hy h0 h1 h2 h3 h4 h5 h6 h7 =
+      let is : y .copies ≡ settled (copiesAt t b) = ap (λ (z : Copies). z .copies) hy in
       let all : t7 ≡ fold stored t (numbers chunkLimit) =
       h7 ∙ ap (λ (z : Table). stored z 7) (h6 ∙ ap (λ (z : Table). stored z 6) (h5 ∙ ap (λ (z : Table). stored z 5) (h4 ∙ ap (λ (z : Table). stored z 4)
       (h3 ∙ ap (λ (z : Table). stored z 3) (h2 ∙ ap (λ (z : Table). stored z 2) (h1 ∙ ap (λ (z : Table). stored z 1) h0)))))) in

@@ -9,8 +9,9 @@ ghost use Rattle.rules.specs.Codes.{codeOf};
 ghost use Rattle.rules.specs.Events.{settledIn, renewed, epochRefusals};
 ghost use Rattle.rules.specs.Limits.{chunkLimit};
 ghost use Rattle.rules.specs.Settlement.{settled};
-ghost use Rattle.rules.specs.Tables.{withRecords, withChunks, withEpoch};
+ghost use Rattle.rules.specs.Tables.{setOf, withRecords, withChunks, withEpoch};
 ghost use Rattle.rules.specs.Words.{each, numbers};
+ghost use Rattle.rules.specs.Zero.{_among_};
 ghost use Rattle.epoch_lent.specs.Steps.{copyOf, copyAt, copiesAt, heldAt, withHeld, withBlock, chunkAt, withChunkAt, changedTo};
 use rules::Chunk;
 use rules::Copy;
@@ -24,26 +25,29 @@ struct Copies {
     copies: [Copy; rules::CHUNKS],
 }
 
-fn copy_of(k: Creation, chunk: Chunk, held: Record, c: u64, b: u64) -> Copy
-    ensures { λ r. ⌜ r ≡ copyOf k chunk held c b ⌝ }
+// The chunk has a copy of the block.
+fn holds(k: Creation, c: u64, b: u64) -> bool
+    ensures { λ r. ⌜ r ≡ (c among setOf k b) ⌝ }
 {
     let i = b as usize;
     if i < rules::BLOCKS {
         let set = k.sets[i];
-        return Copy {
-            member: table_sets::among(c, set),
-            lost: chunk.lost,
-            held: held,
-        };
+        return table_sets::among(c, set);
     }
+    false
+}
+
+fn copy_of(k: Creation, chunk: Chunk, held: Record, c: u64, b: u64) -> Copy
+    ensures { λ r. ⌜ r ≡ copyOf k chunk held c b ⌝ }
+{
     Copy {
-        member: false,
+        member: holds(k, c, b),
         lost: chunk.lost,
         held: held,
     }
 }
 
-fn gathered(
+fn settle_copies(
     c0: Copy,
     c1: Copy,
     c2: Copy,
@@ -53,16 +57,9 @@ fn gathered(
     c6: Copy,
     c7: Copy,
 ) -> Copies
-    ensures { λ r. ⌜ r ≡ record { copies = c0 ∷ c1 ∷ c2 ∷ c3 ∷ c4 ∷ c5 ∷ c6 ∷ c7 ∷ [] } ⌝ }
+    ensures { λ r. ⌜ r ≡ record { copies = settled (c0 ∷ c1 ∷ c2 ∷ c3 ∷ c4 ∷ c5 ∷ c6 ∷ c7 ∷ []) } ⌝ }
 {
     let copies = [c0, c1, c2, c3, c4, c5, c6, c7];
-    Copies { copies: copies }
-}
-
-fn settle_copies(x: Copies) -> Copies
-    ensures { λ r. ⌜ r ≡ record { copies = settled (x .copies) } ⌝ }
-{
-    let copies = x.copies;
     let out = epoch_settle::settle(copies);
     Copies { copies: out }
 }
@@ -89,8 +86,9 @@ fn copy_in(t: &Table, c: u64, b: u64) -> Copy
     copy_of(k, chunk, held, c, b)
 }
 
-fn copies_in(t: &Table, b: u64) -> Copies
-    ensures { λ r. ⌜ r ≡ record { copies = copiesAt (now (t .entry)) b } ⌝ }
+// The copies of a block, gathered and settled.
+fn settled_in(t: &Table, b: u64) -> Copies
+    ensures { λ r. ⌜ r ≡ record { copies = settled (copiesAt (now (t .entry)) b) } ⌝ }
 {
     let c0 = copy_in(t, 0, b);
     let c1 = copy_in(t, 1, b);
@@ -100,7 +98,7 @@ fn copies_in(t: &Table, b: u64) -> Copies
     let c5 = copy_in(t, 5, b);
     let c6 = copy_in(t, 6, b);
     let c7 = copy_in(t, 7, b);
-    gathered(c0, c1, c2, c3, c4, c5, c6, c7)
+    settle_copies(c0, c1, c2, c3, c4, c5, c6, c7)
 }
 
 // What chunk c holds of block b is stored.
@@ -115,8 +113,7 @@ fn store_in(t: &mut Table, x: Copies, c: u64, b: u64)
 fn settle_block_in(t: &mut Table, b: u64)
     ensures { λ _. ⌜ now (t .exit) ≡ withBlock (now (t .entry)) b ⌝ }
 {
-    let copies = copies_in(&*t, b);
-    let x = settle_copies(copies);
+    let x = settled_in(&*t, b);
     store_in(&mut *t, x, 0, b);
     store_in(&mut *t, x, 1, b);
     store_in(&mut *t, x, 2, b);

@@ -1,4 +1,4 @@
--- `epoch_lent::copies_in` meets its contract: a walk of its MIR. walks/make writes this file.
+-- `epoch_lent::settled_in` meets its contract: a walk of its MIR. walks/make writes this file.
 use mathlib.Core.Path.{_≡_, refl}
 use Prim.Native.Nat.{ℕ}
 use mathlib.Core.List.{List, [], _∷_}
@@ -42,20 +42,21 @@ use Rattle.rules.proofs.Copy as CopyR
 use Rattle.rules.proofs.Copy.Laws as CopyL
 use Rattle.rules.specs.declared.Table.{Table}
 use Rattle.rules.proofs.Table as TableR
+use Rattle.rules.specs.Settlement.{settled}
 use Rattle.epoch_lent.specs.Steps.{copyAt, copiesAt}
 use Rattle.epoch_lent.proofs.Laws.{copies-are}
 use Rattle.epoch_lent.proofs.copy_in as copy-in
 use Rattle.epoch_lent.proofs.copy_in.Symbol as copy-in-def
 use Rattle.epoch_lent.proofs.copy_in.Symbol.{name as #epoch_lent·copy-in}
 use Rattle.epoch_lent.proofs.copy_in.Met as copy-in-thm
-use Rattle.epoch_lent.proofs.gathered as lent-gathered
-use Rattle.epoch_lent.proofs.gathered.Symbol as lent-gathered-def
-use Rattle.epoch_lent.proofs.gathered.Symbol.{name as #epoch_lent·gathered}
-use Rattle.epoch_lent.proofs.gathered.Met as lent-gathered-thm
-use Rattle.epoch_lent.proofs.copies_in.Key.{name as #epoch_lent·copies-in}
-use Rattle.epoch_lent.proofs.copies_in as me
-use Rattle.epoch_lent.proofs.copies_in.Statement as stated
-use Rattle.epoch_lent.proofs.copies_in.Code as code
+use Rattle.epoch_lent.proofs.settle_copies as settle-copies
+use Rattle.epoch_lent.proofs.settle_copies.Symbol as settle-copies-def
+use Rattle.epoch_lent.proofs.settle_copies.Symbol.{name as #epoch_lent·settle-copies}
+use Rattle.epoch_lent.proofs.settle_copies.Met as settle-copies-thm
+use Rattle.epoch_lent.proofs.settled_in.Key.{name as #epoch_lent·settled-in}
+use Rattle.epoch_lent.proofs.settled_in as me
+use Rattle.epoch_lent.proofs.settled_in.Statement as stated
+use Rattle.epoch_lent.proofs.settled_in.Code as code
 
 abbrev stayed : Stays (me.ended .signature .params) (me.ended .kept)
 stayed = (stay-none-ref (0 ∷ []) tt (plain (λ _. TableR.the-row)) yes, (stay-none (λ _. usize) yes, tt))
@@ -67,11 +68,11 @@ module _ {M : Type 1} (𝓤 : URA M) (H : Heap 𝓤) (A : Atoms 𝓤) (at-mem : 
   said-copy-in : (κ : Lft) (t : RefT Table) (x0 : ℕ) (x1 : ℕ) (r : Copy) → ent 𝓤 (ensured 𝓤 H A copy-in.ended (copy-in.clauses 𝓤 H A at-mem run) (κ, tt) (t, (x0, (x1, tt))) tt r) (fact 𝓤 (r ≡ copyAt (now t) x1 x0))
   said-copy-in κ t x0 x1 r = exE 𝓤 _ (λ ws. snd∗ 𝓤 (sem 𝓤 H A (lasts copy-in.ended (κ, tt) (t, (x0, (x1, tt))) ws)) (fact 𝓤 (r ≡ copyAt (now t) x1 x0)))
 
-  abbrev C-lent-gathered : Contract 𝓤
-  C-lent-gathered = tripleOf 𝓤 H A lent-gathered.signature (lent-gathered.spec 𝓤 H A at-mem run)
+  abbrev C-settle-copies : Contract 𝓤
+  C-settle-copies = tripleOf 𝓤 H A settle-copies.signature (settle-copies.spec 𝓤 H A at-mem run)
 
-  said-lent-gathered : (x0 : Copy) (x1 : Copy) (x2 : Copy) (x3 : Copy) (x4 : Copy) (x5 : Copy) (x6 : Copy) (x7 : Copy) (r : Copies) → ent 𝓤 (ensured 𝓤 H A lent-gathered.ended (lent-gathered.clauses 𝓤 H A at-mem run) tt (x0, (x1, (x2, (x3, (x4, (x5, (x6, (x7, tt)))))))) tt r) (fact 𝓤 (r ≡ record { copies = x0 ∷ x1 ∷ x2 ∷ x3 ∷ x4 ∷ x5 ∷ x6 ∷ x7 ∷ [] }))
-  said-lent-gathered x0 x1 x2 x3 x4 x5 x6 x7 r = exE 𝓤 _ (λ ws. snd∗ 𝓤 (sem 𝓤 H A (lasts lent-gathered.ended tt (x0, (x1, (x2, (x3, (x4, (x5, (x6, (x7, tt)))))))) ws)) (fact 𝓤 (r ≡ record { copies = x0 ∷ x1 ∷ x2 ∷ x3 ∷ x4 ∷ x5 ∷ x6 ∷ x7 ∷ [] })))
+  said-settle-copies : (x0 : Copy) (x1 : Copy) (x2 : Copy) (x3 : Copy) (x4 : Copy) (x5 : Copy) (x6 : Copy) (x7 : Copy) (r : Copies) → ent 𝓤 (ensured 𝓤 H A settle-copies.ended (settle-copies.clauses 𝓤 H A at-mem run) tt (x0, (x1, (x2, (x3, (x4, (x5, (x6, (x7, tt)))))))) tt r) (fact 𝓤 (r ≡ record { copies = settled (x0 ∷ x1 ∷ x2 ∷ x3 ∷ x4 ∷ x5 ∷ x6 ∷ x7 ∷ []) }))
+  said-settle-copies x0 x1 x2 x3 x4 x5 x6 x7 r = exE 𝓤 _ (λ ws. snd∗ 𝓤 (sem 𝓤 H A (lasts settle-copies.ended tt (x0, (x1, (x2, (x3, (x4, (x5, (x6, (x7, tt)))))))) ws)) (fact 𝓤 (r ≡ record { copies = settled (x0 ∷ x1 ∷ x2 ∷ x3 ∷ x4 ∷ x5 ∷ x6 ∷ x7 ∷ []) })))
 
 module _ {M : Type 1} (𝓤 : URA M) (H : Heap 𝓤) (A : Atoms 𝓤) (W : Given 𝓤 H A) (at-mem : Memory → SProp 𝓤) (run : Routine → Fun 𝓤) where
   abbrev to-copy-in : Lft → Share → RefT Table → ℕ → Val → ℕ → Val → C-copy-in 𝓤 H A at-mem run .Ghost
@@ -81,11 +82,11 @@ module _ {M : Type 1} (𝓤 : URA M) (H : Heap 𝓤) (A : Atoms 𝓤) (W : Given
   goes-copy-in κ q t x0 v0 x1 v1 g0 g1 =
       qed W (‵ (flft κ q) ∷ ‵ (ShrRef (named 0) κ TableR.the-row .own t (vptr (t .ptr .0) (t .ptr .1) ∷ [])) ∷ []) ∵ nothing ! $ owned ! usize (Is usize) (uint-makes 𝓤 H A W w64) x1 _ g1 $ fjoin ! $ owned ! usize (Is usize) (uint-makes 𝓤 H A W w64) x0 _ g0 $ fjoin ! $ move ! (2 ∷ 0 ∷ []) $ fjoin ! $ nothing ! $ move ! (2 ∷ 0 ∷ []) $ join ! $ join ! $ frame ! $ done !
 
-  abbrev to-lent-gathered : Copy → Val → Copy → Val → Copy → Val → Copy → Val → Copy → Val → Copy → Val → Copy → Val → Copy → Val → C-lent-gathered 𝓤 H A at-mem run .Ghost
-  to-lent-gathered x0 v0 x1 v1 x2 v2 x3 v3 x4 v4 x5 v5 x6 v6 x7 v7 = ((tt, tt, tt, (x0, (x1, (x2, (x3, (x4, (x5, (x6, (x7, tt)))))))), (v0 ∷ [], (v1 ∷ [], (v2 ∷ [], (v3 ∷ [], (v4 ∷ [], (v5 ∷ [], (v6 ∷ [], (v7 ∷ [], tt))))))))), tt)
+  abbrev to-settle-copies : Copy → Val → Copy → Val → Copy → Val → Copy → Val → Copy → Val → Copy → Val → Copy → Val → Copy → Val → C-settle-copies 𝓤 H A at-mem run .Ghost
+  to-settle-copies x0 v0 x1 v1 x2 v2 x3 v3 x4 v4 x5 v5 x6 v6 x7 v7 = ((tt, tt, tt, (x0, (x1, (x2, (x3, (x4, (x5, (x6, (x7, tt)))))))), (v0 ∷ [], (v1 ∷ [], (v2 ∷ [], (v3 ∷ [], (v4 ∷ [], (v5 ∷ [], (v6 ∷ [], (v7 ∷ [], tt))))))))), tt)
 
-  goes-lent-gathered : (x0 : Copy) (v0 : Val) (x1 : Copy) (v1 : Val) (x2 : Copy) (v2 : Val) (x3 : Copy) (v3 : Val) (x4 : Copy) (v4 : Val) (x5 : Copy) (v5 : Val) (x6 : Copy) (v6 : Val) (x7 : Copy) (v7 : Val) → Is CopyR.the-row x0 (v0 ∷ []) → Is CopyR.the-row x1 (v1 ∷ []) → Is CopyR.the-row x2 (v2 ∷ []) → Is CopyR.the-row x3 (v3 ∷ []) → Is CopyR.the-row x4 (v4 ∷ []) → Is CopyR.the-row x5 (v5 ∷ []) → Is CopyR.the-row x6 (v6 ∷ []) → Is CopyR.the-row x7 (v7 ∷ []) → ent 𝓤 (sem 𝓤 H A ftrue) (C-lent-gathered 𝓤 H A at-mem run .pre (to-lent-gathered x0 v0 x1 v1 x2 v2 x3 v3 x4 v4 x5 v5 x6 v6 x7 v7))
-  goes-lent-gathered x0 v0 x1 v1 x2 v2 x3 v3 x4 v4 x5 v5 x6 v6 x7 v7 g0 g1 g2 g3 g4 g5 g6 g7 = qed W (‵ ftrue ∷ []) ∵ nothing ! $ owned ! CopyR.the-row (Is CopyR.the-row) (LL.makes CopyR.the-type CopyL.the-plain 𝓤 H A) x7 _ g7 $ fjoin ! $ owned ! CopyR.the-row (Is CopyR.the-row) (LL.makes CopyR.the-type CopyL.the-plain 𝓤 H A) x6 _ g6 $ fjoin ! $ owned ! CopyR.the-row (Is CopyR.the-row) (LL.makes CopyR.the-type CopyL.the-plain 𝓤 H A) x5 _ g5 $ fjoin ! $ owned ! CopyR.the-row (Is CopyR.the-row) (LL.makes CopyR.the-type CopyL.the-plain 𝓤 H A) x4 _ g4 $ fjoin ! $ owned ! CopyR.the-row (Is CopyR.the-row) (LL.makes CopyR.the-type CopyL.the-plain 𝓤 H A) x3 _ g3 $ fjoin ! $ owned ! CopyR.the-row (Is CopyR.the-row) (LL.makes CopyR.the-type CopyL.the-plain 𝓤 H A) x2 _ g2 $ fjoin ! $ owned ! CopyR.the-row (Is CopyR.the-row) (LL.makes CopyR.the-type CopyL.the-plain 𝓤 H A) x1 _ g1 $ fjoin ! $ owned ! CopyR.the-row (Is CopyR.the-row) (LL.makes CopyR.the-type CopyL.the-plain 𝓤 H A) x0 _ g0 $ fjoin ! $ move ! (1 ∷ 0 ∷ []) $ join ! $ frame ! $ done !
+  goes-settle-copies : (x0 : Copy) (v0 : Val) (x1 : Copy) (v1 : Val) (x2 : Copy) (v2 : Val) (x3 : Copy) (v3 : Val) (x4 : Copy) (v4 : Val) (x5 : Copy) (v5 : Val) (x6 : Copy) (v6 : Val) (x7 : Copy) (v7 : Val) → Is CopyR.the-row x0 (v0 ∷ []) → Is CopyR.the-row x1 (v1 ∷ []) → Is CopyR.the-row x2 (v2 ∷ []) → Is CopyR.the-row x3 (v3 ∷ []) → Is CopyR.the-row x4 (v4 ∷ []) → Is CopyR.the-row x5 (v5 ∷ []) → Is CopyR.the-row x6 (v6 ∷ []) → Is CopyR.the-row x7 (v7 ∷ []) → ent 𝓤 (sem 𝓤 H A ftrue) (C-settle-copies 𝓤 H A at-mem run .pre (to-settle-copies x0 v0 x1 v1 x2 v2 x3 v3 x4 v4 x5 v5 x6 v6 x7 v7))
+  goes-settle-copies x0 v0 x1 v1 x2 v2 x3 v3 x4 v4 x5 v5 x6 v6 x7 v7 g0 g1 g2 g3 g4 g5 g6 g7 = qed W (‵ ftrue ∷ []) ∵ nothing ! $ owned ! CopyR.the-row (Is CopyR.the-row) (LL.makes CopyR.the-type CopyL.the-plain 𝓤 H A) x7 _ g7 $ fjoin ! $ owned ! CopyR.the-row (Is CopyR.the-row) (LL.makes CopyR.the-type CopyL.the-plain 𝓤 H A) x6 _ g6 $ fjoin ! $ owned ! CopyR.the-row (Is CopyR.the-row) (LL.makes CopyR.the-type CopyL.the-plain 𝓤 H A) x5 _ g5 $ fjoin ! $ owned ! CopyR.the-row (Is CopyR.the-row) (LL.makes CopyR.the-type CopyL.the-plain 𝓤 H A) x4 _ g4 $ fjoin ! $ owned ! CopyR.the-row (Is CopyR.the-row) (LL.makes CopyR.the-type CopyL.the-plain 𝓤 H A) x3 _ g3 $ fjoin ! $ owned ! CopyR.the-row (Is CopyR.the-row) (LL.makes CopyR.the-type CopyL.the-plain 𝓤 H A) x2 _ g2 $ fjoin ! $ owned ! CopyR.the-row (Is CopyR.the-row) (LL.makes CopyR.the-type CopyL.the-plain 𝓤 H A) x1 _ g1 $ fjoin ! $ owned ! CopyR.the-row (Is CopyR.the-row) (LL.makes CopyR.the-type CopyL.the-plain 𝓤 H A) x0 _ g0 $ fjoin ! $ move ! (1 ∷ 0 ∷ []) $ join ! $ frame ! $ done !
 
 module _ {M : Type 1} (𝓤 : URA M) (H : Heap 𝓤) (A : Atoms 𝓤) (W : Given 𝓤 H A) (at-mem : Memory → SProp 𝓤) (run : Routine → Fun 𝓤) (κ : Lft) (q : Share) (b o : ℕ) (γ : GName) (h : Table) (x2 : ℕ) where
   abbrev rt : GName → Table → RefT Table
@@ -101,13 +102,13 @@ module _ {M : Type 1} (𝓤 : URA M) (H : Heap 𝓤) (A : Atoms 𝓤) (W : Given
   Post = walkOf 𝓤 H A me.ended stayed (me.clauses 𝓤 H A at-mem run) .post (((κ, tt), (q, tt), tt, x, vs), tt)
 
   module _ (g2 : Is usize x2 ((vint w64 x2) ∷ [])) where
-    exits : (r : Copies) (v : Val) → Is CopiesR.the-row r (v ∷ []) → r ≡ record { copies = copiesAt h x2 } → ent 𝓤 (⋆ 𝓤 H A (‵ (flft κ q) ∷ ‵ (ShrRef (named 0) κ TableR.the-row .own (rt γ h) (vptr b o ∷ [])) ∷ [])) (Post v)
+    exits : (r : Copies) (v : Val) → Is CopiesR.the-row r (v ∷ []) → r ≡ record { copies = settled (copiesAt h x2) } → ent 𝓤 (⋆ 𝓤 H A (‵ (flft κ q) ∷ ‵ (ShrRef (named 0) κ TableR.the-row .own (rt γ h) (vptr b o ∷ [])) ∷ [])) (Post v)
     exits r v g eq =
         qed W (‵ (flft κ q) ∷ ‵ (ShrRef (named 0) κ TableR.the-row .own (rt γ h) (vptr b o ∷ [])) ∷ []) ∵
         suffices ! _ (ends-at 𝓤 H A me.ended stayed (me.clauses 𝓤 H A at-mem run) W (((κ, tt), (q, tt), tt, x, vs), tt) v r (tt, (tt, tt)) (tt, (tt, tt))) $ says ! eq $
         nothing ! $ move ! (1 ∷ 0 ∷ []) $ join ! $ frame ! $ nothing ! $ owned ! usize (Is usize) (uint-makes 𝓤 H A W w64) x2 _ g2 $ fjoin ! $ move ! (1 ∷ 0 ∷ []) $ fjoin ! $ frame ! $ owned ! CopiesR.the-row (Is CopiesR.the-row) (LL.makes CopiesR.the-type CopiesL.the-plain 𝓤 H A) r _ g $ done !
 
-    module _ (𝓣 : Tables 𝓤 H) (known-copy-in : Triple 𝓤 (𝓣 .C #epoch_lent·copy-in) (C-copy-in 𝓤 H A at-mem run)) (known-lent-gathered : Triple 𝓤 (𝓣 .C #epoch_lent·gathered) (C-lent-gathered 𝓤 H A at-mem run)) where
+    module _ (𝓣 : Tables 𝓤 H) (known-copy-in : Triple 𝓤 (𝓣 .C #epoch_lent·copy-in) (C-copy-in 𝓤 H A at-mem run)) (known-settle-copies : Triple 𝓤 (𝓣 .C #epoch_lent·settle-copies) (C-settle-copies 𝓤 H A at-mem run)) where
       abbrev C : Calls 𝓤 H
       C = 𝓣 .C
 
@@ -188,11 +189,11 @@ module _ {M : Type 1} (𝓤 : URA M) (H : Heap 𝓤) (A : Atoms 𝓤) (W : Given
           use1 W (raw (fact 𝓤 (r8 ≡ copyAt h x2 7))) (said-copy-in 𝓤 H A at-mem run κ (rt γ h) 7 x2 r8) $ heard ! (r8 ≡ copyAt h x2 7) (λ e8. split ! $ move ! (1 ∷ []) $ facts ! CopyR.the-row (Is CopyR.the-row) (shows 𝓤 H A CopyR.the-row) r8 (w8 ∷ []) (λ is8.
           land ! (from ! (stop !)) (init ! 2 {τ = CopyL.mir} {v = w8} refl (LL.lawful CopyR.the-type CopyL.the-laws 𝓤 H A W .typed r8 _ is8 .0)) $
           split ! $ move ! (1 ∷ []) $ drop ! $
-          -- _0 = epoch_lent::gathered(_3, _4, _5, _6, _7, _8, _9, _10)
-          nothing ! $ use1 W (raw (C-lent-gathered 𝓤 H A at-mem run .pre (to-lent-gathered 𝓤 H A W at-mem run r1 w1 r2 w2 r3 w3 r4 w4 r5 w5 r6 w6 r7 w7 r8 w8))) (goes-lent-gathered 𝓤 H A W at-mem run r1 w1 r2 w2 r3 w3 r4 w4 r5 w5 r6 w6 r7 w7 r8 w8 is1 is2 is3 is4 is5 is6 is7 is8) $
-          calls-at ! fm (C-lent-gathered 𝓤 H A at-mem run) known-lent-gathered (to-lent-gathered 𝓤 H A W at-mem run r1 w1 r2 w2 r3 w3 r4 w4 r5 w5 r6 w6 r7 w7 r8 w8) (and-then ! (load ! (from ! (stop !)) (look ! 17 {q = fullShare} {τ = CopyL.mir} {b = l3} {o = 0} {v = w1} refl)) (and-then ! (load ! (from ! (stop !)) (look ! 15 {q = fullShare} {τ = CopyL.mir} {b = l4} {o = 0} {v = w2} refl)) (and-then ! (load ! (from ! (stop !)) (look ! 13 {q = fullShare} {τ = CopyL.mir} {b = l5} {o = 0} {v = w3} refl)) (and-then ! (load ! (from ! (stop !)) (look ! 11 {q = fullShare} {τ = CopyL.mir} {b = l6} {o = 0} {v = w4} refl)) (and-then ! (load ! (from ! (stop !)) (look ! 9 {q = fullShare} {τ = CopyL.mir} {b = l7} {o = 0} {v = w5} refl)) (and-then ! (load ! (from ! (stop !)) (look ! 7 {q = fullShare} {τ = CopyL.mir} {b = l8} {o = 0} {v = w6} refl)) (and-then ! (load ! (from ! (stop !)) (look ! 5 {q = fullShare} {τ = CopyL.mir} {b = l9} {o = 0} {v = w7} refl)) (and-then ! (load ! (from ! (stop !)) (look ! 3 {q = fullShare} {τ = CopyL.mir} {b = l10} {o = 0} {v = w8} refl)) (no-more !))))))))) (λ w9.
-          use1 W (later (some (λ (r : Copies). (‵ ftrue ⊛ ‵ (CopiesR.the-row .own r (w9 ∷ []))) ⊛ raw (ensured 𝓤 H A lent-gathered.ended (lent-gathered.clauses 𝓤 H A at-mem run) tt (r1, (r2, (r3, (r4, (r5, (r6, (r7, (r8, tt)))))))) tt r)))) (id⊢ 𝓤 _) $ await ! tt $ pick ! (λ r9. split ! $ move ! (1 ∷ []) $
-          use1 W (raw (fact 𝓤 (r9 ≡ record { copies = r1 ∷ r2 ∷ r3 ∷ r4 ∷ r5 ∷ r6 ∷ r7 ∷ r8 ∷ [] }))) (said-lent-gathered 𝓤 H A at-mem run r1 r2 r3 r4 r5 r6 r7 r8 r9) $ heard ! (r9 ≡ record { copies = r1 ∷ r2 ∷ r3 ∷ r4 ∷ r5 ∷ r6 ∷ r7 ∷ r8 ∷ [] }) (λ e9. split ! $ drop ! $ facts ! CopiesR.the-row (Is CopiesR.the-row) (shows 𝓤 H A CopiesR.the-row) r9 (w9 ∷ []) (λ is9.
+          -- _0 = epoch_lent::settle_copies(_3, _4, _5, _6, _7, _8, _9, _10)
+          nothing ! $ use1 W (raw (C-settle-copies 𝓤 H A at-mem run .pre (to-settle-copies 𝓤 H A W at-mem run r1 w1 r2 w2 r3 w3 r4 w4 r5 w5 r6 w6 r7 w7 r8 w8))) (goes-settle-copies 𝓤 H A W at-mem run r1 w1 r2 w2 r3 w3 r4 w4 r5 w5 r6 w6 r7 w7 r8 w8 is1 is2 is3 is4 is5 is6 is7 is8) $
+          calls-at ! fm (C-settle-copies 𝓤 H A at-mem run) known-settle-copies (to-settle-copies 𝓤 H A W at-mem run r1 w1 r2 w2 r3 w3 r4 w4 r5 w5 r6 w6 r7 w7 r8 w8) (and-then ! (load ! (from ! (stop !)) (look ! 17 {q = fullShare} {τ = CopyL.mir} {b = l3} {o = 0} {v = w1} refl)) (and-then ! (load ! (from ! (stop !)) (look ! 15 {q = fullShare} {τ = CopyL.mir} {b = l4} {o = 0} {v = w2} refl)) (and-then ! (load ! (from ! (stop !)) (look ! 13 {q = fullShare} {τ = CopyL.mir} {b = l5} {o = 0} {v = w3} refl)) (and-then ! (load ! (from ! (stop !)) (look ! 11 {q = fullShare} {τ = CopyL.mir} {b = l6} {o = 0} {v = w4} refl)) (and-then ! (load ! (from ! (stop !)) (look ! 9 {q = fullShare} {τ = CopyL.mir} {b = l7} {o = 0} {v = w5} refl)) (and-then ! (load ! (from ! (stop !)) (look ! 7 {q = fullShare} {τ = CopyL.mir} {b = l8} {o = 0} {v = w6} refl)) (and-then ! (load ! (from ! (stop !)) (look ! 5 {q = fullShare} {τ = CopyL.mir} {b = l9} {o = 0} {v = w7} refl)) (and-then ! (load ! (from ! (stop !)) (look ! 3 {q = fullShare} {τ = CopyL.mir} {b = l10} {o = 0} {v = w8} refl)) (no-more !))))))))) (λ w9.
+          use1 W (later (some (λ (r : Copies). (‵ ftrue ⊛ ‵ (CopiesR.the-row .own r (w9 ∷ []))) ⊛ raw (ensured 𝓤 H A settle-copies.ended (settle-copies.clauses 𝓤 H A at-mem run) tt (r1, (r2, (r3, (r4, (r5, (r6, (r7, (r8, tt)))))))) tt r)))) (id⊢ 𝓤 _) $ await ! tt $ pick ! (λ r9. split ! $ move ! (1 ∷ []) $
+          use1 W (raw (fact 𝓤 (r9 ≡ record { copies = settled (r1 ∷ r2 ∷ r3 ∷ r4 ∷ r5 ∷ r6 ∷ r7 ∷ r8 ∷ []) }))) (said-settle-copies 𝓤 H A at-mem run r1 r2 r3 r4 r5 r6 r7 r8 r9) $ heard ! (r9 ≡ record { copies = settled (r1 ∷ r2 ∷ r3 ∷ r4 ∷ r5 ∷ r6 ∷ r7 ∷ r8 ∷ []) }) (λ e9. split ! $ drop ! $ facts ! CopiesR.the-row (Is CopiesR.the-row) (shows 𝓤 H A CopiesR.the-row) r9 (w9 ∷ []) (λ is9.
           land ! (from ! (stop !)) (init ! 22 {τ = CopiesL.mir} {v = w9} refl (LL.lawful CopiesR.the-type CopiesL.the-laws 𝓤 H A W .typed r9 _ is9 .0)) $
           returns ! (look ! 22 {q = fullShare} {τ = CopiesL.mir} {b = l0} {o = 0} {v = w9} refl) $
           forget ! 2 refl $ forget ! 4 refl $ forget ! 6 refl $ forget ! 8 refl $ forget ! 10 refl $ forget ! 12 refl $ forget ! 14 refl $ forget ! 16 refl $ forget ! 18 refl $ forget ! 20 refl $ forget ! 22 refl $
@@ -200,21 +201,21 @@ module _ {M : Type 1} (𝓤 : URA M) (H : Heap 𝓤) (A : Atoms 𝓤) (W : Given
           by ! (exits r9 w9 is9 (copies-are h x2 r1 r2 r3 r4 r5 r6 r7 r8 e1 e2 e3 e4 e5 e6 e7 e8 r9 e9)))))))))))))))))))))))))))))))))))))))))))))))))
 
 module _ {M : Type 1} (𝓤 : URA M) (H : Heap 𝓤) (A : Atoms 𝓤) (W : Given 𝓤 H A) (at-mem : Memory → SProp 𝓤) (run : Routine → Fun 𝓤) where
-  copies-in-walks : (𝓣 : Tables 𝓤 H) → Triple 𝓤 (𝓣 .C #epoch_lent·copy-in) (C-copy-in 𝓤 H A at-mem run) → Triple 𝓤 (𝓣 .C #epoch_lent·gathered) (C-lent-gathered 𝓤 H A at-mem run) → Walks 𝓤 H A me.ended stayed (WpFn 𝓤 H (𝓣 .C) (𝓣 .Λ) code.function) (me.clauses 𝓤 H A at-mem run)
-  copies-in-walks 𝓣 known-copy-in known-lent-gathered = walked 𝓤 H A me.ended stayed (me.clauses 𝓤 H A at-mem run) (WpFn 𝓤 H (𝓣 .C) (𝓣 .Λ) code.function) (λ κs. (ptr-vals, (uint-vals w64, tt))) (λ κs. (shr-tells (named 0) (κs .0) TableR.the-row, (uint-tells w64, tt)))
-      (λ κs qs bounds a _ are. via 𝓤 _ (fst∗ 𝓤 _ (emp 𝓤)) (walk 𝓤 H A W at-mem run (κs .0) (qs .0) (a .0 .ptr .0) (a .0 .ptr .1) (a .0 .name) (a .0 .now) (a .1 .0) (are .1 .0) 𝓣 known-copy-in known-lent-gathered))
+  settled-in-walks : (𝓣 : Tables 𝓤 H) → Triple 𝓤 (𝓣 .C #epoch_lent·copy-in) (C-copy-in 𝓤 H A at-mem run) → Triple 𝓤 (𝓣 .C #epoch_lent·settle-copies) (C-settle-copies 𝓤 H A at-mem run) → Walks 𝓤 H A me.ended stayed (WpFn 𝓤 H (𝓣 .C) (𝓣 .Λ) code.function) (me.clauses 𝓤 H A at-mem run)
+  settled-in-walks 𝓣 known-copy-in known-settle-copies = walked 𝓤 H A me.ended stayed (me.clauses 𝓤 H A at-mem run) (WpFn 𝓤 H (𝓣 .C) (𝓣 .Λ) code.function) (λ κs. (ptr-vals, (uint-vals w64, tt))) (λ κs. (shr-tells (named 0) (κs .0) TableR.the-row, (uint-tells w64, tt)))
+      (λ κs qs bounds a _ are. via 𝓤 _ (fst∗ 𝓤 _ (emp 𝓤)) (walk 𝓤 H A W at-mem run (κs .0) (qs .0) (a .0 .ptr .0) (a .0 .ptr .1) (a .0 .name) (a .0 .now) (a .1 .0) (are .1 .0) 𝓣 known-copy-in known-settle-copies))
 
   goes : AllGo 𝓤 H A W 1 (me.signature .params) (me.ended .kept) stayed
   goes = (goes-none-ref 𝓤 H A W 1 (0 ∷ []) tt (plain (λ _. TableR.the-row)) yes, (goes-none 𝓤 H A W 1 (λ _. usize) yes (λ κs x f. refl), tt))
 
-copies-in-meets : {M : Type 1} (𝓤 : URA M) (H : Heap 𝓤) (A : Atoms 𝓤) (W : Given 𝓤 H A) (at-mem : Memory → SProp 𝓤) (run : Routine → Fun 𝓤) (𝓣 : Tables 𝓤 H) → Triple 𝓤 (𝓣 .C #epoch_lent·copy-in) (C-copy-in 𝓤 H A at-mem run) → Triple 𝓤 (𝓣 .C #epoch_lent·gathered) (C-lent-gathered 𝓤 H A at-mem run) → Meets 𝓤 H A me.signature (WpFn 𝓤 H (𝓣 .C) (𝓣 .Λ) code.function) (me.spec 𝓤 H A at-mem run)
-copies-in-meets 𝓤 H A W at-mem run 𝓣 known-copy-in known-lent-gathered = walk-meets 𝓤 H A me.ended stayed W (goes 𝓤 H A W at-mem run) (me.clauses 𝓤 H A at-mem run) (WpFn 𝓤 H (𝓣 .C) (𝓣 .Λ) code.function) (WpFn-mono 𝓤 H (W .laws) 𝓣 code.function) (copies-in-walks 𝓤 H A W at-mem run 𝓣 known-copy-in known-lent-gathered)
+settled-in-meets : {M : Type 1} (𝓤 : URA M) (H : Heap 𝓤) (A : Atoms 𝓤) (W : Given 𝓤 H A) (at-mem : Memory → SProp 𝓤) (run : Routine → Fun 𝓤) (𝓣 : Tables 𝓤 H) → Triple 𝓤 (𝓣 .C #epoch_lent·copy-in) (C-copy-in 𝓤 H A at-mem run) → Triple 𝓤 (𝓣 .C #epoch_lent·settle-copies) (C-settle-copies 𝓤 H A at-mem run) → Meets 𝓤 H A me.signature (WpFn 𝓤 H (𝓣 .C) (𝓣 .Λ) code.function) (me.spec 𝓤 H A at-mem run)
+settled-in-meets 𝓤 H A W at-mem run 𝓣 known-copy-in known-settle-copies = walk-meets 𝓤 H A me.ended stayed W (goes 𝓤 H A W at-mem run) (me.clauses 𝓤 H A at-mem run) (WpFn 𝓤 H (𝓣 .C) (𝓣 .Λ) code.function) (WpFn-mono 𝓤 H (W .laws) 𝓣 code.function) (settled-in-walks 𝓤 H A W at-mem run 𝓣 known-copy-in known-settle-copies)
 
-pub copies-in-spec : {M : Type 1} → stated.statement M
+pub settled-in-spec : {M : Type 1} → stated.statement M
 unfolding code.routine tablesOf
-copies-in-spec 𝓤 H 𝓜 𝓖 𝓡 =
+settled-in-spec 𝓤 H 𝓜 𝓖 𝓡 =
     entered 𝓤 H (tripleOf 𝓤 H (𝓖 .A) me.signature (me.spec 𝓤 H (𝓖 .A) (𝓜 .mem) (𝓡 .run)))
-    (tables 𝓤 H 𝓜 𝓡 code.env .C) (tables 𝓤 H 𝓜 𝓡 code.env .Λ) #epoch_lent·copies-in code.function (code.unfolded 𝓤 H 𝓜 𝓡)
-    (copies-in-meets 𝓤 H (𝓖 .A) (givenOf 𝓤 H 𝓜 𝓖) (𝓜 .mem) (𝓡 .run) (tablesOf 𝓤 H 𝓜 (tables 𝓤 H 𝓜 𝓡 code.env))
+    (tables 𝓤 H 𝓜 𝓡 code.env .C) (tables 𝓤 H 𝓜 𝓡 code.env .Λ) #epoch_lent·settled-in code.function (code.unfolded 𝓤 H 𝓜 𝓡)
+    (settled-in-meets 𝓤 H (𝓖 .A) (givenOf 𝓤 H 𝓜 𝓖) (𝓜 .mem) (𝓡 .run) (tablesOf 𝓤 H 𝓜 (tables 𝓤 H 𝓜 𝓡 code.env))
     (cited 𝓤 H (C-copy-in 𝓤 H (𝓖 .A) (𝓜 .mem) (𝓡 .run)) 𝓜 𝓡 code.env #epoch_lent·copy-in copy-in-def.routine code.calls-epoch-lent·copy-in (copy-in-thm.met 𝓤 H 𝓜 𝓖 𝓡))
-    (cited 𝓤 H (C-lent-gathered 𝓤 H (𝓖 .A) (𝓜 .mem) (𝓡 .run)) 𝓜 𝓡 code.env #epoch_lent·gathered lent-gathered-def.routine code.calls-epoch-lent·gathered (lent-gathered-thm.met 𝓤 H 𝓜 𝓖 𝓡)))
+    (cited 𝓤 H (C-settle-copies 𝓤 H (𝓖 .A) (𝓜 .mem) (𝓡 .run)) 𝓜 𝓡 code.env #epoch_lent·settle-copies settle-copies-def.routine code.calls-epoch-lent·settle-copies (settle-copies-thm.met 𝓤 H 𝓜 𝓖 𝓡)))
