@@ -1,14 +1,11 @@
 """The walks of event_lent: one event where the table lies."""
-from callee import Callee
+import accessors
+from contract import Contract, gives, leaves
 from walk import Walk
 
-ME, N, E, X, A, B = "event_lent", "u64", "rules::Event", "event_lent::Here", "event_parts::Acted", "tyBool"
-SLOT, HOST, CHUNK, RECORD, PARTS, REPLY = "rules::Slot", "rules::Host", "rules::Chunk", "rules::Record", "event_parts::Parts", "rules::Reply"
-USES = """Rattle.rules.specs.Events: replyOf
+USES = accessors.USES + """Rattle.rules.specs.Events: replyOf
 Rattle.rules.specs.Limits: chunkLimit
 Rattle.rules.specs.Network: freePlaces removed replied
-Rattle.rules.specs.Tables: withHosts withChunks withRecords withPlaces
-Rattle.rules.specs.Zero: zeroHost zeroChunk zeroRecord zeroPlace
 Rattle.network_places.specs.Sending: sentAll
 Rattle.event_operands.specs.Address: placeAt hostAt
 Rattle.event_parts.specs.Acts: acted
@@ -17,53 +14,57 @@ Rattle.event_lent.proofs.Laws: here-is parts-are keep-is sends-each ref
 """
 
 
-def own(name, params, result, says):
-    return Callee(ME, name, None, params, result, says)
+def field(name, field):
+    return gives(f"event_lent::{name}", lambda x: f"{x} .{field}")
 
 
-def field(name, of, result, field):
-    return own(name, [of], result, lambda a: f"{a[0]} .{field}")
+def message(left, c):
+    return f"getD ({left} .messages) {c} zeroPlace .slot"
 
 
-MESSAGE = "getD (%s .messages) %s zeroPlace .slot"
-SIZED = "length (%s .messages) ≡ chunkLimit"
-OWN = [
-    Callee("event_operands", "place_at", None, [E], N, lambda a: f"placeAt {a[0]}"),
-    Callee("event_operands", "host_at", None, [E, SLOT], N, lambda a: f"hostAt {a[0]} {a[1]}"),
-    Callee("event_parts", "act", None, [E, PARTS], A, lambda a: f"acted {a[0]} {a[1]}"),
-    field("slot_of", "rules::Place", SLOT, "slot"),
-    own("here_by", [E, SLOT, N, HOST], X, lambda a: "hereBy " + " ".join(a)),
-    field("host_number", X, N, "host"),
-    field("chunk_number", X, N, "chunk"),
-    field("held_number", X, N, "«record»"),
-    field("place_number", X, N, "place"),
-    own("parts_by", ["rules::Creation", "rules::Epoch", X, HOST, CHUNK, RECORD, N], PARTS, lambda a: "partsBy " + " ".join(a)),
-    field("host_left", A, HOST, "host"),
-    field("chunk_left", A, CHUNK, "chunk"),
-    field("held_left", A, RECORD, "held"),
-    Callee(ME, "message", None, [A, N], SLOT, tells=lambda r, a: f"({r} ≡ {MESSAGE % (a[0], a[1])}) × ({SIZED % a[0]})"),
-    own("is_refused", [A], B, lambda a: f"not (eqb ({a[0]} .code) 0)"),
-    own("refusal", [A], REPLY, lambda a: f"refusalOf {a[0]}"),
-    own("grant", [A], REPLY, lambda a: f"grantOf {a[0]}"),
-    Callee(ME, "here_in", "&", [E], X, lambda a: f"hereIn {a[0]} {a[1]}"),
-    Callee(ME, "left_in", "&", [E, X], A, lambda a: f"acted {a[1]} (partsIn {a[0]} {a[2]})"),
-    Callee(ME, "keep_in", "&mut", [X, A], None, leaves=lambda r, z, t, a: f"{z} ≡ keeping {t} {a[0]} {a[1]}"),
-    Callee(ME, "send_one", "&mut", [A, N], None, leaves=lambda r, z, t, a: f"({z} ≡ withPlaces {t} (replied ({t} .places) ({MESSAGE % (a[0], a[1])}))) × ({SIZED % a[0]})"),
-    Callee(ME, "send_each", "&mut", [A], None, leaves=lambda r, z, t, a: f"{z} ≡ withPlaces {t} (sentAll ({t} .places) ({a[0]} .messages))"),
+def sized(left):
+    return f"length ({left} .messages) ≡ chunkLimit"
+
+
+CONTRACTS = [
+    gives("event_operands::place_at", lambda e: f"placeAt {e}"),
+    gives("event_operands::host_at", lambda e, slot: f"hostAt {e} {slot}"),
+    gives("event_parts::act", lambda e, parts: f"acted {e} {parts}"),
+    field("slot_of", "slot"),
+    gives("event_lent::here_by", lambda *a: "hereBy " + " ".join(a)),
+    field("host_number", "host"),
+    field("chunk_number", "chunk"),
+    field("held_number", "«record»"),
+    field("place_number", "place"),
+    gives("event_lent::parts_by", lambda *a: "partsBy " + " ".join(a)),
+    field("host_left", "host"),
+    field("chunk_left", "chunk"),
+    field("held_left", "held"),
+    Contract("event_lent::message", lambda r, z, a: f"({r} ≡ {message(*a)}) × ({sized(a[0])})"),
+    gives("event_lent::is_refused", lambda left: f"not (eqb ({left} .code) 0)"),
+    gives("event_lent::refusal", lambda left: f"refusalOf {left}"),
+    gives("event_lent::grant", lambda left: f"grantOf {left}"),
+    gives("event_lent::here_in", lambda t, e: f"hereIn {t} {e}"),
+    gives("event_lent::left_in", lambda t, e, here: f"acted {e} (partsIn {t} {here})"),
+    leaves("event_lent::keep_in", lambda t, here, left: f"keeping {t} {here} {left}"),
+    Contract("event_lent::send_one", lambda r, z, a: f"({z} ≡ withPlaces {a[0]} (replied ({a[0]} .places) ({message(*a[1:])}))) × ({sized(a[1])})"),
+    leaves("event_lent::send_each", lambda t, left: f"withPlaces {t} (sentAll ({t} .places) ({left} .messages))"),
+    Contract("event_lent::act_in", lambda r, z, a: f"({r} ≡ replyOf (actedOn {a[0]} {a[1]})) × ({z} ≡ actedOn {a[0]} {a[1]} .table)"),
 ]
 
 
-def walks(callees):
-    callees = {**callees, **{f"{c.crate}::{c.name}": c for c in OWN}}
-    walk = lambda name, claim, shown: Walk(ME, name, callees, claim, shown, USES)
+def walks(contracts):
+    walk = lambda name, shown: Walk(f"event_lent::{name}", contracts, shown, USES)
     said = lambda n, tables=(): " ".join(f"(z{i} .0) e{i}" if i in tables else f"r{i} e{i}" for i in range(1, n + 1))
     sent = " ".join(f"(z{i} .0)" for i in range(1, 9)) + " " + " ".join(f"(e{i} .0)" for i in range(1, 9))
     return [
-        walk("here_in", lambda r, z, x: f"{r} ≡ hereIn h x2", [f"e6 ∙ here-is h x2 {said(5)}"]),
-        walk("left_in", lambda r, z, x: f"{r} ≡ acted x2 (partsIn h x3)", [f"e11 ∙ ap (acted x2) (e10 ∙ parts-are h x3 {said(9)})"]),
-        walk("keep_in", lambda r, z, x: f"{z} ≡ keeping h x2 x3", [f"keep-is h x2 x3 {said(11, (3, 6, 9, 11))}"]),
-        walk("send_one", lambda r, z, x: f"({z} ≡ withPlaces h (replied (h .places) ({MESSAGE % ('x2', 'x3')}))) × ({SIZED % 'x2'})", ["(e2 ∙ ap (λ (s : Slot). withPlaces h (replied (h .places) s)) (e1 .0), e1 .1)"]),
-        walk("send_each", lambda r, z, x: f"{z} ≡ withPlaces h (sentAll (h .places) (x2 .messages))", [f"sends-each (x2 .messages) (e1 .1) h {sent}"]),
-        walk("act_in", lambda r, z, x: f"({r} ≡ replyOf (actedOn h x2)) × ({z} ≡ actedOn h x2 .table)",
-             ["refused-way h x2 r1 e1 r2 e2 r3 e3 held r4 e4", "granted-way h x2 r1 e1 r2 e2 r3 e3 failed (z5 .0) e5 (z6 .0) e6 r7 e7"]),
+        walk("here_in", [f"e6 ∙ here-is h x2 {said(5)}"]),
+        walk("left_in", [f"e11 ∙ ap (acted x2) (e10 ∙ parts-are h x3 {said(9)})"]),
+        walk("keep_in", [f"keep-is h x2 x3 {said(11, (3, 6, 9, 11))}"]),
+        walk("send_one", ["(e2 ∙ ap (λ (s : Slot). withPlaces h (replied (h .places) s)) (e1 .0), e1 .1)"]),
+        walk("send_each", [f"sends-each (x2 .messages) (e1 .1) h {sent}"]),
+        walk("act_in", ["refused-way h x2 r1 e1 r2 e2 r3 e3 held r4 e4", "granted-way h x2 r1 e1 r2 e2 r3 e3 failed (z5 .0) e5 (z6 .0) e6 r7 e7"]),
     ]
+
+
+WALKS = {"event_lent": walks}

@@ -1,40 +1,46 @@
 """A loop in a walk: locals that the turns change, each with its value at the turn's number i.
 
-Before a turn the context is `At i`: the token, t, and the cells. i is a number with what is known of it (good): that it is not above the limit comes first.
+Before a turn the context is `At i`: the token, t, and the cells. i is a number with what is known of it: that it is not above the limit, and more where the loop says so.
 """
 import mir
+from rows import NUMBER
 from text import bracket
 
 
 class Changed:
-    """A local that the turns change. value(n): what it is at n; known: that its machine's value Is that, at i; begins: a proof that what the loop is entered with is the value at 0, next: that what a turn left in it is the value at i + 1 (None: by computation)."""
+    """What the turns change, a local or the table. value(n): what it is at n; known: that a local's machine's value Is that, at i; begins: a proof that what the loop is entered with is the value at 0, next: that what a turn left is the value at i + 1 (None: by computation)."""
 
     def __init__(self, row, value, known, begins=None, next=None):
         self.row, self.value, self.known, self.begins, self.next = row, value, known, begins, next
 
 
+def below(limit):
+    """i < limit, where the test of it held."""
+    return f"(reaches (i .0) _ {limit} held (leb→le _ _ tt))"
+
+
+def beyond(limit):
+    """limit ≤ i, where the test of i < limit failed."""
+    return f"(passes (i .0) _ {limit} failed (leb→le _ _ tt))"
+
+
 class Loop:
-    def __init__(self, limit, good, start, changed, next, less, uses):
-        """good: a predicate of numbers that begins with i ≤ limit. start: a proof that 0 is good. changed: local: Changed. next: a proof that i + 1 is good, less: that i < limit, both at the end of a turn."""
-        self.limit, self.good, self.start, self.changed, self.next, self.less, self.uses = limit, good, start, changed, next, less, uses
-        self.table = None
-
-    def changes(self, table, begins, becomes):
-        """The turns change the table. table(n): what it is at n; begins: a proof that h is that at 0, becomes: that what a turn leaves is that at i + 1."""
-        self.table = (table, begins, becomes)
-        return self
-
-    def now(self):
-        return self.table[0]("(i .0)") if self.table else "h"
-
-    def turned(self, walk, proof):
-        """The table's value, at the head, is said anew."""
-        walk.emit(f"rewrite ! 0 (λ (z : Table). {walk.lent('z')}) {bracket(proof)} refl $")
+    def __init__(self, limit, counter, changed=None, table=None, good=None, start="zero-le", next=None, less=None):
+        """counter: the local that is i. changed: the others, local: Changed; table: the Changed of the table. good: a predicate of numbers that begins with i ≤ limit, where more than that is known.
+        start: a proof that 0 is good, next: that i + 1 is, less: that i < limit, both at the end of a turn."""
+        self.limit, self.table, self.good, self.start = limit, table, f"{good} i" if good else f"i ≤ {limit}", start
+        self.less = less or below(limit)
+        self.next = next or f"add-one-le {bracket(self.less)}"
+        self.fits = f"lt-of-le-of-lt (add-one-le {bracket(self.less)}) (lit< tt)"
+        self.changed = {**(changed or {}), counter: Changed(NUMBER, lambda n: n, f"(refl, lt-of-le-of-lt (i .1{' .0' if good else ''}) (lit< tt))")}
 
     def held(self, made):
         """What the changed locals hold at i; made(x, v, g, row) makes a Held."""
         values = {local: bracket(c.value("(i .0)")) for local, c in self.changed.items()}
         return {local: made(values[local], c.row.value(values[local]), c.known, c.row) for local, c in self.changed.items()}
+
+    def now(self):
+        return self.table.value("(i .0)") if self.table else "h"
 
     def opening(self):
         return f"""
@@ -49,7 +55,7 @@ turn = inside (inside (inside (after {self.before} (code.function .body))))
             if c.begins:
                 walk.emit(f"rewrite ! {walk.cell(local)} (λ (u : {c.row.denotation}). ‵ (fat fullShare {bracket(c.row.mir)} l{local} 0 {c.row.value('u')})) {bracket(c.begins)} refl $")
         if self.table:
-            self.turned(walk, self.table[1])
+            self.turned(walk, self.table.begins)
         at = f"len {walk.names()}" if walk.sizes else walk.names()
         walk.emit(f"first ! $ blocks ! $ loops ! 𝓣 Nearer Nearer-wf (At {at}) (turns {at}) (0, {self.start})")
         self.cells = place.holds_all(self.held(made)).but(now=self.now())
@@ -58,6 +64,10 @@ turn = inside (inside (inside (after {self.before} (code.function .body))))
         walk.close(opened)
         self.lines, walk.lines = walk.lines, outer
 
+    def turned(self, walk, proof):
+        """The table at the head is what a proof says that it is."""
+        walk.emit(f"rewrite ! 0 (λ (z : Table). {walk.lent('z')}) {bracket(proof)} refl $")
+
     def again(self, walk, place):
         """The end of a turn: what it changed is the value at i + 1, what it made is forgotten."""
         for local, c in self.changed.items():
@@ -65,7 +75,7 @@ turn = inside (inside (inside (after {self.before} (code.function .body))))
                 held = place.held[local]
                 walk.emit(f"rewrite ! {walk.cell(local)} (λ (u : Val). ‵ (fat fullShare {bracket(c.row.mir)} l{local} 0 u)) (ap only ({c.row.tells} {held.x} _ {held.g}) ∙ ap {bracket(c.row.machine)} {bracket(c.next)}) refl $")
         if self.table:
-            self.turned(walk, self.table[2])
+            self.turned(walk, self.table.next)
         made = sorted({*place.held, *place.pointers} - set(self.cells.held), reverse=True)
         forgets = "".join(f"forget ! {walk.cell(i)} refl $ " for i in made)
         walk.emit(f"{forgets}again ! Nearer At i (i .0 + 1, {self.next}) (add-one-dec {self.limit} (i .0) {bracket(self.less)})")
@@ -81,7 +91,7 @@ turn = inside (inside (inside (after {self.before} (code.function .body))))
         lines = "\n".join("  " + line for line in self.lines)
         return f"""
       abbrev Upto : Type 0
-      Upto = (i : ℕ) × {bracket(self.good)} i
+      Upto = (i : ℕ) × ({self.good})
 
       abbrev Nearer : Upto → Upto → Type 0
       Nearer j i = {self.limit} - j .0 < {self.limit} - i .0

@@ -49,16 +49,12 @@ class Function:
 
 
 def functions(crate):
-    """The crate's own functions by name."""
+    """The crate's functions and those of other crates that they call, by name: crate::function."""
     if crate not in FOUND:
         text = subprocess.run([os.environ.get("RT", "rt"), "mir", crate], capture_output=True, text=True).stdout
         if "program (" not in text:
             raise SystemExit("no MIR of %s: rt mir %s says why" % (crate, crate))
-        FOUND[crate] = {}
-        for node in items(tree(text[text.index("program ("):])[1]):
-            where, name = node[1].strip('"').split("::", 1)
-            if where == crate:
-                FOUND[crate][name] = Function(node[2])
+        FOUND[crate] = {node[1].strip('"'): Function(node[2]) for node in items(tree(text[text.index("program ("):])[1])}
     return FOUND[crate]
 
 
@@ -83,5 +79,5 @@ def callee(call):
 
 
 def arguments(call):
-    """The operands of a call: locals, and literals as they stand."""
-    return [operand if operand[0] == "int" else local(operand)[0] for operand in items(call[2])]
+    """The operands that a call is given: locals, and numbers."""
+    return items(call[2])

@@ -55,7 +55,7 @@ base.Logic: SProp ent sep emp via fst∗ snd∗ exE id⊢ guard apply∗
 base.Fml: Lft GName Share ftrue fat froom fdies flft fobs fbor fres fshr-bor
 prog.Memory: Memory
 prog.Routine: Routine
-prog.Wp: Heap Out Env afterSeq afterBlock afterTurn Calls Loops Wp atReturn WpFn Tables
+prog.Wp: Heap Out afterSeq afterBlock afterTurn Calls Loops Wp atReturn WpFn Tables
 ghost.Atoms: Atoms sem
 contract.Monad: Fun fact
 contract.Running: givenOf tables tablesOf

@@ -6,6 +6,7 @@ The function's first parameter is t: &Table or &mut Table, the others are by val
 and a local's cell stands at the same place from one statement to the next (`cell`). What a local holds is a Held. The table's value is h at first and `now` later.
 """
 import mir
+from contract import Callee
 from rows import BOOL, NOTHING, NUMBER, PARTS, TABLE, Part, row
 from text import AT, BASE, GIVEN, HERE, IN, LIBRARY, RUN, bracket, imports, nest, path, product
 
@@ -35,20 +36,22 @@ class Place:
 
 
 class Walk:
-    def __init__(self, crate, name, callees, claim, shown, uses="", loop=None, sizes=None, asked=None, fits=None):
-        """claim(r, z, xs): what the function promises of its result, of the table that it leaves and of its parameters.
-        shown: the proof of it at each return, in their order. In it h is the table at entry, x2, x3, .. the parameters, r1, e1, r2, e2, .. each call's result and what it said,
+    def __init__(self, name, contracts, shown, uses="", loop=None, sizes=None, asked=None):
+        """name: crate::function. contracts: by name, its own and those of what it calls.
+        shown: the proof of its promise at each return, in their order. In it h is the table at entry, x2, x3, .. the parameters, r1, e1, r2, e2, .. each call's result and what it said,
         z1, .. the table that a call left, held and failed how a test came out, len the length of an array that an index is beyond, or of sizes.
-        asked: the proof of a callee's `requires`, by the callee's name. fits: that a sum fits."""
-        self.crate, self.name, self.callees, self.claim, self.shown, self.uses = crate, name, callees, claim, list(shown), uses
-        self.loop, self.sizes, self.asked, self.fits, self.compared = loop, sizes, asked or {}, fits, {}
-        self.id = name.replace("_", "-")
-        self.mir = mir.functions(crate)[name]
+        asked: the proof of a callee's `requires`, by the callee's name."""
+        self.crate, self.name = name.split("::")
+        self.contracts, self.promise, self.shown, self.uses = contracts, contracts[name].promise, list(shown), uses
+        self.loop, self.sizes, self.asked, self.compared = loop, sizes, asked or {}, {}
+        self.id = self.name.replace("_", "-")
+        self.program = mir.functions(self.crate)
+        self.mir = self.program[name]
         self.mut = self.mir.locals[1].startswith("&mut")
         self.count = len(self.mir.locals)
         self.rows = {i: row(self.mir.locals[i]) for i in range(2, self.mir.params + 1)}
         self.result = row(self.mir.locals[0])
-        self.called, self.lines, self.calls, self.returned = [], [], 0, 0
+        self.called, self.lines, self.calls, self.returned = {}, [], 0, 0
 
     # ---- words
 
@@ -71,8 +74,9 @@ class Walk:
     def operand(self, place, node, base=2):
         return "(lit ! tt)" if node[0] == "int" else self.read(place, mir.local(node)[0], base)
 
-    def number(self, place, node):
-        return node[2] if node[0] == "int" else place.held[mir.local(node)[0]].x
+    def value(self, place, node):
+        """What an operand holds: a literal, or a local."""
+        return Held(node[2], NUMBER.value(node[2]), "(refl, lit< tt)", NUMBER, True) if node[0] == "int" else place.held[mir.local(node)[0]]
 
     def write(self, place, local, had, base=2):
         """The write of what a local is to hold."""
@@ -165,9 +169,8 @@ class Walk:
     def tested(self, place, local, statement, name):
         """What a test of an index against the length of an array tells: that it is below it, or not."""
         for node in mir.flat(statement[2]):
-            steps = mir.local(node[2][1])[1] if node[0] == "assign" and node[2][0] == "addrOf" else []
-            if len(steps) == 2:
-                part = PARTS[int(steps[1][1])]
+            if node[0] == "assign" and node[2][0] == "addrOf" and mir.local(node[2][1])[1]:
+                part = PARTS[int(mir.local(node[2][1])[1][1][1])]
                 if isinstance(part, Part) and (index := self.compared.get(local)):
                     return part, f"({'reaches' if name == 'held' else 'passes'} {index} _ {part.count} {name} (leb→le _ _ tt))"
         return None
@@ -187,7 +190,7 @@ class Walk:
                 return place.holds(local, Held(operand, BOOL.value(operand), "refl", BOOL, True)), 0
             if operand[0] == "int":
                 self.emit(f"assigns ! (of-opd ! (lit ! tt)) {HERE} ({'store' if local in place.held else 'init'} ! {self.cell(local)} refl (tt, record {{ fits = lit< tt }})) $")
-                return place.holds(local, self.literal(operand[2])), 0
+                return place.holds(local, self.value(place, operand)), 0
             source, through = mir.local(operand)
             if through:
                 return self.part_read(place, local, source, through)
@@ -196,18 +199,18 @@ class Walk:
             return self.pointed(place, local, mir.local(value[1])[1]), 0
         operator = value[1] if isinstance(value[1], str) else value[1][0]
         if operator == "lt":
-            x, y = self.number(place, value[2]), self.number(place, value[3])
+            x, y = self.value(place, value[2]).x, self.value(place, value[3]).x
             self.compared = {**self.compared, local: x}
             self.emit(f"assigns ! (bin ! {self.operand(place, value[2])} {self.operand(place, value[3])} tt) {HERE} (init ! {self.cell(local)} refl (tt, tt)) $")
             return place.holds(local, Held(f"(ltb {x} {y})", BOOL.value(f"(ltb {x} {y})"), "refl", BOOL, True)), 0
         if operator == "add":
-            x, y = self.number(place, value[2]), self.number(place, value[3])
-            fits = f"record {{ fits = {self.fits} }}"
+            x, y = self.value(place, value[2]).x, self.value(place, value[3]).x
+            fits = f"record {{ fits = {self.loop.fits} }}"
             self.emit(f"assigns{'-last' if last else ''} ! (bin ! {self.operand(place, value[2])} {self.operand(place, value[3])} ({fits})) {HERE} ({'store' if local in place.held else 'init'} ! {self.cell(local)} refl (tt, {fits})) $")
-            return place.holds(local, Held(f"({x} + {y})", NUMBER.value(f"({x} + {y})"), f"(refl, {self.fits})", NUMBER)), 0
+            return place.holds(local, Held(f"({x} + {y})", NUMBER.value(f"({x} + {y})"), f"(refl, {self.loop.fits})", NUMBER)), 0
         if operator == "mul":
             part = PARTS[int(mir.local(rest[0][2][1])[1][1][1])]
-            index = self.number(place, value[2])
+            index = self.value(place, value[2]).x
             fits = f"(scaled-fits {index} {part.count} {part.size} {place.below[1]} (lit< tt))"
             self.emit(f"assigns ! (bin ! {self.operand(place, value[2])} (lit ! tt) {fits}) {HERE} (init ! {self.cell(local)} refl (tt, {fits})) $")
             return place.but(pointers={**place.pointers, local: index}), 0
@@ -311,25 +314,18 @@ class Walk:
 
     # ---- a call
 
-    def argument(self, place, operand):
-        return self.literal(operand[2]) if isinstance(operand, list) else place.held[operand]
-
-    def literal(self, number):
-        return Held(number, NUMBER.value(number), "(refl, lit< tt)", NUMBER, True)
-
     def call(self, statement, place):
-        callee, args, local = self.callees[mir.callee(statement)], mir.arguments(statement), int(statement[3][1])
-        if callee not in self.called:
-            self.called.append(callee)
+        name, args, local = mir.callee(statement), mir.arguments(statement), int(statement[3][1])
+        callee = self.called.setdefault(name, Callee(self.contracts[name], self.program[name]))
         self.calls += 1
         n = self.calls
         id, R, had, opened, now = callee.id, callee.row, local in place.held, 0, bracket(place.now)
         values = args[1:] if callee.table else args
-        held = [self.argument(place, i) for i in values]
+        held = [self.value(place, node) for node in values]
         xs = [x.x for x in held]
         pairs = "".join(f" {x.x} {x.v}" for x in held)
         known = "".join(f" {x.g}" for x in held) + (f" ({self.asked[callee.name]})" if callee.asks else "")
-        self.emit(f"-- _{local} = {callee.crate}::{callee.name}({', '.join(i[2] if isinstance(i, list) else '_%d' % i for i in args)})")
+        self.emit(f"-- _{local} = {callee.crate}::{callee.name}({', '.join(node[2] if node[0] == 'int' else f'_{mir.local(node)[0]}' for node in args)})")
         if not callee.table:
             κ, κs, t, base = "", "tt", [], 3
             self.emit(f"nothing ! $ use1 W (raw (C-{id} {IN} .pre (to-{id} {AT}{pairs}))) (goes-{id} {AT}{pairs}{known}) $")
@@ -350,8 +346,8 @@ class Walk:
             pairs = f" {κ} {q} {t[0]}{pairs}"
             self.emit(f"use2 W (raw (C-{id} {IN} .pre (to-{id} {AT}{pairs}))) (goes-{id} {AT}{pairs}{known}) $")
         operands = "(no-more !)"
-        for i in reversed(args):
-            operands = f"(and-then ! {'(lit ! tt)' if isinstance(i, list) else self.read(place, i, base)} {operands})"
+        for node in reversed(args):
+            operands = f"(and-then ! {self.operand(place, node, base)} {operands})"
         self.emit(f"calls-at ! fm (C-{id} {IN}) known-{id} (to-{id} {AT}{pairs}) {operands} (λ w{n}.")
         ensured = f"(ensured 𝓤 H A {id}.ended ({id}.clauses {IN}) {κs} {nest(t + xs)} tt r)"
         self.emit(f"use1 W (later (some (λ (r : {R.denotation}). ({token} ⊛ ‵ ({R.row} .own r (w{n} ∷ []))) ⊛ raw {ensured}))) (id⊢ 𝓤 _) $ await ! tt $ pick ! (λ r{n}. split ! $ move ! (1 ∷ []) $")
@@ -360,13 +356,13 @@ class Walk:
         facts = f"facts ! {R.shows(f'r{n}', f'w{n}')} (λ is{n}."
         if callee.table == "&mut":
             left = "Table × " + product(["Unit {0}"] * len(xs))
-            said = callee.leaves(f"r{n}", f"z{n} .0", now, xs)
+            said = callee.promise(f"r{n}", f"z{n} .0", [now] + xs)
             self.emit(f"use1 W (some (λ (z{n} : {left}). ‵ (lasts {id}.ended {κs} {nest(t + xs)} z{n}) ⊛ raw (fact 𝓤 ({said})))) (id⊢ 𝓤 _) $ pick ! (λ z{n}. split ! $ move ! (1 ∷ []) $ heard ! ({said}) (λ e{n}. fsplit ! $")
             self.emit(f"move ! (2 ∷ []) $ split ! $ move ! (1 ∷ []) $ {facts}")
             self.emit(f"land ! {HERE} {self.write(place, local, had, 4)} $ split ! $ lft-end ! tt $ move ! (0 ∷ 4 ∷ 2 ∷ []) $")
             self.emit(f"use3 W (later ({self.lent(f'z{n} .0')} ⊛ ‵ (flft κ q))) (comes-back 𝓤 H A W {TABLE.row} (named 0) κ {κ} q γ b o δ{n} {now} (z{n} .0)) $ await ! tt $ split ! $ move ! (2 ∷ 3 ∷ []) $ drop ! $ drop ! $")
             return place.but(now=f"z{n} .0"), opened + 3
-        said = callee.tells(f"r{n}", ([now] if callee.table else []) + xs)
+        said = callee.promise(f"r{n}", None, ([now] if callee.table else []) + xs)
         self.emit(f"use1 W (raw (fact 𝓤 ({said}))) (said-{id} {IN}{f' {κ}' if κ else ''}{''.join(' ' + x for x in t + xs)} r{n}) $ heard ! ({said}) (λ e{n}. split ! $ {'move ! (1 ∷ [])' if callee.table else 'drop !'} $ {facts}")
         self.emit(f"land ! {HERE} {self.write(place, local, had)} $")
         if callee.table and self.mut:
@@ -389,7 +385,7 @@ class Walk:
             raise SystemExit(f"{self.crate}::{self.name} returns {self.returned} times, {len(self.shown)} are shown")
 
     def knows(self, table="𝓣 .C"):
-        return "".join(f" (known-{c.id} : Triple 𝓤 ({table} {c.symbol}) (C-{c.id} {IN}))" for c in self.called)
+        return "".join(f" (known-{c.id} : Triple 𝓤 ({table} {c.symbol}) (C-{c.id} {IN}))" for c in self.called.values())
 
     def text(self):
         self.steps()
@@ -398,12 +394,11 @@ class Walk:
     def file(self, body):
         me = self.crate
         module = f"{path(me, me, 'proofs')}.{self.name}"
-        kinds = {k.lstrip("&").removeprefix("mut ") for k in self.mir.locals} | {k for c in self.called for k in c.params + [c.result or "tyUnit"]} | {"rules::Table"}
+        kinds = {k.lstrip("&").removeprefix("mut ") for k in self.mir.locals} | {k for c in self.called.values() for k in c.params + [c.result]} | {"rules::Table"}
         types = "".join(f"{path(me, c, 'specs')}.declared.{T}: {T}\n{path(me, c, 'proofs')}.{T} as {T}R\n{path(me, c, 'proofs')}.{T}.Laws as {T}L\n" for c, T in sorted(k.split("::") for k in kinds if "::" in k))
         own = f"{module}.Key: name=#{me}·{self.id}\n{module} as me\n{module}.Statement as stated\n{module}.Code as code\n{module}.Code.Mir as Mir\n"
         lent = "Rattle.table_lent.proofs.Bodies: tyAt inside after\nRattle·table_lent.proofs.Hole: reaches passes Back\nRattle·table_lent.proofs.Share: SharedOut shares-out comes-home\n" + LENT_PARTS
-        uses = self.uses + (self.loop.uses if self.loop else "")
-        return f"-- `{me}::{self.name}` meets its contract: a walk of its MIR. walks/make writes this file.\n" + imports(body, LIBRARY + types + uses + lent + "".join(c.uses(me) for c in self.called) + own) + body
+        return f"-- `{me}::{self.name}` meets its contract: a walk of its MIR. walks/make writes this file.\n" + imports(body, LIBRARY + types + self.uses + lent + "".join(c.uses(me) for c in self.called.values()) + own) + body
 
     def opening(self):
         stays = "".join(f"(stay-none (λ _. {R.row}) yes, " for R in self.rows.values())
@@ -413,8 +408,8 @@ abbrev stayed : Stays (me.ended .signature .params) (me.ended .kept)
 stayed = ({table}, {stays}tt{")" * len(self.rows)})
 """
         if self.called:
-            text += f"\nmodule _ {BASE} {RUN} where" + "".join(c.contract() for c in self.called)
-            text += f"\nmodule _ {BASE} {GIVEN} {RUN} where" + "".join(c.goes() for c in self.called)
+            text += f"\nmodule _ {BASE} {RUN} where" + "".join(c.contract() for c in self.called.values())
+            text += f"\nmodule _ {BASE} {GIVEN} {RUN} where" + "".join(c.goes() for c in self.called.values())
         return text
 
     def environment(self):
@@ -461,7 +456,7 @@ module _ {BASE} {GIVEN} {RUN} (κ : Lft) (q : Share) (b o : ℕ) (γ : GName) (h
   Post = walkOf 𝓤 H A me.ended stayed (me.clauses {IN}) .post {spot}
 
   module _{known if known else " (_ : Unit {0})"} where
-    exits : {types}{self.claim("r", "z", xs)} → ent 𝓤 (⋆ 𝓤 H A ({" ∷ ".join(context)} ∷ [])) (Post {value})
+    exits : {types}{self.promise("r", "z", ["h"] + xs)} → ent 𝓤 (⋆ 𝓤 H A ({" ∷ ".join(context)} ∷ [])) (Post {value})
     exits {" ".join(args)} =
         qed W ({" ∷ ".join(context)} ∷ []) ∵
         suffices ! _ (ends-at 𝓤 H A me.ended stayed (me.clauses {IN}) W {spot} {value} {result} {nest((["z"] if table else ["tt"]) + silent)} {nest(["tt"] + silent)}) $ says ! eq $
@@ -494,14 +489,14 @@ module _ {BASE} {GIVEN} {RUN} (κ : Lft) (q : Share) (b o : ℕ) (γ : GName) (h
         reach = {i: f"(a{' .1' * (i - 1)} .0)" for i in self.rows}
         given = " ".join(f"{reach[i]}" + (f" (only ({x.row.vals} {reach[i]}))" if x.v == f"m{i}" else "") for i, x in self.parameters().items())
         are = " ".join(f"(are{' .1' * (i - 1)} .0)" for i in self.rows) or "tt"
-        kn = "".join(f" known-{c.id}" for c in self.called)
-        triples = "".join(f"Triple 𝓤 (𝓣 .C {c.symbol}) (C-{c.id} {IN}) → " for c in self.called)
+        kn = "".join(f" known-{c.id}" for c in self.called.values())
+        triples = "".join(f"Triple 𝓤 (𝓣 .C {c.symbol}) (C-{c.id} {IN}) → " for c in self.called.values())
         vals = nest(["ptr-vals"] + [R.vals for R in self.rows.values()])
         tells = nest([f"{'mut' if self.mut else 'shr'}-tells (named 0) (κs .0) {TABLE.row}"] + [R.tells for R in self.rows.values()])
         goes = nest([f"goes-ref 𝓤 H A W 1 0 tt (plain (λ _. {TABLE.row}))" if self.mut else f"goes-none-ref 𝓤 H A W 1 (0 ∷ []) tt (plain (λ _. {TABLE.row})) yes"]
                     + [f"goes-none 𝓤 H A W 1 (λ _. {R.row}) yes (λ κs x f. refl)" for R in self.rows.values()])
         run = "(WpFn 𝓤 H (𝓣 .C) (𝓣 .Λ) code.function)"
-        cited = "".join(f"\n    (cited 𝓤 H (C-{c.id} 𝓤 H (𝓖 .A) (𝓜 .mem) (𝓡 .run)) 𝓜 𝓡 code.env {c.symbol} {c.id}-def.routine code.calls-{c.crate.replace('_', '-')}·{c.called} ({c.id}-thm.met 𝓤 H 𝓜 𝓖 𝓡))" for c in self.called)
+        cited = "".join(f"\n    (cited 𝓤 H (C-{c.id} 𝓤 H (𝓖 .A) (𝓜 .mem) (𝓡 .run)) 𝓜 𝓡 code.env {c.symbol} {c.id}-def.routine code.calls-{c.crate.replace('_', '-')}·{c.called} ({c.id}-thm.met 𝓤 H 𝓜 𝓖 𝓡))" for c in self.called.values())
         return f"""
 module _ {BASE} {GIVEN} {RUN} where
   {id}-walks : (𝓣 : Tables 𝓤 H) → {triples}Walks 𝓤 H A me.ended stayed {run} (me.clauses {IN})

@@ -22,7 +22,8 @@ use Rattle.rules.specs.Zero.{zeroChunk, zeroRecord, noChunk, noRecord}
 use Rattle.rules.proofs.Lists.{grid-at}
 use Rattle.rules.proofs.Loops.{below-next, grid-length, grid-of, grid-same}
 use Rattle.chunk_alone.specs.declared.Changed.{Changed}
-use Rattle.chunk_fault.specs.Steps.{placeOf, withEmptied, failedTo}
+use Rattle.table_records.specs.Numbers.{recordNumber}
+use Rattle.chunk_fault.specs.Steps.{withEmptied, failedTo}
 
 -- a part that two defaults have in common
 default-part : {A B : Type 0} (f : A → B) (d e : A) → f d ≡ f e → (l : List A) (i : ℕ) → f (getD l i d) ≡ f (getD l i e)
@@ -36,7 +37,7 @@ default-none d e [] i h = absurd (omega arith)
 default-none d e (x ∷ l) zero h = refl
 default-none d e (x ∷ l) (suc i) h = default-none d e l i (omega arith)
 
-pub block-is : (t z : Table) (chunk b i : ℕ) (held none : Record) → i ≡ placeOf chunk b → held ≡ getD (t .records) i zeroRecord → none ≡ emptied held
+pub block-is : (t z : Table) (chunk b i : ℕ) (held none : Record) → i ≡ recordNumber chunk b → held ≡ getD (t .records) i zeroRecord → none ≡ emptied held
     → z ≡ withRecords t (set (t .records) i none) → z ≡ withEmptied chunk t b
 block-is t z chunk b i held none hi hh hn h = h ∙ rw (hn, hh, hi) refl
 
@@ -91,7 +92,7 @@ module _ (h : Table) (len : length (h .records) ≡ 128) (chunk : ℕ) where
     pub table-next : withEmptied chunk (tableTo i) i ≡ tableTo (i + 1)
     table-next = ap (withRecords h) (go (decLe chunkLimit chunk))
       where
-        go : Dec (chunkLimit ≤ chunk) → set now (placeOf chunk i) (emptied (getD now (placeOf chunk i) zeroRecord)) ≡ recordsBy (emptyTo (i + 1))
+        go : Dec (chunkLimit ≤ chunk) → set now (recordNumber chunk i) (emptied (getD now (recordNumber chunk i) zeroRecord)) ≡ recordsBy (emptyTo (i + 1))
         go (yes k) = rw (le-ltb chunk chunkLimit k) (set-out now 128 (emptied (getD now 128 zeroRecord)) (omega (arith, size)) ∙ beyond k)
         go (no k) = rw (lt-ltb chunk chunkLimit (omega arith), lt-ltb i blockLimit inside) (here (omega arith))
 
@@ -99,16 +100,6 @@ module _ (h : Table) (len : length (h .records) ≡ 128) (chunk : ℕ) where
   table-ends i le ge =
       let e : i ≡ 16 = omega arith in
       ap tableTo e ∙ ap (withRecords h) (grid-same chunkLimit blockLimit noRecord (emptyTo 16) (λ c b. cond (eqb c chunk) (emptied (old c b)) (old c b)) (λ c b _ m. rw (lt-ltb b 16 m, and-true (eqb c chunk)) refl))
-
--- how far the loop is
-abbrev pub Blocks : ℕ → Type 0
-Blocks i = (i ≤ 16) × (i ≤ 16)
-
-pub blocks-start : Blocks 0
-blocks-start = (omega arith, omega arith)
-
-pub blocks-next : (i : ℕ) → i < 16 → Blocks (i + 1)
-blocks-next i h = (omega arith, omega arith)
 
 -- ---- the event
 

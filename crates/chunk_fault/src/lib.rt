@@ -6,21 +6,11 @@ ghost use Rattle.rules.specs.Chunks.{failRefusals, emptied};
 ghost use Rattle.rules.specs.Codes.{codeOf};
 ghost use Rattle.rules.specs.Events.{withoutWaiting};
 ghost use Rattle.rules.specs.Tables.{chunkOf, withRecords};
-ghost use Rattle.chunk_fault.specs.Steps.{placeOf, withEmptied, failedTo};
+ghost use Rattle.chunk_fault.specs.Steps.{withEmptied, failedTo};
 use chunk_alone::Changed;
 use rules::Chunk;
 use rules::Record;
 use rules::Table;
-
-// Where chunk c has block b among the records; beyond them, where there is no such chunk or block.
-fn place_of(c: u64, b: u64) -> u64
-    ensures { λ r. ⌜ r ≡ placeOf c b ⌝ }
-{
-    if (c < rules::CHUNKS as u64) & (b < rules::BLOCKS as u64) {
-        return c * rules::BLOCKS as u64 + b;
-    }
-    rules::RECORDS as u64
-}
 
 fn emptied(held: Record) -> Record
     ensures { λ r. ⌜ r ≡ emptied held ⌝ }
@@ -46,13 +36,13 @@ fn chunk_of(x: Changed) -> Chunk
 fn is_refused(code: u64) -> bool
     ensures { λ r. ⌜ r ≡ not (eqb code 0) ⌝ }
 {
-    code != rules::DONE
+    !(code == 0)
 }
 
 fn empty_block_in(t: &mut Table, chunk: u64, b: u64)
     ensures { λ _. ⌜ now (t .exit) ≡ withEmptied chunk (now (t .entry)) b ⌝ }
 {
-    let i = place_of(chunk, b);
+    let i = table_records::record_number(chunk, b);
     let held = table_records::record_in(&*t, i);
     let none = emptied(held);
     table_records::put_record(&mut *t, i, none);
@@ -62,7 +52,7 @@ fn empty_in(t: &mut Table, chunk: u64)
     ensures { λ _. ⌜ now (t .exit) ≡ withRecords (now (t .entry)) (withoutWaiting (now (t .entry) .records) chunk) ⌝ }
 {
     let mut b: u64 = 0;
-    while b < 16 {
+    while b < rules::BLOCKS as u64 {
         empty_block_in(&mut *t, chunk, b);
         b = b + 1;
     }

@@ -3,6 +3,7 @@ use Prim.Native.Nat.{ℕ, zero, suc, _+_, _≤_, _<_}
 use mathlib.Core.Path.{_≡_, refl, sym, ap, subst, _∙_}
 use mathlib.Core.Bool.{Bool, true, false, not}
 use mathlib.Core.List.{List, [], _∷_}
+use native.Mathlib.Numerals.{add-one}
 use native.Mathlib.Omega.{arith}
 use lib.ListN.{length, getD, set}
 use lib.Dec.{T, eqb}
@@ -23,13 +24,14 @@ use Rattle.rules.specs.Zero.{zeroChunk, zeroRecord, noChunk, noRecord, noCopy}
 use Rattle.rules.proofs.Lists.{numbers-length, each-length, each-number}
 use Rattle.rules.proofs.Loops.{each-of, made, made-begin, made-next, made-end}
 use Rattle.epoch_change.proofs.Laws.{records-length, records-at, storedTo, stored-begin, stored-next, stored-end, settledTo, settled-begin, settled-next, settled-end}
+use Rattle.table_records.specs.Numbers.{recordNumber}
 use Rattle.epoch_lent.specs.declared.Copies.{Copies}
 use Rattle.epoch_lent.specs.declared.Chunks.{Chunks}
-use Rattle.epoch_lent.specs.Steps.{placeOf, copyOf, copyAt, copiesAt, heldAt, withHeld, withBlock, chunkAt, withChunkAt, changed, changedTo}
+use Rattle.epoch_lent.specs.Steps.{copyOf, copyAt, copiesAt, heldAt, withHeld, withBlock, chunkAt, withChunkAt, changed, changedTo}
 
 -- ---- what the calls of each function come to
 
-pub copy-is : (t : Table) (c b : ℕ) (k : Creation) (chunk : Chunk) (i : ℕ) (held : Record) (x : Copy) → k ≡ t .creation → chunk ≡ getD (t .chunks) c zeroChunk → i ≡ placeOf c b
+pub copy-is : (t : Table) (c b : ℕ) (k : Creation) (chunk : Chunk) (i : ℕ) (held : Record) (x : Copy) → k ≡ t .creation → chunk ≡ getD (t .chunks) c zeroChunk → i ≡ recordNumber c b
     → held ≡ getD (t .records) i zeroRecord → x ≡ copyOf k chunk held c b → x ≡ copyAt t b c
 copy-is t c b k chunk i held x hk hc hi hh hx = hx ∙ rw (hh, hi, hc, hk) refl
 
@@ -39,7 +41,7 @@ module _ (t : Table) (b : ℕ) (c0 c1 c2 c3 c4 c5 c6 c7 : Copy) where
   unfolding each from
   copies-are h0 h1 h2 h3 h4 h5 h6 h7 x h = h ∙ rw (h0, h1, h2, h3, h4, h5, h6, h7) refl
 
-pub held-is : (t z : Table) (x : Copies) (c b i : ℕ) (held : Record) → i ≡ placeOf c b → held ≡ heldAt (x .copies) c → z ≡ withRecords t (set (t .records) i held) → z ≡ withHeld (x .copies) b t c
+pub held-is : (t z : Table) (x : Copies) (c b i : ℕ) (held : Record) → i ≡ recordNumber c b → held ≡ heldAt (x .copies) c → z ≡ withRecords t (set (t .records) i held) → z ≡ withHeld (x .copies) b t c
 held-is t z x c b i held hi hh h = h ∙ rw (hi, hh) refl
 
 module _ (t : Table) (b : ℕ) (y : Copies) (t0 t1 t2 t3 t4 t5 t6 t7 : Table) where
@@ -78,8 +80,8 @@ fold-numbers f u n h (suc m) i e =
     let k : suc i ≡ i + 1 = omega arith in
     ap (λ s. fold f s (from (suc i) m)) (h i (omega arith) ∙ ap u (sym k)) ∙ fold-numbers f u n h m (suc i) (omega arith)
 
-place-inside : (c b : ℕ) → c < chunkLimit → b < blockLimit → placeOf c b ≡ at c b
-place-inside c b h k = rw (lt-ltb c chunkLimit h, lt-ltb b blockLimit k) refl
+number-inside : (c b : ℕ) → c < chunkLimit → b < blockLimit → recordNumber c b ≡ at c b
+number-inside c b h k = rw (lt-ltb c chunkLimit h, lt-ltb b blockLimit k) refl
 
 module _ (h : Table) (len : length (h .records) ≡ 128) where
   abbrev recordsTo : ℕ → List Record
@@ -97,8 +99,8 @@ module _ (h : Table) (len : length (h .records) ≡ 128) where
     copy-same c k =
         let f = settledTo (h .creation) (h .chunks) (h .records) b in
         let l : getD (h .chunks) c zeroChunk .lost ≡ getD (h .chunks) c noChunk .lost = default-part (λ (x : Chunk). x .lost) zeroChunk noChunk refl (h .chunks) c in
-        let r : getD (recordsTo b) (placeOf c b) zeroRecord ≡ getD (h .records) (at c b) noRecord =
-        rw (place-inside c b k inside) (default-none zeroRecord noRecord (recordsTo b) (at c b) (omega (arith, records-length f)) ∙ records-at f c b k inside ∙ rw (le-ltb b b (omega arith)) refl) in
+        let r : getD (recordsTo b) (recordNumber c b) zeroRecord ≡ getD (h .records) (at c b) noRecord =
+        rw (number-inside c b k inside) (default-none zeroRecord noRecord (recordsTo b) (at c b) (omega (arith, records-length f)) ∙ records-at f c b k inside ∙ rw (le-ltb b b (omega arith)) refl) in
         rw (l, r) refl
 
     copies-same : copiesAt (tableTo b) b ≡ copiesIn (h .creation) (h .chunks) (h .records) b
@@ -123,22 +125,12 @@ module _ (h : Table) (len : length (h .records) ≡ 128) where
         to c = withRecords h (recordsBy (storedTo old b copies c))
 
         step : (c : ℕ) → c < chunkLimit → withHeld copies b (to c) c ≡ to (c + 1)
-        step c k = rw (place-inside c b k inside, lt-ltb c chunkLimit k) (ap (withRecords h) (stored-next old b copies c k inside))
+        step c k = rw (number-inside c b k inside, lt-ltb c chunkLimit k) (ap (withRecords h) (stored-next old b copies c k inside))
 
   pub table-ends : (i : ℕ) → i ≤ 16 → 16 ≤ i → tableTo i ≡ withRecords h (settledIn (h .creation) (h .chunks) (h .records))
   table-ends i le ge =
       let e : i ≡ 16 = omega arith in
       ap tableTo e ∙ ap (withRecords h) (settled-end (h .creation) (h .chunks) (h .records))
-
--- how far the loop is
-abbrev pub Blocks : ℕ → Type 0
-Blocks i = (i ≤ 16) × (i ≤ 16)
-
-pub blocks-start : Blocks 0
-blocks-start = (omega arith, omega arith)
-
-pub blocks-next : (i : ℕ) → i < 16 → Blocks (i + 1)
-blocks-next i h = (omega arith, omega arith)
 
 -- ---- the chunks
 

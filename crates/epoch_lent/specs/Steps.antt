@@ -1,6 +1,5 @@
 -- The blocks of a table settled one after the other. proofs/Laws.antt proves that this is the rules'
 use Prim.Native.Nat.{ℕ}
-use mathlib.Core.Bool.{_&&_}
 use mathlib.Core.List.{List}
 use lib.ListN.{getD, set}
 use lib.Dec.{eqb, ltb}
@@ -12,21 +11,18 @@ use Rattle.rules.specs.declared.Table.{Table}
 use Rattle.rules.specs.declared.Epoch.{Epoch}
 use Rattle.rules.specs.Codes.{codeOf}
 use Rattle.rules.specs.Events.{settledIn, renewed, epochRefusals}
-use Rattle.rules.specs.Limits.{chunkLimit, blockLimit}
+use Rattle.rules.specs.Limits.{chunkLimit}
 use Rattle.rules.specs.Settlement.{settled}
-use Rattle.rules.specs.Tables.{setOf, at, withRecords, withChunk, withChunks, withEpoch}
+use Rattle.rules.specs.Tables.{setOf, withRecords, withChunk, withChunks, withEpoch}
 use Rattle.rules.specs.Words.{if_then_else_, each, fold, numbers}
 use Rattle.rules.specs.Zero.{_among_, zeroChunk, zeroRecord, noCopy}
-
--- where chunk c has block b; beyond the records, where there is no such chunk or block
-abbrev pub placeOf : (chunk block : ℕ) → ℕ
-placeOf c b = if ltb c chunkLimit && ltb b blockLimit then at c b else 128
+use Rattle.table_records.specs.Numbers.{recordNumber}
 
 abbrev pub copyOf : Creation → Chunk → Record → (chunk block : ℕ) → Copy
 copyOf k chunk held c b = record { member = c among setOf k b; lost = chunk .lost; held = held }
 
 abbrev pub copyAt : Table → (block chunk : ℕ) → Copy
-copyAt t b c = copyOf (t .creation) (getD (t .chunks) c zeroChunk) (getD (t .records) (placeOf c b) zeroRecord) c b
+copyAt t b c = copyOf (t .creation) (getD (t .chunks) c zeroChunk) (getD (t .records) (recordNumber c b) zeroRecord) c b
 
 abbrev pub copiesAt : Table → (block : ℕ) → List Copy
 copiesAt t b = each (copyAt t b) (numbers chunkLimit)
@@ -36,7 +32,7 @@ heldAt copies c = if ltb c chunkLimit then getD copies c noCopy .held else zeroR
 
 -- the table with what chunk c holds of block b
 abbrev pub withHeld : List Copy → (block : ℕ) → Table → (chunk : ℕ) → Table
-withHeld copies b t c = withRecords t (set (t .records) (placeOf c b) (heldAt copies c))
+withHeld copies b t c = withRecords t (set (t .records) (recordNumber c b) (heldAt copies c))
 
 -- the table with block b settled
 unfoldable pub withBlock : Table → (block : ℕ) → Table

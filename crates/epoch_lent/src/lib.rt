@@ -12,7 +12,7 @@ ghost use Rattle.rules.specs.Settlement.{settled};
 ghost use Rattle.rules.specs.Tables.{setOf, withRecords, withChunks, withEpoch};
 ghost use Rattle.rules.specs.Words.{each, numbers};
 ghost use Rattle.rules.specs.Zero.{_among_};
-ghost use Rattle.epoch_lent.specs.Steps.{placeOf, copyOf, copyAt, copiesAt, heldAt, withHeld, withBlock, chunkAt, withChunkAt, changedTo};
+ghost use Rattle.epoch_lent.specs.Steps.{copyOf, copyAt, copiesAt, heldAt, withHeld, withBlock, chunkAt, withChunkAt, changedTo};
 use rules::Chunk;
 use rules::Copy;
 use rules::Creation;
@@ -23,16 +23,6 @@ use rules::Table;
 // The copies of one block, one a chunk.
 struct Copies {
     copies: [Copy; rules::CHUNKS],
-}
-
-// Where chunk c has block b among the records; beyond them, where there is no such chunk or block.
-fn place_of(c: u64, b: u64) -> u64
-    ensures { λ r. ⌜ r ≡ placeOf c b ⌝ }
-{
-    if (c < rules::CHUNKS as u64) & (b < rules::BLOCKS as u64) {
-        return c * rules::BLOCKS as u64 + b;
-    }
-    rules::RECORDS as u64
 }
 
 // The chunk has a copy of the block.
@@ -91,7 +81,7 @@ fn copy_in(t: &Table, c: u64, b: u64) -> Copy
 {
     let k = table_numbers::creation_in(t);
     let chunk = table_chunks::chunk_in(t, c);
-    let i = place_of(c, b);
+    let i = table_records::record_number(c, b);
     let held = table_records::record_in(t, i);
     copy_of(k, chunk, held, c, b)
 }
@@ -115,7 +105,7 @@ fn settled_in(t: &Table, b: u64) -> Copies
 fn store_in(t: &mut Table, x: Copies, c: u64, b: u64)
     ensures { λ _. ⌜ now (t .exit) ≡ withHeld (x .copies) b (now (t .entry)) c ⌝ }
 {
-    let i = place_of(c, b);
+    let i = table_records::record_number(c, b);
     let held = held_at(x, c);
     table_records::put_record(&mut *t, i, held);
 }
@@ -139,7 +129,7 @@ fn settle_in(t: &mut Table)
     ensures { λ _. ⌜ now (t .exit) ≡ withRecords (now (t .entry)) (settledIn (now (t .entry) .creation) (now (t .entry) .chunks) (now (t .entry) .records)) ⌝ }
 {
     let mut b: u64 = 0;
-    while b < 16 {
+    while b < rules::BLOCKS as u64 {
         settle_block_in(&mut *t, b);
         b = b + 1;
     }
@@ -196,7 +186,7 @@ fn chunk_at(x: Chunks, c: u64) -> Chunk
 fn is_refused(code: u64) -> bool
     ensures { λ r. ⌜ r ≡ not (eqb code 0) ⌝ }
 {
-    code != rules::DONE
+    !(code == 0)
 }
 
 fn chunks_in(t: &Table) -> Chunks

@@ -1,7 +1,7 @@
 -- One event that touches one host, one chunk, one record and the network, on any table: where they stand, what it leaves of them,
 -- and its answer. Beyond an array's end there is zero, and nothing is stored
-use Prim.Native.Nat.{ℕ, _*_}
-use mathlib.Core.Bool.{_&&_, _||_}
+use Prim.Native.Nat.{ℕ}
+use mathlib.Core.Bool.{_||_}
 use lib.Dec.{eqb, ltb}
 use lib.ListN.{getD, set}
 use Rattle.rules.specs.declared.Epoch.{Epoch}
@@ -17,23 +17,20 @@ use Rattle.rules.specs.declared.Outcome.{Outcome}
 use Rattle.rules.specs.declared.Answer.{Answer}
 use Rattle.rules.specs.declared.Reply.{Reply}
 use Rattle.rules.specs.Events.{done, refused}
-use Rattle.rules.specs.Limits.{chunkLimit, blockLimit, placeLimit}
+use Rattle.rules.specs.Limits.{blockLimit, placeLimit}
 use Rattle.rules.specs.Network.{freePlaces, removed}
-use Rattle.rules.specs.Tables.{setOf, at, slotOf, withHost, withChunk, withRecords, withPlaces}
+use Rattle.rules.specs.Tables.{setOf, slotOf, withHost, withChunk, withRecords, withPlaces}
 use Rattle.rules.specs.Words.{if_then_else_}
 use Rattle.rules.specs.Zero.{zeroSet, zeroRecord, zeroChunk, zeroHost}
 use Rattle.network_places.specs.Sending.{sentAll}
 use Rattle.event_operands.specs.Address.{placeAt, hostAt, chunkAt, blockAt}
+use Rattle.table_records.specs.Numbers.{recordNumber}
 use Rattle.event_parts.specs.declared.Parts.{Parts}
 use Rattle.event_parts.specs.declared.Acted.{Acted}
 use Rattle.event_parts.specs.Acts.{acted}
 use Rattle.event_lent.specs.declared.Here.{Here}
 
 -- ---- whom it is about
-
--- where chunk c has block b among the records; where there is none, beyond the last
-abbrev pub recordNumber : (chunk block : ℕ) → ℕ
-recordNumber c b = if ltb c chunkLimit && ltb b blockLimit then at c b else chunkLimit * blockLimit
 
 abbrev pub setIn : Creation → (block : ℕ) → Set
 setIn k b = if ltb b blockLimit then setOf k b else zeroSet

@@ -11,7 +11,7 @@ ghost use Rattle.rules.specs.Tables.{withPlaces};
 ghost use Rattle.rules.specs.Zero.{zeroPlace};
 ghost use Rattle.event_parts.specs.Acts.{acted};
 ghost use Rattle.network_places.specs.Sending.{sentAll};
-ghost use Rattle.event_lent.specs.Touches.{recordNumber, setIn, removedAt, hereBy, hereIn, partsBy, partsIn, keeping, refusalOf, grantOf, actedOn};
+ghost use Rattle.event_lent.specs.Touches.{setIn, removedAt, hereBy, hereIn, partsBy, partsIn, keeping, refusalOf, grantOf, actedOn};
 use event_parts::Acted;
 use event_parts::Parts;
 use rules::Chunk;
@@ -43,17 +43,6 @@ fn slot_of(p: Place) -> Slot
     ensures { λ r. ⌜ r ≡ p .slot ⌝ }
 {
     p.slot
-}
-
-// The number of a chunk's record of a block; where there is none, the one beyond the last.
-fn record_number(chunk: u64, block: u64) -> u64
-    ensures { λ r. ⌜ r ≡ recordNumber chunk block ⌝ }
-{
-    let blocks = rules::BLOCKS as u64;
-    if (chunk < rules::CHUNKS as u64) & (block < blocks) {
-        return chunk * blocks + block;
-    }
-    rules::RECORDS as u64
 }
 
 // The chunks that hold a block; none, where there is no such block.
@@ -88,7 +77,7 @@ fn here_by(e: Event, s: Slot, host: u64, h: Host) -> Here
         host: host,
         chunk: c,
         block: b,
-        record: record_number(c, b),
+        record: table_records::record_number(c, b),
         place: removed_at(e),
     }
 }

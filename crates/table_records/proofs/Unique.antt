@@ -17,7 +17,8 @@ use Rattle.rules.specs.Tables.{withRecords}
 use Rattle.rules.specs.Zero.{zeroRecord}
 use Rattle.rules.specs.declared.Record.{Record}
 use Rattle.rules.specs.declared.Table.{Table}
-use Rattle.rules.proofs.Unique.{unique}
+use Rattle.rules.proofs.Unique.{unique, Determined}
+use Rattle.table_records.proofs.record_number.Reads as record-number-contract
 use Rattle.table_records.proofs.record_in as record-in-contract
 use Rattle.table_records.proofs.put_record as put-record-contract
 
@@ -37,6 +38,9 @@ module _ {M : Type 1} (𝓤 : URA M) (H : Heap 𝓤) (A : Atoms 𝓤) (at-mem : 
   put-record-states : (a : Args put-record-contract.signature κs) (out : Unit {0}) (end : AtExit put-record-contract.ended κs)
       → put-record-contract.clauses 𝓤 H A at-mem run κs a .ensures tt out end ≡ fact 𝓤 (Left (now (a .0)) (a .1 .0) (a .1 .1 .0) (now (end .0)))
   put-record-states a out end = refl
+
+record-number-unique : Determined record-number-contract.Learnt
+record-number-unique κs a x y s u = unique
 
 record-in-unique : (t : Table) (i : ℕ) (x y : Record) → Read t i x → Read t i y → x ≡ y
 record-in-unique t i x y = unique

@@ -5,7 +5,7 @@ use mathlib.Core.Bool.{Bool, true, false, cond, not, _&&_, _||_, true≢false}
 use mathlib.Core.List.{List, [], _∷_}
 use native.Mathlib.Nat.{le-antisymm, div-add-mod'}
 use native.Mathlib.Omega.{arith}
-use lib.Dec.{T, eqb, ltb, nltb→le}
+use lib.Dec.{T, eqb, ltb}
 use lib.ListN.{getD}
 use borrow.Author.Tests.{le-ltb, eqb-true}
 use Rattle.rules.specs.declared.Chunk.{Chunk}
@@ -71,12 +71,8 @@ every-more p i ok r h k = go ok (sym h) r (sym k)
     go true e false f = sym (every-stop p (i + 1) i (omega arith) f)
     go false e b f = none e (every p (numbers (i + 1))) refl
 
--- the number of a turn
-abbrev pub Within : (m i : ℕ) → Type 0
-Within m i = i ≤ m
-
-pub every-end : (p : ℕ → Bool) (i m : ℕ) → Within m i → T (not (ltb i m)) → every p (numbers i) ≡ every p (numbers m)
-every-end p i m within over = ap (λ (j : ℕ). every p (numbers j)) (le-antisymm within (nltb→le i m over))
+pub every-end : (p : ℕ → Bool) (i m : ℕ) → i ≤ m → m ≤ i → every p (numbers i) ≡ every p (numbers m)
+every-end p i m within over = ap (λ (j : ℕ). every p (numbers j)) (le-antisymm within over)
 
 -- ---- a record that nothing waits in, and another
 

@@ -43,14 +43,15 @@ use Rattle.rules.specs.declared.Table.{Table}
 use Rattle.rules.proofs.Table as TableR
 use Rattle.rules.specs.Zero.{zeroRecord}
 use Rattle.rules.specs.Tables.{withRecords}
-use Rattle.chunk_fault.proofs.Laws.{block-is}
-use Rattle.chunk_fault.specs.Steps.{placeOf, withEmptied}
 use Rattle.rules.specs.Chunks.{emptied}
+use Rattle.table_records.specs.Numbers.{recordNumber}
+use Rattle.chunk_fault.specs.Steps.{withEmptied}
+use Rattle.chunk_fault.proofs.Laws.{block-is}
 use Rattle.table_lent.proofs.Share.{SharedOut, shares-out, comes-home}
-use Rattle.chunk_fault.proofs.place_of as place-of
-use Rattle.chunk_fault.proofs.place_of.Symbol as place-of-def
-use Rattle.chunk_fault.proofs.place_of.Symbol.{name as #chunk_fault·place-of}
-use Rattle.chunk_fault.proofs.place_of.Met as place-of-thm
+use Rattle.table_records.proofs.record_number as record-number
+use Rattle.table_records.proofs.record_number.Symbol as record-number-def
+use Rattle.table_records.proofs.record_number.Symbol.{name as #table_records·record-number}
+use Rattle.table_records.proofs.record_number.Met as record-number-thm
 use Rattle.table_records.proofs.record_in as record-in
 use Rattle.table_records.proofs.record_in.Symbol as record-in-def
 use Rattle.table_records.proofs.record_in.Symbol.{name as #table_records·record-in}
@@ -72,11 +73,11 @@ abbrev stayed : Stays (me.ended .signature .params) (me.ended .kept)
 stayed = (stay-ref (0 ∷ []) tt (plain (λ _. TableR.the-row)), (stay-none (λ _. usize) yes, (stay-none (λ _. usize) yes, tt)))
 
 module _ {M : Type 1} (𝓤 : URA M) (H : Heap 𝓤) (A : Atoms 𝓤) (at-mem : Memory → SProp 𝓤) (run : Routine → Fun 𝓤) where
-  abbrev C-place-of : Contract 𝓤
-  C-place-of = tripleOf 𝓤 H A place-of.signature (place-of.spec 𝓤 H A at-mem run)
+  abbrev C-record-number : Contract 𝓤
+  C-record-number = tripleOf 𝓤 H A record-number.signature (record-number.spec 𝓤 H A at-mem run)
 
-  said-place-of : (x0 : ℕ) (x1 : ℕ) (r : ℕ) → ent 𝓤 (ensured 𝓤 H A place-of.ended (place-of.clauses 𝓤 H A at-mem run) tt (x0, (x1, tt)) tt r) (fact 𝓤 (r ≡ placeOf x0 x1))
-  said-place-of x0 x1 r = exE 𝓤 _ (λ ws. snd∗ 𝓤 (sem 𝓤 H A (lasts place-of.ended tt (x0, (x1, tt)) ws)) (fact 𝓤 (r ≡ placeOf x0 x1)))
+  said-record-number : (x0 : ℕ) (x1 : ℕ) (r : ℕ) → ent 𝓤 (ensured 𝓤 H A record-number.ended (record-number.clauses 𝓤 H A at-mem run) tt (x0, (x1, tt)) tt r) (fact 𝓤 (r ≡ recordNumber x0 x1))
+  said-record-number x0 x1 r = exE 𝓤 _ (λ ws. snd∗ 𝓤 (sem 𝓤 H A (lasts record-number.ended tt (x0, (x1, tt)) ws)) (fact 𝓤 (r ≡ recordNumber x0 x1)))
 
   abbrev C-record-in : Contract 𝓤
   C-record-in = tripleOf 𝓤 H A record-in.signature (record-in.spec 𝓤 H A at-mem run)
@@ -94,11 +95,11 @@ module _ {M : Type 1} (𝓤 : URA M) (H : Heap 𝓤) (A : Atoms 𝓤) (at-mem : 
   C-put-record = tripleOf 𝓤 H A put-record.signature (put-record.spec 𝓤 H A at-mem run)
 
 module _ {M : Type 1} (𝓤 : URA M) (H : Heap 𝓤) (A : Atoms 𝓤) (W : Given 𝓤 H A) (at-mem : Memory → SProp 𝓤) (run : Routine → Fun 𝓤) where
-  abbrev to-place-of : ℕ → Val → ℕ → Val → C-place-of 𝓤 H A at-mem run .Ghost
-  to-place-of x0 v0 x1 v1 = ((tt, tt, tt, (x0, (x1, tt)), (v0 ∷ [], (v1 ∷ [], tt))), tt)
+  abbrev to-record-number : ℕ → Val → ℕ → Val → C-record-number 𝓤 H A at-mem run .Ghost
+  to-record-number x0 v0 x1 v1 = ((tt, tt, tt, (x0, (x1, tt)), (v0 ∷ [], (v1 ∷ [], tt))), tt)
 
-  goes-place-of : (x0 : ℕ) (v0 : Val) (x1 : ℕ) (v1 : Val) → Is usize x0 (v0 ∷ []) → Is usize x1 (v1 ∷ []) → ent 𝓤 (sem 𝓤 H A ftrue) (C-place-of 𝓤 H A at-mem run .pre (to-place-of x0 v0 x1 v1))
-  goes-place-of x0 v0 x1 v1 g0 g1 = qed W (‵ ftrue ∷ []) ∵ nothing ! $ owned ! usize (Is usize) (uint-makes 𝓤 H A W w64) x1 _ g1 $ fjoin ! $ owned ! usize (Is usize) (uint-makes 𝓤 H A W w64) x0 _ g0 $ fjoin ! $ move ! (1 ∷ 0 ∷ []) $ join ! $ frame ! $ done !
+  goes-record-number : (x0 : ℕ) (v0 : Val) (x1 : ℕ) (v1 : Val) → Is usize x0 (v0 ∷ []) → Is usize x1 (v1 ∷ []) → ent 𝓤 (sem 𝓤 H A ftrue) (C-record-number 𝓤 H A at-mem run .pre (to-record-number x0 v0 x1 v1))
+  goes-record-number x0 v0 x1 v1 g0 g1 = qed W (‵ ftrue ∷ []) ∵ nothing ! $ owned ! usize (Is usize) (uint-makes 𝓤 H A W w64) x1 _ g1 $ fjoin ! $ owned ! usize (Is usize) (uint-makes 𝓤 H A W w64) x0 _ g0 $ fjoin ! $ move ! (1 ∷ 0 ∷ []) $ join ! $ frame ! $ done !
 
   abbrev to-record-in : Lft → Share → RefT Table → ℕ → Val → C-record-in 𝓤 H A at-mem run .Ghost
   to-record-in κ q t x0 v0 = (((κ, tt), (q, tt), tt, (t, (x0, tt)), (vptr (t .ptr .0) (t .ptr .1) ∷ [], (v0 ∷ [], tt))), tt)
@@ -140,7 +141,7 @@ module _ {M : Type 1} (𝓤 : URA M) (H : Heap 𝓤) (A : Atoms 𝓤) (W : Given
         suffices ! _ (ends-at 𝓤 H A me.ended stayed (me.clauses 𝓤 H A at-mem run) W (((κ, tt), (q, tt), tt, x, vs), tt) vunit tt (z, (tt, (tt, tt))) (tt, (tt, (tt, tt)))) $ says ! eq $
         nothing ! $ move ! (2 ∷ 0 ∷ []) $ join ! $ frame ! $ nothing ! $ owned ! usize (Is usize) (uint-makes 𝓤 H A W w64) x3 _ g3 $ fjoin ! $ owned ! usize (Is usize) (uint-makes 𝓤 H A W w64) x2 _ g2 $ fjoin ! $ move ! (1 ∷ 0 ∷ []) $ fjoin ! $ feqI ! (List Val) (vunit ∷ []) (vunit ∷ []) refl $ move ! (1 ∷ 0 ∷ []) $ done !
 
-    module _ (𝓣 : Tables 𝓤 H) (known-place-of : Triple 𝓤 (𝓣 .C #chunk_fault·place-of) (C-place-of 𝓤 H A at-mem run)) (known-record-in : Triple 𝓤 (𝓣 .C #table_records·record-in) (C-record-in 𝓤 H A at-mem run)) (known-fault-emptied : Triple 𝓤 (𝓣 .C #chunk_fault·emptied) (C-fault-emptied 𝓤 H A at-mem run)) (known-put-record : Triple 𝓤 (𝓣 .C #table_records·put-record) (C-put-record 𝓤 H A at-mem run)) where
+    module _ (𝓣 : Tables 𝓤 H) (known-record-number : Triple 𝓤 (𝓣 .C #table_records·record-number) (C-record-number 𝓤 H A at-mem run)) (known-record-in : Triple 𝓤 (𝓣 .C #table_records·record-in) (C-record-in 𝓤 H A at-mem run)) (known-fault-emptied : Triple 𝓤 (𝓣 .C #chunk_fault·emptied) (C-fault-emptied 𝓤 H A at-mem run)) (known-put-record : Triple 𝓤 (𝓣 .C #table_records·put-record) (C-put-record 𝓤 H A at-mem run)) where
       abbrev C : Calls 𝓤 H
       C = 𝓣 .C
 
@@ -157,11 +158,11 @@ module _ {M : Type 1} (𝓤 : URA M) (H : Heap 𝓤) (A : Atoms 𝓤) (W : Given
           alloc1 ! (λ l0. alloc1 ! (λ l1. alloc1 ! (λ l2. alloc1 ! (λ l3. alloc1 ! (λ l4. alloc1 ! (λ l5. alloc1 ! (λ l6. alloc1 ! (λ l7. alloc1 ! (λ l8. alloc1 ! (λ l9. alloc0 ! $ params1 ! $
           pass1 ! (init ! 16 refl (tt, tt)) $ pass1 ! (init ! 14 {τ = tyInt w64} {v = (vint w64 x2)} refl (uint-lawful 𝓤 H A W w64 .typed x2 _ g2 .0)) $ pass1 ! (init ! 12 {τ = tyInt w64} {v = (vint w64 x3)} refl (uint-lawful 𝓤 H A W w64 .typed x3 _ g3 .0)) $ pass0 ! $ move ! (20 ∷ 21 ∷ []) $
           -- [t; the token; the locals]
-          -- _4 = chunk_fault::place_of(_2, _3)
-          nothing ! $ use1 W (raw (C-place-of 𝓤 H A at-mem run .pre (to-place-of 𝓤 H A W at-mem run x2 (vint w64 x2) x3 (vint w64 x3)))) (goes-place-of 𝓤 H A W at-mem run x2 (vint w64 x2) x3 (vint w64 x3) g2 g3) $
-          calls-at ! fm (C-place-of 𝓤 H A at-mem run) known-place-of (to-place-of 𝓤 H A W at-mem run x2 (vint w64 x2) x3 (vint w64 x3)) (and-then ! (load ! (from ! (stop !)) (look ! 17 {q = fullShare} {τ = tyInt w64} {b = l2} {o = 0} {v = (vint w64 x2)} refl)) (and-then ! (load ! (from ! (stop !)) (look ! 15 {q = fullShare} {τ = tyInt w64} {b = l3} {o = 0} {v = (vint w64 x3)} refl)) (no-more !))) (λ w1.
-          use1 W (later (some (λ (r : ℕ). (‵ ftrue ⊛ ‵ (usize .own r (w1 ∷ []))) ⊛ raw (ensured 𝓤 H A place-of.ended (place-of.clauses 𝓤 H A at-mem run) tt (x2, (x3, tt)) tt r)))) (id⊢ 𝓤 _) $ await ! tt $ pick ! (λ r1. split ! $ move ! (1 ∷ []) $
-          use1 W (raw (fact 𝓤 (r1 ≡ placeOf x2 x3))) (said-place-of 𝓤 H A at-mem run x2 x3 r1) $ heard ! (r1 ≡ placeOf x2 x3) (λ e1. split ! $ drop ! $ facts ! usize (Is usize) (shows 𝓤 H A usize) r1 (w1 ∷ []) (λ is1.
+          -- _4 = table_records::record_number(_2, _3)
+          nothing ! $ use1 W (raw (C-record-number 𝓤 H A at-mem run .pre (to-record-number 𝓤 H A W at-mem run x2 (vint w64 x2) x3 (vint w64 x3)))) (goes-record-number 𝓤 H A W at-mem run x2 (vint w64 x2) x3 (vint w64 x3) g2 g3) $
+          calls-at ! fm (C-record-number 𝓤 H A at-mem run) known-record-number (to-record-number 𝓤 H A W at-mem run x2 (vint w64 x2) x3 (vint w64 x3)) (and-then ! (load ! (from ! (stop !)) (look ! 17 {q = fullShare} {τ = tyInt w64} {b = l2} {o = 0} {v = (vint w64 x2)} refl)) (and-then ! (load ! (from ! (stop !)) (look ! 15 {q = fullShare} {τ = tyInt w64} {b = l3} {o = 0} {v = (vint w64 x3)} refl)) (no-more !))) (λ w1.
+          use1 W (later (some (λ (r : ℕ). (‵ ftrue ⊛ ‵ (usize .own r (w1 ∷ []))) ⊛ raw (ensured 𝓤 H A record-number.ended (record-number.clauses 𝓤 H A at-mem run) tt (x2, (x3, tt)) tt r)))) (id⊢ 𝓤 _) $ await ! tt $ pick ! (λ r1. split ! $ move ! (1 ∷ []) $
+          use1 W (raw (fact 𝓤 (r1 ≡ recordNumber x2 x3))) (said-record-number 𝓤 H A at-mem run x2 x3 r1) $ heard ! (r1 ≡ recordNumber x2 x3) (λ e1. split ! $ drop ! $ facts ! usize (Is usize) (shows 𝓤 H A usize) r1 (w1 ∷ []) (λ is1.
           land ! (from ! (stop !)) (init ! 12 {τ = tyInt w64} {v = w1} refl (uint-lawful 𝓤 H A W w64 .typed r1 _ is1 .0)) $
           assigns ! (addr ! (from ! (hop ! (look ! 18 refl) (stop !)))) (from ! (stop !)) (init ! 6 refl (tt, tt)) $
           -- _5 = table_records::record_in(_7, _4)
@@ -199,15 +200,15 @@ module _ {M : Type 1} (𝓤 : URA M) (H : Heap 𝓤) (A : Atoms 𝓤) (W : Given
           by ! (exits (z4 .0) (block-is h (z4 .0) x2 x3 r1 r2 r3 e1 e2 e3 e4)))))))))))))))))))))))))))))))))
 
 module _ {M : Type 1} (𝓤 : URA M) (H : Heap 𝓤) (A : Atoms 𝓤) (W : Given 𝓤 H A) (at-mem : Memory → SProp 𝓤) (run : Routine → Fun 𝓤) where
-  empty-block-in-walks : (𝓣 : Tables 𝓤 H) → Triple 𝓤 (𝓣 .C #chunk_fault·place-of) (C-place-of 𝓤 H A at-mem run) → Triple 𝓤 (𝓣 .C #table_records·record-in) (C-record-in 𝓤 H A at-mem run) → Triple 𝓤 (𝓣 .C #chunk_fault·emptied) (C-fault-emptied 𝓤 H A at-mem run) → Triple 𝓤 (𝓣 .C #table_records·put-record) (C-put-record 𝓤 H A at-mem run) → Walks 𝓤 H A me.ended stayed (WpFn 𝓤 H (𝓣 .C) (𝓣 .Λ) code.function) (me.clauses 𝓤 H A at-mem run)
-  empty-block-in-walks 𝓣 known-place-of known-record-in known-fault-emptied known-put-record = walked 𝓤 H A me.ended stayed (me.clauses 𝓤 H A at-mem run) (WpFn 𝓤 H (𝓣 .C) (𝓣 .Λ) code.function) (λ κs. (ptr-vals, (uint-vals w64, (uint-vals w64, tt)))) (λ κs. (mut-tells (named 0) (κs .0) TableR.the-row, (uint-tells w64, (uint-tells w64, tt))))
-      (λ κs qs bounds a _ are. via 𝓤 _ (fst∗ 𝓤 _ (emp 𝓤)) (walk 𝓤 H A W at-mem run (κs .0) (qs .0) (a .0 .ptr .0) (a .0 .ptr .1) (a .0 .name) (a .0 .now) (a .1 .0) (a .1 .1 .0) (are .1 .0) (are .1 .1 .0) 𝓣 known-place-of known-record-in known-fault-emptied known-put-record))
+  empty-block-in-walks : (𝓣 : Tables 𝓤 H) → Triple 𝓤 (𝓣 .C #table_records·record-number) (C-record-number 𝓤 H A at-mem run) → Triple 𝓤 (𝓣 .C #table_records·record-in) (C-record-in 𝓤 H A at-mem run) → Triple 𝓤 (𝓣 .C #chunk_fault·emptied) (C-fault-emptied 𝓤 H A at-mem run) → Triple 𝓤 (𝓣 .C #table_records·put-record) (C-put-record 𝓤 H A at-mem run) → Walks 𝓤 H A me.ended stayed (WpFn 𝓤 H (𝓣 .C) (𝓣 .Λ) code.function) (me.clauses 𝓤 H A at-mem run)
+  empty-block-in-walks 𝓣 known-record-number known-record-in known-fault-emptied known-put-record = walked 𝓤 H A me.ended stayed (me.clauses 𝓤 H A at-mem run) (WpFn 𝓤 H (𝓣 .C) (𝓣 .Λ) code.function) (λ κs. (ptr-vals, (uint-vals w64, (uint-vals w64, tt)))) (λ κs. (mut-tells (named 0) (κs .0) TableR.the-row, (uint-tells w64, (uint-tells w64, tt))))
+      (λ κs qs bounds a _ are. via 𝓤 _ (fst∗ 𝓤 _ (emp 𝓤)) (walk 𝓤 H A W at-mem run (κs .0) (qs .0) (a .0 .ptr .0) (a .0 .ptr .1) (a .0 .name) (a .0 .now) (a .1 .0) (a .1 .1 .0) (are .1 .0) (are .1 .1 .0) 𝓣 known-record-number known-record-in known-fault-emptied known-put-record))
 
   goes : AllGo 𝓤 H A W 1 (me.signature .params) (me.ended .kept) stayed
   goes = (goes-ref 𝓤 H A W 1 0 tt (plain (λ _. TableR.the-row)), (goes-none 𝓤 H A W 1 (λ _. usize) yes (λ κs x f. refl), (goes-none 𝓤 H A W 1 (λ _. usize) yes (λ κs x f. refl), tt)))
 
-empty-block-in-meets : {M : Type 1} (𝓤 : URA M) (H : Heap 𝓤) (A : Atoms 𝓤) (W : Given 𝓤 H A) (at-mem : Memory → SProp 𝓤) (run : Routine → Fun 𝓤) (𝓣 : Tables 𝓤 H) → Triple 𝓤 (𝓣 .C #chunk_fault·place-of) (C-place-of 𝓤 H A at-mem run) → Triple 𝓤 (𝓣 .C #table_records·record-in) (C-record-in 𝓤 H A at-mem run) → Triple 𝓤 (𝓣 .C #chunk_fault·emptied) (C-fault-emptied 𝓤 H A at-mem run) → Triple 𝓤 (𝓣 .C #table_records·put-record) (C-put-record 𝓤 H A at-mem run) → Meets 𝓤 H A me.signature (WpFn 𝓤 H (𝓣 .C) (𝓣 .Λ) code.function) (me.spec 𝓤 H A at-mem run)
-empty-block-in-meets 𝓤 H A W at-mem run 𝓣 known-place-of known-record-in known-fault-emptied known-put-record = walk-meets 𝓤 H A me.ended stayed W (goes 𝓤 H A W at-mem run) (me.clauses 𝓤 H A at-mem run) (WpFn 𝓤 H (𝓣 .C) (𝓣 .Λ) code.function) (WpFn-mono 𝓤 H (W .laws) 𝓣 code.function) (empty-block-in-walks 𝓤 H A W at-mem run 𝓣 known-place-of known-record-in known-fault-emptied known-put-record)
+empty-block-in-meets : {M : Type 1} (𝓤 : URA M) (H : Heap 𝓤) (A : Atoms 𝓤) (W : Given 𝓤 H A) (at-mem : Memory → SProp 𝓤) (run : Routine → Fun 𝓤) (𝓣 : Tables 𝓤 H) → Triple 𝓤 (𝓣 .C #table_records·record-number) (C-record-number 𝓤 H A at-mem run) → Triple 𝓤 (𝓣 .C #table_records·record-in) (C-record-in 𝓤 H A at-mem run) → Triple 𝓤 (𝓣 .C #chunk_fault·emptied) (C-fault-emptied 𝓤 H A at-mem run) → Triple 𝓤 (𝓣 .C #table_records·put-record) (C-put-record 𝓤 H A at-mem run) → Meets 𝓤 H A me.signature (WpFn 𝓤 H (𝓣 .C) (𝓣 .Λ) code.function) (me.spec 𝓤 H A at-mem run)
+empty-block-in-meets 𝓤 H A W at-mem run 𝓣 known-record-number known-record-in known-fault-emptied known-put-record = walk-meets 𝓤 H A me.ended stayed W (goes 𝓤 H A W at-mem run) (me.clauses 𝓤 H A at-mem run) (WpFn 𝓤 H (𝓣 .C) (𝓣 .Λ) code.function) (WpFn-mono 𝓤 H (W .laws) 𝓣 code.function) (empty-block-in-walks 𝓤 H A W at-mem run 𝓣 known-record-number known-record-in known-fault-emptied known-put-record)
 
 pub empty-block-in-spec : {M : Type 1} → stated.statement M
 unfolding code.routine tablesOf
@@ -215,7 +216,7 @@ empty-block-in-spec 𝓤 H 𝓜 𝓖 𝓡 =
     entered 𝓤 H (tripleOf 𝓤 H (𝓖 .A) me.signature (me.spec 𝓤 H (𝓖 .A) (𝓜 .mem) (𝓡 .run)))
     (tables 𝓤 H 𝓜 𝓡 code.env .C) (tables 𝓤 H 𝓜 𝓡 code.env .Λ) #chunk_fault·empty-block-in code.function (code.unfolded 𝓤 H 𝓜 𝓡)
     (empty-block-in-meets 𝓤 H (𝓖 .A) (givenOf 𝓤 H 𝓜 𝓖) (𝓜 .mem) (𝓡 .run) (tablesOf 𝓤 H 𝓜 (tables 𝓤 H 𝓜 𝓡 code.env))
-    (cited 𝓤 H (C-place-of 𝓤 H (𝓖 .A) (𝓜 .mem) (𝓡 .run)) 𝓜 𝓡 code.env #chunk_fault·place-of place-of-def.routine code.calls-chunk-fault·place-of (place-of-thm.met 𝓤 H 𝓜 𝓖 𝓡))
+    (cited 𝓤 H (C-record-number 𝓤 H (𝓖 .A) (𝓜 .mem) (𝓡 .run)) 𝓜 𝓡 code.env #table_records·record-number record-number-def.routine code.calls-table-records·record-number (record-number-thm.met 𝓤 H 𝓜 𝓖 𝓡))
     (cited 𝓤 H (C-record-in 𝓤 H (𝓖 .A) (𝓜 .mem) (𝓡 .run)) 𝓜 𝓡 code.env #table_records·record-in record-in-def.routine code.calls-table-records·record-in (record-in-thm.met 𝓤 H 𝓜 𝓖 𝓡))
     (cited 𝓤 H (C-fault-emptied 𝓤 H (𝓖 .A) (𝓜 .mem) (𝓡 .run)) 𝓜 𝓡 code.env #chunk_fault·emptied fault-emptied-def.routine code.calls-chunk-fault·emptied (fault-emptied-thm.met 𝓤 H 𝓜 𝓖 𝓡))
     (cited 𝓤 H (C-put-record 𝓤 H (𝓖 .A) (𝓜 .mem) (𝓡 .run)) 𝓜 𝓡 code.env #table_records·put-record put-record-def.routine code.calls-table-records·put-record (put-record-thm.met 𝓤 H 𝓜 𝓖 𝓡)))

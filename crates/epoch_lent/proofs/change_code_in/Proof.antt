@@ -44,9 +44,9 @@ use Rattle.rules.proofs.Epoch as EpochR
 use Rattle.rules.proofs.Epoch.Laws as EpochL
 use Rattle.rules.specs.declared.Table.{Table}
 use Rattle.rules.proofs.Table as TableR
-use Rattle.epoch_lent.proofs.Laws.{code-is}
 use Rattle.rules.specs.Events.{epochRefusals}
 use Rattle.rules.specs.Codes.{codeOf}
+use Rattle.epoch_lent.proofs.Laws.{code-is}
 use Rattle.table_numbers.proofs.creation_in as creation-in
 use Rattle.table_numbers.proofs.creation_in.Symbol as creation-in-def
 use Rattle.table_numbers.proofs.creation_in.Symbol.{name as #table_numbers·creation-in}

@@ -43,12 +43,12 @@ use Rattle.rules.proofs.Epoch.Laws as EpochL
 use Rattle.rules.specs.declared.Table.{Table}
 use Rattle.rules.proofs.Table as TableR
 use Rattle.rules.specs.Tables.{withEpoch, withChunks, withRecords}
-use Rattle.epoch_lent.proofs.Laws.{is-refused, is-changed}
 use Rattle.rules.specs.Events.{settledIn, renewed, epochRefusals}
-use Rattle.epoch_lent.specs.Steps.{changedTo}
 use Rattle.rules.specs.Codes.{codeOf}
 use Rattle.rules.specs.Limits.{chunkLimit}
 use Rattle.rules.specs.Words.{each, numbers}
+use Rattle.epoch_lent.specs.Steps.{changedTo}
+use Rattle.epoch_lent.proofs.Laws.{is-refused, is-changed}
 use Rattle.table_lent.proofs.Share.{SharedOut, shares-out, comes-home}
 use Rattle.epoch_lent.proofs.change_code_in as change-code-in
 use Rattle.epoch_lent.proofs.change_code_in.Symbol as change-code-in-def

@@ -49,8 +49,9 @@ use Rattle.rules.proofs.Record.Laws as RecordL
 use Rattle.rules.specs.declared.Table.{Table}
 use Rattle.rules.proofs.Table as TableR
 use Rattle.rules.specs.Zero.{zeroChunk, zeroRecord}
+use Rattle.table_records.specs.Numbers.{recordNumber}
+use Rattle.epoch_lent.specs.Steps.{copyOf, copyAt}
 use Rattle.epoch_lent.proofs.Laws.{copy-is}
-use Rattle.epoch_lent.specs.Steps.{placeOf, copyOf, copyAt}
 use Rattle.table_numbers.proofs.creation_in as creation-in
 use Rattle.table_numbers.proofs.creation_in.Symbol as creation-in-def
 use Rattle.table_numbers.proofs.creation_in.Symbol.{name as #table_numbers·creation-in}
@@ -59,10 +60,10 @@ use Rattle.table_chunks.proofs.chunk_in as chunk-in
 use Rattle.table_chunks.proofs.chunk_in.Symbol as chunk-in-def
 use Rattle.table_chunks.proofs.chunk_in.Symbol.{name as #table_chunks·chunk-in}
 use Rattle.table_chunks.proofs.chunk_in.Met as chunk-in-thm
-use Rattle.epoch_lent.proofs.place_of as place-of
-use Rattle.epoch_lent.proofs.place_of.Symbol as place-of-def
-use Rattle.epoch_lent.proofs.place_of.Symbol.{name as #epoch_lent·place-of}
-use Rattle.epoch_lent.proofs.place_of.Met as place-of-thm
+use Rattle.table_records.proofs.record_number as record-number
+use Rattle.table_records.proofs.record_number.Symbol as record-number-def
+use Rattle.table_records.proofs.record_number.Symbol.{name as #table_records·record-number}
+use Rattle.table_records.proofs.record_number.Met as record-number-thm
 use Rattle.table_records.proofs.record_in as record-in
 use Rattle.table_records.proofs.record_in.Symbol as record-in-def
 use Rattle.table_records.proofs.record_in.Symbol.{name as #table_records·record-in}
@@ -92,11 +93,11 @@ module _ {M : Type 1} (𝓤 : URA M) (H : Heap 𝓤) (A : Atoms 𝓤) (at-mem : 
   said-chunk-in : (κ : Lft) (t : RefT Table) (x0 : ℕ) (r : Chunk) → ent 𝓤 (ensured 𝓤 H A chunk-in.ended (chunk-in.clauses 𝓤 H A at-mem run) (κ, tt) (t, (x0, tt)) tt r) (fact 𝓤 (r ≡ getD ((now t) .chunks) x0 zeroChunk))
   said-chunk-in κ t x0 r = exE 𝓤 _ (λ ws. snd∗ 𝓤 (sem 𝓤 H A (lasts chunk-in.ended (κ, tt) (t, (x0, tt)) ws)) (fact 𝓤 (r ≡ getD ((now t) .chunks) x0 zeroChunk)))
 
-  abbrev C-place-of : Contract 𝓤
-  C-place-of = tripleOf 𝓤 H A place-of.signature (place-of.spec 𝓤 H A at-mem run)
+  abbrev C-record-number : Contract 𝓤
+  C-record-number = tripleOf 𝓤 H A record-number.signature (record-number.spec 𝓤 H A at-mem run)
 
-  said-place-of : (x0 : ℕ) (x1 : ℕ) (r : ℕ) → ent 𝓤 (ensured 𝓤 H A place-of.ended (place-of.clauses 𝓤 H A at-mem run) tt (x0, (x1, tt)) tt r) (fact 𝓤 (r ≡ placeOf x0 x1))
-  said-place-of x0 x1 r = exE 𝓤 _ (λ ws. snd∗ 𝓤 (sem 𝓤 H A (lasts place-of.ended tt (x0, (x1, tt)) ws)) (fact 𝓤 (r ≡ placeOf x0 x1)))
+  said-record-number : (x0 : ℕ) (x1 : ℕ) (r : ℕ) → ent 𝓤 (ensured 𝓤 H A record-number.ended (record-number.clauses 𝓤 H A at-mem run) tt (x0, (x1, tt)) tt r) (fact 𝓤 (r ≡ recordNumber x0 x1))
+  said-record-number x0 x1 r = exE 𝓤 _ (λ ws. snd∗ 𝓤 (sem 𝓤 H A (lasts record-number.ended tt (x0, (x1, tt)) ws)) (fact 𝓤 (r ≡ recordNumber x0 x1)))
 
   abbrev C-record-in : Contract 𝓤
   C-record-in = tripleOf 𝓤 H A record-in.signature (record-in.spec 𝓤 H A at-mem run)
@@ -125,11 +126,11 @@ module _ {M : Type 1} (𝓤 : URA M) (H : Heap 𝓤) (A : Atoms 𝓤) (W : Given
   goes-chunk-in κ q t x0 v0 g0 =
       qed W (‵ (flft κ q) ∷ ‵ (ShrRef (named 0) κ TableR.the-row .own t (vptr (t .ptr .0) (t .ptr .1) ∷ [])) ∷ []) ∵ nothing ! $ owned ! usize (Is usize) (uint-makes 𝓤 H A W w64) x0 _ g0 $ fjoin ! $ move ! (2 ∷ 0 ∷ []) $ fjoin ! $ nothing ! $ move ! (2 ∷ 0 ∷ []) $ join ! $ join ! $ frame ! $ done !
 
-  abbrev to-place-of : ℕ → Val → ℕ → Val → C-place-of 𝓤 H A at-mem run .Ghost
-  to-place-of x0 v0 x1 v1 = ((tt, tt, tt, (x0, (x1, tt)), (v0 ∷ [], (v1 ∷ [], tt))), tt)
+  abbrev to-record-number : ℕ → Val → ℕ → Val → C-record-number 𝓤 H A at-mem run .Ghost
+  to-record-number x0 v0 x1 v1 = ((tt, tt, tt, (x0, (x1, tt)), (v0 ∷ [], (v1 ∷ [], tt))), tt)
 
-  goes-place-of : (x0 : ℕ) (v0 : Val) (x1 : ℕ) (v1 : Val) → Is usize x0 (v0 ∷ []) → Is usize x1 (v1 ∷ []) → ent 𝓤 (sem 𝓤 H A ftrue) (C-place-of 𝓤 H A at-mem run .pre (to-place-of x0 v0 x1 v1))
-  goes-place-of x0 v0 x1 v1 g0 g1 = qed W (‵ ftrue ∷ []) ∵ nothing ! $ owned ! usize (Is usize) (uint-makes 𝓤 H A W w64) x1 _ g1 $ fjoin ! $ owned ! usize (Is usize) (uint-makes 𝓤 H A W w64) x0 _ g0 $ fjoin ! $ move ! (1 ∷ 0 ∷ []) $ join ! $ frame ! $ done !
+  goes-record-number : (x0 : ℕ) (v0 : Val) (x1 : ℕ) (v1 : Val) → Is usize x0 (v0 ∷ []) → Is usize x1 (v1 ∷ []) → ent 𝓤 (sem 𝓤 H A ftrue) (C-record-number 𝓤 H A at-mem run .pre (to-record-number x0 v0 x1 v1))
+  goes-record-number x0 v0 x1 v1 g0 g1 = qed W (‵ ftrue ∷ []) ∵ nothing ! $ owned ! usize (Is usize) (uint-makes 𝓤 H A W w64) x1 _ g1 $ fjoin ! $ owned ! usize (Is usize) (uint-makes 𝓤 H A W w64) x0 _ g0 $ fjoin ! $ move ! (1 ∷ 0 ∷ []) $ join ! $ frame ! $ done !
 
   abbrev to-record-in : Lft → Share → RefT Table → ℕ → Val → C-record-in 𝓤 H A at-mem run .Ghost
   to-record-in κ q t x0 v0 = (((κ, tt), (q, tt), tt, (t, (x0, tt)), (vptr (t .ptr .0) (t .ptr .1) ∷ [], (v0 ∷ [], tt))), tt)
@@ -164,7 +165,7 @@ module _ {M : Type 1} (𝓤 : URA M) (H : Heap 𝓤) (A : Atoms 𝓤) (W : Given
         suffices ! _ (ends-at 𝓤 H A me.ended stayed (me.clauses 𝓤 H A at-mem run) W (((κ, tt), (q, tt), tt, x, vs), tt) v r (tt, (tt, (tt, tt))) (tt, (tt, (tt, tt)))) $ says ! eq $
         nothing ! $ move ! (1 ∷ 0 ∷ []) $ join ! $ frame ! $ nothing ! $ owned ! usize (Is usize) (uint-makes 𝓤 H A W w64) x3 _ g3 $ fjoin ! $ owned ! usize (Is usize) (uint-makes 𝓤 H A W w64) x2 _ g2 $ fjoin ! $ move ! (1 ∷ 0 ∷ []) $ fjoin ! $ frame ! $ owned ! CopyR.the-row (Is CopyR.the-row) (LL.makes CopyR.the-type CopyL.the-plain 𝓤 H A) r _ g $ done !
 
-    module _ (𝓣 : Tables 𝓤 H) (known-creation-in : Triple 𝓤 (𝓣 .C #table_numbers·creation-in) (C-creation-in 𝓤 H A at-mem run)) (known-chunk-in : Triple 𝓤 (𝓣 .C #table_chunks·chunk-in) (C-chunk-in 𝓤 H A at-mem run)) (known-place-of : Triple 𝓤 (𝓣 .C #epoch_lent·place-of) (C-place-of 𝓤 H A at-mem run)) (known-record-in : Triple 𝓤 (𝓣 .C #table_records·record-in) (C-record-in 𝓤 H A at-mem run)) (known-copy-of : Triple 𝓤 (𝓣 .C #epoch_lent·copy-of) (C-copy-of 𝓤 H A at-mem run)) where
+    module _ (𝓣 : Tables 𝓤 H) (known-creation-in : Triple 𝓤 (𝓣 .C #table_numbers·creation-in) (C-creation-in 𝓤 H A at-mem run)) (known-chunk-in : Triple 𝓤 (𝓣 .C #table_chunks·chunk-in) (C-chunk-in 𝓤 H A at-mem run)) (known-record-number : Triple 𝓤 (𝓣 .C #table_records·record-number) (C-record-number 𝓤 H A at-mem run)) (known-record-in : Triple 𝓤 (𝓣 .C #table_records·record-in) (C-record-in 𝓤 H A at-mem run)) (known-copy-of : Triple 𝓤 (𝓣 .C #epoch_lent·copy-of) (C-copy-of 𝓤 H A at-mem run)) where
       abbrev C : Calls 𝓤 H
       C = 𝓣 .C
 
@@ -197,11 +198,11 @@ module _ {M : Type 1} (𝓤 : URA M) (H : Heap 𝓤) (A : Atoms 𝓤) (W : Given
           use1 W (raw (fact 𝓤 (r2 ≡ getD (h .chunks) x2 zeroChunk))) (said-chunk-in 𝓤 H A at-mem run κ (rt γ h) x2 r2) $ heard ! (r2 ≡ getD (h .chunks) x2 zeroChunk) (λ e2. split ! $ move ! (1 ∷ []) $ facts ! ChunkR.the-row (Is ChunkR.the-row) (shows 𝓤 H A ChunkR.the-row) r2 (w2 ∷ []) (λ is2.
           land ! (from ! (stop !)) (init ! 6 {τ = ChunkL.mir} {v = w2} refl (LL.lawful ChunkR.the-type ChunkL.the-laws 𝓤 H A W .typed r2 _ is2 .0)) $
           split ! $ move ! (1 ∷ []) $ drop ! $
-          -- _6 = epoch_lent::place_of(_2, _3)
-          nothing ! $ use1 W (raw (C-place-of 𝓤 H A at-mem run .pre (to-place-of 𝓤 H A W at-mem run x2 (vint w64 x2) x3 (vint w64 x3)))) (goes-place-of 𝓤 H A W at-mem run x2 (vint w64 x2) x3 (vint w64 x3) g2 g3) $
-          calls-at ! fm (C-place-of 𝓤 H A at-mem run) known-place-of (to-place-of 𝓤 H A W at-mem run x2 (vint w64 x2) x3 (vint w64 x3)) (and-then ! (load ! (from ! (stop !)) (look ! 13 {q = fullShare} {τ = tyInt w64} {b = l2} {o = 0} {v = (vint w64 x2)} refl)) (and-then ! (load ! (from ! (stop !)) (look ! 11 {q = fullShare} {τ = tyInt w64} {b = l3} {o = 0} {v = (vint w64 x3)} refl)) (no-more !))) (λ w3.
-          use1 W (later (some (λ (r : ℕ). (‵ ftrue ⊛ ‵ (usize .own r (w3 ∷ []))) ⊛ raw (ensured 𝓤 H A place-of.ended (place-of.clauses 𝓤 H A at-mem run) tt (x2, (x3, tt)) tt r)))) (id⊢ 𝓤 _) $ await ! tt $ pick ! (λ r3. split ! $ move ! (1 ∷ []) $
-          use1 W (raw (fact 𝓤 (r3 ≡ placeOf x2 x3))) (said-place-of 𝓤 H A at-mem run x2 x3 r3) $ heard ! (r3 ≡ placeOf x2 x3) (λ e3. split ! $ drop ! $ facts ! usize (Is usize) (shows 𝓤 H A usize) r3 (w3 ∷ []) (λ is3.
+          -- _6 = table_records::record_number(_2, _3)
+          nothing ! $ use1 W (raw (C-record-number 𝓤 H A at-mem run .pre (to-record-number 𝓤 H A W at-mem run x2 (vint w64 x2) x3 (vint w64 x3)))) (goes-record-number 𝓤 H A W at-mem run x2 (vint w64 x2) x3 (vint w64 x3) g2 g3) $
+          calls-at ! fm (C-record-number 𝓤 H A at-mem run) known-record-number (to-record-number 𝓤 H A W at-mem run x2 (vint w64 x2) x3 (vint w64 x3)) (and-then ! (load ! (from ! (stop !)) (look ! 13 {q = fullShare} {τ = tyInt w64} {b = l2} {o = 0} {v = (vint w64 x2)} refl)) (and-then ! (load ! (from ! (stop !)) (look ! 11 {q = fullShare} {τ = tyInt w64} {b = l3} {o = 0} {v = (vint w64 x3)} refl)) (no-more !))) (λ w3.
+          use1 W (later (some (λ (r : ℕ). (‵ ftrue ⊛ ‵ (usize .own r (w3 ∷ []))) ⊛ raw (ensured 𝓤 H A record-number.ended (record-number.clauses 𝓤 H A at-mem run) tt (x2, (x3, tt)) tt r)))) (id⊢ 𝓤 _) $ await ! tt $ pick ! (λ r3. split ! $ move ! (1 ∷ []) $
+          use1 W (raw (fact 𝓤 (r3 ≡ recordNumber x2 x3))) (said-record-number 𝓤 H A at-mem run x2 x3 r3) $ heard ! (r3 ≡ recordNumber x2 x3) (λ e3. split ! $ drop ! $ facts ! usize (Is usize) (shows 𝓤 H A usize) r3 (w3 ∷ []) (λ is3.
           land ! (from ! (stop !)) (init ! 4 {τ = tyInt w64} {v = w3} refl (uint-lawful 𝓤 H A W w64 .typed r3 _ is3 .0)) $
           -- _7 = table_records::record_in(_1, _6)
           move ! (1 ∷ []) $ use1 W (‵ (ShrRef (named 0) κ TableR.the-row .own (rt γ h) (vptr b o ∷ [])) ⊛ ‵ (ShrRef (named 0) κ TableR.the-row .own (rt γ h) (vptr b o ∷ []))) (shr-copy 𝓤 H A W (named 0) κ TableR.the-row .twice (rt γ h) (vptr b o ∷ [])) $ split ! $ move ! (2 ∷ 0 ∷ []) $
@@ -223,15 +224,15 @@ module _ {M : Type 1} (𝓤 : URA M) (H : Heap 𝓤) (A : Atoms 𝓤) (W : Given
           by ! (exits r5 w5 is5 (copy-is h x2 x3 r1 r2 r3 r4 r5 e1 e2 e3 e4 e5))))))))))))))))))))))))))))))
 
 module _ {M : Type 1} (𝓤 : URA M) (H : Heap 𝓤) (A : Atoms 𝓤) (W : Given 𝓤 H A) (at-mem : Memory → SProp 𝓤) (run : Routine → Fun 𝓤) where
-  copy-in-walks : (𝓣 : Tables 𝓤 H) → Triple 𝓤 (𝓣 .C #table_numbers·creation-in) (C-creation-in 𝓤 H A at-mem run) → Triple 𝓤 (𝓣 .C #table_chunks·chunk-in) (C-chunk-in 𝓤 H A at-mem run) → Triple 𝓤 (𝓣 .C #epoch_lent·place-of) (C-place-of 𝓤 H A at-mem run) → Triple 𝓤 (𝓣 .C #table_records·record-in) (C-record-in 𝓤 H A at-mem run) → Triple 𝓤 (𝓣 .C #epoch_lent·copy-of) (C-copy-of 𝓤 H A at-mem run) → Walks 𝓤 H A me.ended stayed (WpFn 𝓤 H (𝓣 .C) (𝓣 .Λ) code.function) (me.clauses 𝓤 H A at-mem run)
-  copy-in-walks 𝓣 known-creation-in known-chunk-in known-place-of known-record-in known-copy-of = walked 𝓤 H A me.ended stayed (me.clauses 𝓤 H A at-mem run) (WpFn 𝓤 H (𝓣 .C) (𝓣 .Λ) code.function) (λ κs. (ptr-vals, (uint-vals w64, (uint-vals w64, tt)))) (λ κs. (shr-tells (named 0) (κs .0) TableR.the-row, (uint-tells w64, (uint-tells w64, tt))))
-      (λ κs qs bounds a _ are. via 𝓤 _ (fst∗ 𝓤 _ (emp 𝓤)) (walk 𝓤 H A W at-mem run (κs .0) (qs .0) (a .0 .ptr .0) (a .0 .ptr .1) (a .0 .name) (a .0 .now) (a .1 .0) (a .1 .1 .0) (are .1 .0) (are .1 .1 .0) 𝓣 known-creation-in known-chunk-in known-place-of known-record-in known-copy-of))
+  copy-in-walks : (𝓣 : Tables 𝓤 H) → Triple 𝓤 (𝓣 .C #table_numbers·creation-in) (C-creation-in 𝓤 H A at-mem run) → Triple 𝓤 (𝓣 .C #table_chunks·chunk-in) (C-chunk-in 𝓤 H A at-mem run) → Triple 𝓤 (𝓣 .C #table_records·record-number) (C-record-number 𝓤 H A at-mem run) → Triple 𝓤 (𝓣 .C #table_records·record-in) (C-record-in 𝓤 H A at-mem run) → Triple 𝓤 (𝓣 .C #epoch_lent·copy-of) (C-copy-of 𝓤 H A at-mem run) → Walks 𝓤 H A me.ended stayed (WpFn 𝓤 H (𝓣 .C) (𝓣 .Λ) code.function) (me.clauses 𝓤 H A at-mem run)
+  copy-in-walks 𝓣 known-creation-in known-chunk-in known-record-number known-record-in known-copy-of = walked 𝓤 H A me.ended stayed (me.clauses 𝓤 H A at-mem run) (WpFn 𝓤 H (𝓣 .C) (𝓣 .Λ) code.function) (λ κs. (ptr-vals, (uint-vals w64, (uint-vals w64, tt)))) (λ κs. (shr-tells (named 0) (κs .0) TableR.the-row, (uint-tells w64, (uint-tells w64, tt))))
+      (λ κs qs bounds a _ are. via 𝓤 _ (fst∗ 𝓤 _ (emp 𝓤)) (walk 𝓤 H A W at-mem run (κs .0) (qs .0) (a .0 .ptr .0) (a .0 .ptr .1) (a .0 .name) (a .0 .now) (a .1 .0) (a .1 .1 .0) (are .1 .0) (are .1 .1 .0) 𝓣 known-creation-in known-chunk-in known-record-number known-record-in known-copy-of))
 
   goes : AllGo 𝓤 H A W 1 (me.signature .params) (me.ended .kept) stayed
   goes = (goes-none-ref 𝓤 H A W 1 (0 ∷ []) tt (plain (λ _. TableR.the-row)) yes, (goes-none 𝓤 H A W 1 (λ _. usize) yes (λ κs x f. refl), (goes-none 𝓤 H A W 1 (λ _. usize) yes (λ κs x f. refl), tt)))
 
-copy-in-meets : {M : Type 1} (𝓤 : URA M) (H : Heap 𝓤) (A : Atoms 𝓤) (W : Given 𝓤 H A) (at-mem : Memory → SProp 𝓤) (run : Routine → Fun 𝓤) (𝓣 : Tables 𝓤 H) → Triple 𝓤 (𝓣 .C #table_numbers·creation-in) (C-creation-in 𝓤 H A at-mem run) → Triple 𝓤 (𝓣 .C #table_chunks·chunk-in) (C-chunk-in 𝓤 H A at-mem run) → Triple 𝓤 (𝓣 .C #epoch_lent·place-of) (C-place-of 𝓤 H A at-mem run) → Triple 𝓤 (𝓣 .C #table_records·record-in) (C-record-in 𝓤 H A at-mem run) → Triple 𝓤 (𝓣 .C #epoch_lent·copy-of) (C-copy-of 𝓤 H A at-mem run) → Meets 𝓤 H A me.signature (WpFn 𝓤 H (𝓣 .C) (𝓣 .Λ) code.function) (me.spec 𝓤 H A at-mem run)
-copy-in-meets 𝓤 H A W at-mem run 𝓣 known-creation-in known-chunk-in known-place-of known-record-in known-copy-of = walk-meets 𝓤 H A me.ended stayed W (goes 𝓤 H A W at-mem run) (me.clauses 𝓤 H A at-mem run) (WpFn 𝓤 H (𝓣 .C) (𝓣 .Λ) code.function) (WpFn-mono 𝓤 H (W .laws) 𝓣 code.function) (copy-in-walks 𝓤 H A W at-mem run 𝓣 known-creation-in known-chunk-in known-place-of known-record-in known-copy-of)
+copy-in-meets : {M : Type 1} (𝓤 : URA M) (H : Heap 𝓤) (A : Atoms 𝓤) (W : Given 𝓤 H A) (at-mem : Memory → SProp 𝓤) (run : Routine → Fun 𝓤) (𝓣 : Tables 𝓤 H) → Triple 𝓤 (𝓣 .C #table_numbers·creation-in) (C-creation-in 𝓤 H A at-mem run) → Triple 𝓤 (𝓣 .C #table_chunks·chunk-in) (C-chunk-in 𝓤 H A at-mem run) → Triple 𝓤 (𝓣 .C #table_records·record-number) (C-record-number 𝓤 H A at-mem run) → Triple 𝓤 (𝓣 .C #table_records·record-in) (C-record-in 𝓤 H A at-mem run) → Triple 𝓤 (𝓣 .C #epoch_lent·copy-of) (C-copy-of 𝓤 H A at-mem run) → Meets 𝓤 H A me.signature (WpFn 𝓤 H (𝓣 .C) (𝓣 .Λ) code.function) (me.spec 𝓤 H A at-mem run)
+copy-in-meets 𝓤 H A W at-mem run 𝓣 known-creation-in known-chunk-in known-record-number known-record-in known-copy-of = walk-meets 𝓤 H A me.ended stayed W (goes 𝓤 H A W at-mem run) (me.clauses 𝓤 H A at-mem run) (WpFn 𝓤 H (𝓣 .C) (𝓣 .Λ) code.function) (WpFn-mono 𝓤 H (W .laws) 𝓣 code.function) (copy-in-walks 𝓤 H A W at-mem run 𝓣 known-creation-in known-chunk-in known-record-number known-record-in known-copy-of)
 
 pub copy-in-spec : {M : Type 1} → stated.statement M
 unfolding code.routine tablesOf
@@ -241,6 +242,6 @@ copy-in-spec 𝓤 H 𝓜 𝓖 𝓡 =
     (copy-in-meets 𝓤 H (𝓖 .A) (givenOf 𝓤 H 𝓜 𝓖) (𝓜 .mem) (𝓡 .run) (tablesOf 𝓤 H 𝓜 (tables 𝓤 H 𝓜 𝓡 code.env))
     (cited 𝓤 H (C-creation-in 𝓤 H (𝓖 .A) (𝓜 .mem) (𝓡 .run)) 𝓜 𝓡 code.env #table_numbers·creation-in creation-in-def.routine code.calls-table-numbers·creation-in (creation-in-thm.met 𝓤 H 𝓜 𝓖 𝓡))
     (cited 𝓤 H (C-chunk-in 𝓤 H (𝓖 .A) (𝓜 .mem) (𝓡 .run)) 𝓜 𝓡 code.env #table_chunks·chunk-in chunk-in-def.routine code.calls-table-chunks·chunk-in (chunk-in-thm.met 𝓤 H 𝓜 𝓖 𝓡))
-    (cited 𝓤 H (C-place-of 𝓤 H (𝓖 .A) (𝓜 .mem) (𝓡 .run)) 𝓜 𝓡 code.env #epoch_lent·place-of place-of-def.routine code.calls-epoch-lent·place-of (place-of-thm.met 𝓤 H 𝓜 𝓖 𝓡))
+    (cited 𝓤 H (C-record-number 𝓤 H (𝓖 .A) (𝓜 .mem) (𝓡 .run)) 𝓜 𝓡 code.env #table_records·record-number record-number-def.routine code.calls-table-records·record-number (record-number-thm.met 𝓤 H 𝓜 𝓖 𝓡))
     (cited 𝓤 H (C-record-in 𝓤 H (𝓖 .A) (𝓜 .mem) (𝓡 .run)) 𝓜 𝓡 code.env #table_records·record-in record-in-def.routine code.calls-table-records·record-in (record-in-thm.met 𝓤 H 𝓜 𝓖 𝓡))
     (cited 𝓤 H (C-copy-of 𝓤 H (𝓖 .A) (𝓜 .mem) (𝓡 .run)) 𝓜 𝓡 code.env #epoch_lent·copy-of copy-of-def.routine code.calls-epoch-lent·copy-of (copy-of-thm.met 𝓤 H 𝓜 𝓖 𝓡)))

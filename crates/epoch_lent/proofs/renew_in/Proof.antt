@@ -51,11 +51,11 @@ use Rattle.rules.proofs.Epoch.Laws as EpochL
 use Rattle.rules.specs.declared.Table.{Table}
 use Rattle.rules.proofs.Table as TableR
 use Rattle.rules.specs.Tables.{withEpoch, withChunks}
-use Rattle.epoch_lent.proofs.Laws.{renewed-is}
 use Rattle.rules.specs.Events.{renewed}
-use Rattle.epoch_lent.specs.Steps.{withChunkAt}
 use Rattle.rules.specs.Limits.{chunkLimit}
 use Rattle.rules.specs.Words.{each, numbers}
+use Rattle.epoch_lent.specs.Steps.{withChunkAt}
+use Rattle.epoch_lent.proofs.Laws.{renewed-is}
 use Rattle.table_lent.proofs.Share.{SharedOut, shares-out, comes-home}
 use Rattle.table_lent.proofs.Parts.{chunks-sized}
 use Rattle.table_numbers.proofs.creation_in as creation-in

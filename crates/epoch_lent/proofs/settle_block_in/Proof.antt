@@ -41,9 +41,9 @@ use Rattle.epoch_lent.proofs.Copies as CopiesR
 use Rattle.epoch_lent.proofs.Copies.Laws as CopiesL
 use Rattle.rules.specs.declared.Table.{Table}
 use Rattle.rules.proofs.Table as TableR
-use Rattle.epoch_lent.proofs.Laws.{block-is}
 use Rattle.rules.specs.Settlement.{settled}
 use Rattle.epoch_lent.specs.Steps.{copiesAt, withHeld, withBlock}
+use Rattle.epoch_lent.proofs.Laws.{block-is}
 use Rattle.table_lent.proofs.Share.{SharedOut, shares-out, comes-home}
 use Rattle.epoch_lent.proofs.settled_in as settled-in
 use Rattle.epoch_lent.proofs.settled_in.Symbol as settled-in-def

@@ -42,9 +42,9 @@ use Rattle.rules.proofs.Copy as CopyR
 use Rattle.rules.proofs.Copy.Laws as CopyL
 use Rattle.rules.specs.declared.Table.{Table}
 use Rattle.rules.proofs.Table as TableR
-use Rattle.epoch_lent.proofs.Laws.{copies-are}
 use Rattle.rules.specs.Settlement.{settled}
 use Rattle.epoch_lent.specs.Steps.{copyAt, copiesAt}
+use Rattle.epoch_lent.proofs.Laws.{copies-are}
 use Rattle.epoch_lent.proofs.copy_in as copy-in
 use Rattle.epoch_lent.proofs.copy_in.Symbol as copy-in-def
 use Rattle.epoch_lent.proofs.copy_in.Symbol.{name as #epoch_lent·copy-in}

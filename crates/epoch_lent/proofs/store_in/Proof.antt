@@ -45,12 +45,13 @@ use Rattle.rules.proofs.Record.Laws as RecordL
 use Rattle.rules.specs.declared.Table.{Table}
 use Rattle.rules.proofs.Table as TableR
 use Rattle.rules.specs.Tables.{withRecords}
+use Rattle.table_records.specs.Numbers.{recordNumber}
+use Rattle.epoch_lent.specs.Steps.{heldAt, withHeld}
 use Rattle.epoch_lent.proofs.Laws.{held-is}
-use Rattle.epoch_lent.specs.Steps.{placeOf, heldAt, withHeld}
-use Rattle.epoch_lent.proofs.place_of as place-of
-use Rattle.epoch_lent.proofs.place_of.Symbol as place-of-def
-use Rattle.epoch_lent.proofs.place_of.Symbol.{name as #epoch_lent·place-of}
-use Rattle.epoch_lent.proofs.place_of.Met as place-of-thm
+use Rattle.table_records.proofs.record_number as record-number
+use Rattle.table_records.proofs.record_number.Symbol as record-number-def
+use Rattle.table_records.proofs.record_number.Symbol.{name as #table_records·record-number}
+use Rattle.table_records.proofs.record_number.Met as record-number-thm
 use Rattle.epoch_lent.proofs.held_at as held-at
 use Rattle.epoch_lent.proofs.held_at.Symbol as held-at-def
 use Rattle.epoch_lent.proofs.held_at.Symbol.{name as #epoch_lent·held-at}
@@ -68,11 +69,11 @@ abbrev stayed : Stays (me.ended .signature .params) (me.ended .kept)
 stayed = (stay-ref (0 ∷ []) tt (plain (λ _. TableR.the-row)), (stay-none (λ _. CopiesR.the-row) yes, (stay-none (λ _. usize) yes, (stay-none (λ _. usize) yes, tt))))
 
 module _ {M : Type 1} (𝓤 : URA M) (H : Heap 𝓤) (A : Atoms 𝓤) (at-mem : Memory → SProp 𝓤) (run : Routine → Fun 𝓤) where
-  abbrev C-place-of : Contract 𝓤
-  C-place-of = tripleOf 𝓤 H A place-of.signature (place-of.spec 𝓤 H A at-mem run)
+  abbrev C-record-number : Contract 𝓤
+  C-record-number = tripleOf 𝓤 H A record-number.signature (record-number.spec 𝓤 H A at-mem run)
 
-  said-place-of : (x0 : ℕ) (x1 : ℕ) (r : ℕ) → ent 𝓤 (ensured 𝓤 H A place-of.ended (place-of.clauses 𝓤 H A at-mem run) tt (x0, (x1, tt)) tt r) (fact 𝓤 (r ≡ placeOf x0 x1))
-  said-place-of x0 x1 r = exE 𝓤 _ (λ ws. snd∗ 𝓤 (sem 𝓤 H A (lasts place-of.ended tt (x0, (x1, tt)) ws)) (fact 𝓤 (r ≡ placeOf x0 x1)))
+  said-record-number : (x0 : ℕ) (x1 : ℕ) (r : ℕ) → ent 𝓤 (ensured 𝓤 H A record-number.ended (record-number.clauses 𝓤 H A at-mem run) tt (x0, (x1, tt)) tt r) (fact 𝓤 (r ≡ recordNumber x0 x1))
+  said-record-number x0 x1 r = exE 𝓤 _ (λ ws. snd∗ 𝓤 (sem 𝓤 H A (lasts record-number.ended tt (x0, (x1, tt)) ws)) (fact 𝓤 (r ≡ recordNumber x0 x1)))
 
   abbrev C-held-at : Contract 𝓤
   C-held-at = tripleOf 𝓤 H A held-at.signature (held-at.spec 𝓤 H A at-mem run)
@@ -84,11 +85,11 @@ module _ {M : Type 1} (𝓤 : URA M) (H : Heap 𝓤) (A : Atoms 𝓤) (at-mem : 
   C-put-record = tripleOf 𝓤 H A put-record.signature (put-record.spec 𝓤 H A at-mem run)
 
 module _ {M : Type 1} (𝓤 : URA M) (H : Heap 𝓤) (A : Atoms 𝓤) (W : Given 𝓤 H A) (at-mem : Memory → SProp 𝓤) (run : Routine → Fun 𝓤) where
-  abbrev to-place-of : ℕ → Val → ℕ → Val → C-place-of 𝓤 H A at-mem run .Ghost
-  to-place-of x0 v0 x1 v1 = ((tt, tt, tt, (x0, (x1, tt)), (v0 ∷ [], (v1 ∷ [], tt))), tt)
+  abbrev to-record-number : ℕ → Val → ℕ → Val → C-record-number 𝓤 H A at-mem run .Ghost
+  to-record-number x0 v0 x1 v1 = ((tt, tt, tt, (x0, (x1, tt)), (v0 ∷ [], (v1 ∷ [], tt))), tt)
 
-  goes-place-of : (x0 : ℕ) (v0 : Val) (x1 : ℕ) (v1 : Val) → Is usize x0 (v0 ∷ []) → Is usize x1 (v1 ∷ []) → ent 𝓤 (sem 𝓤 H A ftrue) (C-place-of 𝓤 H A at-mem run .pre (to-place-of x0 v0 x1 v1))
-  goes-place-of x0 v0 x1 v1 g0 g1 = qed W (‵ ftrue ∷ []) ∵ nothing ! $ owned ! usize (Is usize) (uint-makes 𝓤 H A W w64) x1 _ g1 $ fjoin ! $ owned ! usize (Is usize) (uint-makes 𝓤 H A W w64) x0 _ g0 $ fjoin ! $ move ! (1 ∷ 0 ∷ []) $ join ! $ frame ! $ done !
+  goes-record-number : (x0 : ℕ) (v0 : Val) (x1 : ℕ) (v1 : Val) → Is usize x0 (v0 ∷ []) → Is usize x1 (v1 ∷ []) → ent 𝓤 (sem 𝓤 H A ftrue) (C-record-number 𝓤 H A at-mem run .pre (to-record-number x0 v0 x1 v1))
+  goes-record-number x0 v0 x1 v1 g0 g1 = qed W (‵ ftrue ∷ []) ∵ nothing ! $ owned ! usize (Is usize) (uint-makes 𝓤 H A W w64) x1 _ g1 $ fjoin ! $ owned ! usize (Is usize) (uint-makes 𝓤 H A W w64) x0 _ g0 $ fjoin ! $ move ! (1 ∷ 0 ∷ []) $ join ! $ frame ! $ done !
 
   abbrev to-held-at : Copies → Val → ℕ → Val → C-held-at 𝓤 H A at-mem run .Ghost
   to-held-at x0 v0 x1 v1 = ((tt, tt, tt, (x0, (x1, tt)), (v0 ∷ [], (v1 ∷ [], tt))), tt)
@@ -123,7 +124,7 @@ module _ {M : Type 1} (𝓤 : URA M) (H : Heap 𝓤) (A : Atoms 𝓤) (W : Given
         suffices ! _ (ends-at 𝓤 H A me.ended stayed (me.clauses 𝓤 H A at-mem run) W (((κ, tt), (q, tt), tt, x, vs), tt) vunit tt (z, (tt, (tt, (tt, tt)))) (tt, (tt, (tt, (tt, tt))))) $ says ! eq $
         nothing ! $ move ! (2 ∷ 0 ∷ []) $ join ! $ frame ! $ nothing ! $ owned ! usize (Is usize) (uint-makes 𝓤 H A W w64) x4 _ g4 $ fjoin ! $ owned ! usize (Is usize) (uint-makes 𝓤 H A W w64) x3 _ g3 $ fjoin ! $ owned ! CopiesR.the-row (Is CopiesR.the-row) (LL.makes CopiesR.the-type CopiesL.the-plain 𝓤 H A) x2 _ g2 $ fjoin ! $ move ! (1 ∷ 0 ∷ []) $ fjoin ! $ feqI ! (List Val) (vunit ∷ []) (vunit ∷ []) refl $ move ! (1 ∷ 0 ∷ []) $ done !
 
-    module _ (𝓣 : Tables 𝓤 H) (known-place-of : Triple 𝓤 (𝓣 .C #epoch_lent·place-of) (C-place-of 𝓤 H A at-mem run)) (known-held-at : Triple 𝓤 (𝓣 .C #epoch_lent·held-at) (C-held-at 𝓤 H A at-mem run)) (known-put-record : Triple 𝓤 (𝓣 .C #table_records·put-record) (C-put-record 𝓤 H A at-mem run)) where
+    module _ (𝓣 : Tables 𝓤 H) (known-record-number : Triple 𝓤 (𝓣 .C #table_records·record-number) (C-record-number 𝓤 H A at-mem run)) (known-held-at : Triple 𝓤 (𝓣 .C #epoch_lent·held-at) (C-held-at 𝓤 H A at-mem run)) (known-put-record : Triple 𝓤 (𝓣 .C #table_records·put-record) (C-put-record 𝓤 H A at-mem run)) where
       abbrev C : Calls 𝓤 H
       C = 𝓣 .C
 
@@ -140,11 +141,11 @@ module _ {M : Type 1} (𝓤 : URA M) (H : Heap 𝓤) (A : Atoms 𝓤) (W : Given
           alloc1 ! (λ l0. alloc1 ! (λ l1. alloc1 ! (λ l2. alloc1 ! (λ l3. alloc1 ! (λ l4. alloc1 ! (λ l5. alloc1 ! (λ l6. alloc1 ! (λ l7. alloc1 ! (λ l8. alloc0 ! $ params1 ! $
           pass1 ! (init ! 14 refl (tt, tt)) $ pass1 ! (init ! 12 {τ = CopiesL.mir} {v = m2} refl (LL.lawful CopiesR.the-type CopiesL.the-laws 𝓤 H A W .typed x2 _ g2 .0)) $ pass1 ! (init ! 10 {τ = tyInt w64} {v = (vint w64 x3)} refl (uint-lawful 𝓤 H A W w64 .typed x3 _ g3 .0)) $ pass1 ! (init ! 8 {τ = tyInt w64} {v = (vint w64 x4)} refl (uint-lawful 𝓤 H A W w64 .typed x4 _ g4 .0)) $ pass0 ! $ move ! (18 ∷ 19 ∷ []) $
           -- [t; the token; the locals]
-          -- _5 = epoch_lent::place_of(_3, _4)
-          nothing ! $ use1 W (raw (C-place-of 𝓤 H A at-mem run .pre (to-place-of 𝓤 H A W at-mem run x3 (vint w64 x3) x4 (vint w64 x4)))) (goes-place-of 𝓤 H A W at-mem run x3 (vint w64 x3) x4 (vint w64 x4) g3 g4) $
-          calls-at ! fm (C-place-of 𝓤 H A at-mem run) known-place-of (to-place-of 𝓤 H A W at-mem run x3 (vint w64 x3) x4 (vint w64 x4)) (and-then ! (load ! (from ! (stop !)) (look ! 13 {q = fullShare} {τ = tyInt w64} {b = l3} {o = 0} {v = (vint w64 x3)} refl)) (and-then ! (load ! (from ! (stop !)) (look ! 11 {q = fullShare} {τ = tyInt w64} {b = l4} {o = 0} {v = (vint w64 x4)} refl)) (no-more !))) (λ w1.
-          use1 W (later (some (λ (r : ℕ). (‵ ftrue ⊛ ‵ (usize .own r (w1 ∷ []))) ⊛ raw (ensured 𝓤 H A place-of.ended (place-of.clauses 𝓤 H A at-mem run) tt (x3, (x4, tt)) tt r)))) (id⊢ 𝓤 _) $ await ! tt $ pick ! (λ r1. split ! $ move ! (1 ∷ []) $
-          use1 W (raw (fact 𝓤 (r1 ≡ placeOf x3 x4))) (said-place-of 𝓤 H A at-mem run x3 x4 r1) $ heard ! (r1 ≡ placeOf x3 x4) (λ e1. split ! $ drop ! $ facts ! usize (Is usize) (shows 𝓤 H A usize) r1 (w1 ∷ []) (λ is1.
+          -- _5 = table_records::record_number(_3, _4)
+          nothing ! $ use1 W (raw (C-record-number 𝓤 H A at-mem run .pre (to-record-number 𝓤 H A W at-mem run x3 (vint w64 x3) x4 (vint w64 x4)))) (goes-record-number 𝓤 H A W at-mem run x3 (vint w64 x3) x4 (vint w64 x4) g3 g4) $
+          calls-at ! fm (C-record-number 𝓤 H A at-mem run) known-record-number (to-record-number 𝓤 H A W at-mem run x3 (vint w64 x3) x4 (vint w64 x4)) (and-then ! (load ! (from ! (stop !)) (look ! 13 {q = fullShare} {τ = tyInt w64} {b = l3} {o = 0} {v = (vint w64 x3)} refl)) (and-then ! (load ! (from ! (stop !)) (look ! 11 {q = fullShare} {τ = tyInt w64} {b = l4} {o = 0} {v = (vint w64 x4)} refl)) (no-more !))) (λ w1.
+          use1 W (later (some (λ (r : ℕ). (‵ ftrue ⊛ ‵ (usize .own r (w1 ∷ []))) ⊛ raw (ensured 𝓤 H A record-number.ended (record-number.clauses 𝓤 H A at-mem run) tt (x3, (x4, tt)) tt r)))) (id⊢ 𝓤 _) $ await ! tt $ pick ! (λ r1. split ! $ move ! (1 ∷ []) $
+          use1 W (raw (fact 𝓤 (r1 ≡ recordNumber x3 x4))) (said-record-number 𝓤 H A at-mem run x3 x4 r1) $ heard ! (r1 ≡ recordNumber x3 x4) (λ e1. split ! $ drop ! $ facts ! usize (Is usize) (shows 𝓤 H A usize) r1 (w1 ∷ []) (λ is1.
           land ! (from ! (stop !)) (init ! 8 {τ = tyInt w64} {v = w1} refl (uint-lawful 𝓤 H A W w64 .typed r1 _ is1 .0)) $
           -- _6 = epoch_lent::held_at(_2, _3)
           nothing ! $ use1 W (raw (C-held-at 𝓤 H A at-mem run .pre (to-held-at 𝓤 H A W at-mem run x2 m2 x3 (vint w64 x3)))) (goes-held-at 𝓤 H A W at-mem run x2 m2 x3 (vint w64 x3) g2 g3) $
@@ -171,15 +172,15 @@ module _ {M : Type 1} (𝓤 : URA M) (H : Heap 𝓤) (A : Atoms 𝓤) (W : Given
           by ! (exits (z3 .0) (held-is h (z3 .0) x2 x3 x4 r1 r2 e1 e2 e3))))))))))))))))))))))))))
 
 module _ {M : Type 1} (𝓤 : URA M) (H : Heap 𝓤) (A : Atoms 𝓤) (W : Given 𝓤 H A) (at-mem : Memory → SProp 𝓤) (run : Routine → Fun 𝓤) where
-  store-in-walks : (𝓣 : Tables 𝓤 H) → Triple 𝓤 (𝓣 .C #epoch_lent·place-of) (C-place-of 𝓤 H A at-mem run) → Triple 𝓤 (𝓣 .C #epoch_lent·held-at) (C-held-at 𝓤 H A at-mem run) → Triple 𝓤 (𝓣 .C #table_records·put-record) (C-put-record 𝓤 H A at-mem run) → Walks 𝓤 H A me.ended stayed (WpFn 𝓤 H (𝓣 .C) (𝓣 .Λ) code.function) (me.clauses 𝓤 H A at-mem run)
-  store-in-walks 𝓣 known-place-of known-held-at known-put-record = walked 𝓤 H A me.ended stayed (me.clauses 𝓤 H A at-mem run) (WpFn 𝓤 H (𝓣 .C) (𝓣 .Λ) code.function) (λ κs. (ptr-vals, (LL.vals CopiesR.the-type CopiesL.the-laws, (uint-vals w64, (uint-vals w64, tt))))) (λ κs. (mut-tells (named 0) (κs .0) TableR.the-row, (LL.tells CopiesR.the-type CopiesL.the-laws, (uint-tells w64, (uint-tells w64, tt)))))
-      (λ κs qs bounds a _ are. via 𝓤 _ (fst∗ 𝓤 _ (emp 𝓤)) (walk 𝓤 H A W at-mem run (κs .0) (qs .0) (a .0 .ptr .0) (a .0 .ptr .1) (a .0 .name) (a .0 .now) (a .1 .0) (only (LL.vals CopiesR.the-type CopiesL.the-laws (a .1 .0))) (a .1 .1 .0) (a .1 .1 .1 .0) (are .1 .0) (are .1 .1 .0) (are .1 .1 .1 .0) 𝓣 known-place-of known-held-at known-put-record))
+  store-in-walks : (𝓣 : Tables 𝓤 H) → Triple 𝓤 (𝓣 .C #table_records·record-number) (C-record-number 𝓤 H A at-mem run) → Triple 𝓤 (𝓣 .C #epoch_lent·held-at) (C-held-at 𝓤 H A at-mem run) → Triple 𝓤 (𝓣 .C #table_records·put-record) (C-put-record 𝓤 H A at-mem run) → Walks 𝓤 H A me.ended stayed (WpFn 𝓤 H (𝓣 .C) (𝓣 .Λ) code.function) (me.clauses 𝓤 H A at-mem run)
+  store-in-walks 𝓣 known-record-number known-held-at known-put-record = walked 𝓤 H A me.ended stayed (me.clauses 𝓤 H A at-mem run) (WpFn 𝓤 H (𝓣 .C) (𝓣 .Λ) code.function) (λ κs. (ptr-vals, (LL.vals CopiesR.the-type CopiesL.the-laws, (uint-vals w64, (uint-vals w64, tt))))) (λ κs. (mut-tells (named 0) (κs .0) TableR.the-row, (LL.tells CopiesR.the-type CopiesL.the-laws, (uint-tells w64, (uint-tells w64, tt)))))
+      (λ κs qs bounds a _ are. via 𝓤 _ (fst∗ 𝓤 _ (emp 𝓤)) (walk 𝓤 H A W at-mem run (κs .0) (qs .0) (a .0 .ptr .0) (a .0 .ptr .1) (a .0 .name) (a .0 .now) (a .1 .0) (only (LL.vals CopiesR.the-type CopiesL.the-laws (a .1 .0))) (a .1 .1 .0) (a .1 .1 .1 .0) (are .1 .0) (are .1 .1 .0) (are .1 .1 .1 .0) 𝓣 known-record-number known-held-at known-put-record))
 
   goes : AllGo 𝓤 H A W 1 (me.signature .params) (me.ended .kept) stayed
   goes = (goes-ref 𝓤 H A W 1 0 tt (plain (λ _. TableR.the-row)), (goes-none 𝓤 H A W 1 (λ _. CopiesR.the-row) yes (λ κs x f. refl), (goes-none 𝓤 H A W 1 (λ _. usize) yes (λ κs x f. refl), (goes-none 𝓤 H A W 1 (λ _. usize) yes (λ κs x f. refl), tt))))
 
-store-in-meets : {M : Type 1} (𝓤 : URA M) (H : Heap 𝓤) (A : Atoms 𝓤) (W : Given 𝓤 H A) (at-mem : Memory → SProp 𝓤) (run : Routine → Fun 𝓤) (𝓣 : Tables 𝓤 H) → Triple 𝓤 (𝓣 .C #epoch_lent·place-of) (C-place-of 𝓤 H A at-mem run) → Triple 𝓤 (𝓣 .C #epoch_lent·held-at) (C-held-at 𝓤 H A at-mem run) → Triple 𝓤 (𝓣 .C #table_records·put-record) (C-put-record 𝓤 H A at-mem run) → Meets 𝓤 H A me.signature (WpFn 𝓤 H (𝓣 .C) (𝓣 .Λ) code.function) (me.spec 𝓤 H A at-mem run)
-store-in-meets 𝓤 H A W at-mem run 𝓣 known-place-of known-held-at known-put-record = walk-meets 𝓤 H A me.ended stayed W (goes 𝓤 H A W at-mem run) (me.clauses 𝓤 H A at-mem run) (WpFn 𝓤 H (𝓣 .C) (𝓣 .Λ) code.function) (WpFn-mono 𝓤 H (W .laws) 𝓣 code.function) (store-in-walks 𝓤 H A W at-mem run 𝓣 known-place-of known-held-at known-put-record)
+store-in-meets : {M : Type 1} (𝓤 : URA M) (H : Heap 𝓤) (A : Atoms 𝓤) (W : Given 𝓤 H A) (at-mem : Memory → SProp 𝓤) (run : Routine → Fun 𝓤) (𝓣 : Tables 𝓤 H) → Triple 𝓤 (𝓣 .C #table_records·record-number) (C-record-number 𝓤 H A at-mem run) → Triple 𝓤 (𝓣 .C #epoch_lent·held-at) (C-held-at 𝓤 H A at-mem run) → Triple 𝓤 (𝓣 .C #table_records·put-record) (C-put-record 𝓤 H A at-mem run) → Meets 𝓤 H A me.signature (WpFn 𝓤 H (𝓣 .C) (𝓣 .Λ) code.function) (me.spec 𝓤 H A at-mem run)
+store-in-meets 𝓤 H A W at-mem run 𝓣 known-record-number known-held-at known-put-record = walk-meets 𝓤 H A me.ended stayed W (goes 𝓤 H A W at-mem run) (me.clauses 𝓤 H A at-mem run) (WpFn 𝓤 H (𝓣 .C) (𝓣 .Λ) code.function) (WpFn-mono 𝓤 H (W .laws) 𝓣 code.function) (store-in-walks 𝓤 H A W at-mem run 𝓣 known-record-number known-held-at known-put-record)
 
 pub store-in-spec : {M : Type 1} → stated.statement M
 unfolding code.routine tablesOf
@@ -187,6 +188,6 @@ store-in-spec 𝓤 H 𝓜 𝓖 𝓡 =
     entered 𝓤 H (tripleOf 𝓤 H (𝓖 .A) me.signature (me.spec 𝓤 H (𝓖 .A) (𝓜 .mem) (𝓡 .run)))
     (tables 𝓤 H 𝓜 𝓡 code.env .C) (tables 𝓤 H 𝓜 𝓡 code.env .Λ) #epoch_lent·store-in code.function (code.unfolded 𝓤 H 𝓜 𝓡)
     (store-in-meets 𝓤 H (𝓖 .A) (givenOf 𝓤 H 𝓜 𝓖) (𝓜 .mem) (𝓡 .run) (tablesOf 𝓤 H 𝓜 (tables 𝓤 H 𝓜 𝓡 code.env))
-    (cited 𝓤 H (C-place-of 𝓤 H (𝓖 .A) (𝓜 .mem) (𝓡 .run)) 𝓜 𝓡 code.env #epoch_lent·place-of place-of-def.routine code.calls-epoch-lent·place-of (place-of-thm.met 𝓤 H 𝓜 𝓖 𝓡))
+    (cited 𝓤 H (C-record-number 𝓤 H (𝓖 .A) (𝓜 .mem) (𝓡 .run)) 𝓜 𝓡 code.env #table_records·record-number record-number-def.routine code.calls-table-records·record-number (record-number-thm.met 𝓤 H 𝓜 𝓖 𝓡))
     (cited 𝓤 H (C-held-at 𝓤 H (𝓖 .A) (𝓜 .mem) (𝓡 .run)) 𝓜 𝓡 code.env #epoch_lent·held-at held-at-def.routine code.calls-epoch-lent·held-at (held-at-thm.met 𝓤 H 𝓜 𝓖 𝓡))
     (cited 𝓤 H (C-put-record 𝓤 H (𝓖 .A) (𝓜 .mem) (𝓡 .run)) 𝓜 𝓡 code.env #table_records·put-record put-record-def.routine code.calls-table-records·put-record (put-record-thm.met 𝓤 H 𝓜 𝓖 𝓡)))

@@ -51,8 +51,8 @@ use Rattle.rules.proofs.Reply as ReplyR
 use Rattle.rules.proofs.Reply.Laws as ReplyL
 use Rattle.rules.specs.declared.Table.{Table}
 use Rattle.rules.proofs.Table as TableR
-use Rattle.rules.specs.Events.{replyOf}
 use Rattle.rules.specs.Tables.{withPlaces}
+use Rattle.rules.specs.Events.{replyOf}
 use Rattle.network_places.specs.Sending.{sentAll}
 use Rattle.event_parts.specs.Acts.{acted}
 use Rattle.event_lent.specs.Touches.{hereIn, partsIn, keeping, refusalOf, grantOf, actedOn}

@@ -53,8 +53,8 @@ use Rattle.rules.proofs.Record as RecordR
 use Rattle.rules.proofs.Record.Laws as RecordL
 use Rattle.rules.specs.declared.Table.{Table}
 use Rattle.rules.proofs.Table as TableR
-use Rattle.rules.specs.Network.{removed}
 use Rattle.rules.specs.Tables.{withHosts, withChunks, withRecords, withPlaces}
+use Rattle.rules.specs.Network.{removed}
 use Rattle.event_lent.specs.Touches.{keeping}
 use Rattle.event_lent.proofs.Laws.{keep-is}
 use Rattle.event_lent.proofs.host_number as host-number

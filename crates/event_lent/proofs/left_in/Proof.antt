@@ -63,8 +63,8 @@ use Rattle.rules.proofs.Record as RecordR
 use Rattle.rules.proofs.Record.Laws as RecordL
 use Rattle.rules.specs.declared.Table.{Table}
 use Rattle.rules.proofs.Table as TableR
-use Rattle.rules.specs.Network.{freePlaces}
 use Rattle.rules.specs.Zero.{zeroHost, zeroChunk, zeroRecord}
+use Rattle.rules.specs.Network.{freePlaces}
 use Rattle.event_parts.specs.Acts.{acted}
 use Rattle.event_lent.specs.Touches.{partsBy, partsIn}
 use Rattle.event_lent.proofs.Laws.{parts-are}

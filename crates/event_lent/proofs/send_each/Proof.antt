@@ -42,10 +42,10 @@ use Rattle.event_parts.proofs.Acted as ActedR
 use Rattle.event_parts.proofs.Acted.Laws as ActedL
 use Rattle.rules.specs.declared.Table.{Table}
 use Rattle.rules.proofs.Table as TableR
+use Rattle.rules.specs.Zero.{zeroPlace}
+use Rattle.rules.specs.Tables.{withPlaces}
 use Rattle.rules.specs.Limits.{chunkLimit}
 use Rattle.rules.specs.Network.{replied}
-use Rattle.rules.specs.Tables.{withPlaces}
-use Rattle.rules.specs.Zero.{zeroPlace}
 use Rattle.network_places.specs.Sending.{sentAll}
 use Rattle.event_lent.proofs.Laws.{sends-each}
 use Rattle.event_lent.proofs.send_one as send-one

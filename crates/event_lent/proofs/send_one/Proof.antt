@@ -45,10 +45,10 @@ use Rattle.rules.proofs.Slot as SlotR
 use Rattle.rules.proofs.Slot.Laws as SlotL
 use Rattle.rules.specs.declared.Table.{Table}
 use Rattle.rules.proofs.Table as TableR
+use Rattle.rules.specs.Zero.{zeroPlace}
+use Rattle.rules.specs.Tables.{withPlaces}
 use Rattle.rules.specs.Limits.{chunkLimit}
 use Rattle.rules.specs.Network.{replied}
-use Rattle.rules.specs.Tables.{withPlaces}
-use Rattle.rules.specs.Zero.{zeroPlace}
 use Rattle.event_lent.proofs.message as lent-message
 use Rattle.event_lent.proofs.message.Symbol as lent-message-def
 use Rattle.event_lent.proofs.message.Symbol.{name as #event_lent·message}

@@ -1,21 +1,42 @@
-"""A function that a walked one calls: its contract, and how its arguments go to it."""
-from rows import NOTHING, TABLE, row
+"""What a function promises; and a function that a walked one calls: its contract, and how its arguments go to it."""
+from rows import TABLE, row
 from text import IN, nest, path
 
 
-class Callee:
-    """table: None, '&' or '&mut', where the first parameter is a lent table; params and result: kinds of the others.
-    says(args): the right side of result ≡ ..; tells(result, args): the whole promise, where it is more; of a '&mut' leaves(result, table after, table before, args): the whole promise.
-    args begin with the table, where there is one. asks(args): its `requires`."""
+class Contract:
+    """promise(r, z, args): what a function says of its result, of the table that it leaves and of its arguments, the table first where it is lent one. asks(args): its `requires`."""
 
-    def __init__(self, crate, name, table, params, result, says=None, leaves=None, asks=None, tells=None):
-        self.crate, self.name, self.table, self.params, self.result, self.leaves, self.asks = crate, name, table, params, result, leaves, asks
-        self.tells = tells or (lambda r, a: f"{r} ≡ {says(a)}")
-        self.called = name.replace("_", "-")
-        self.id = self.called if "_" in name else f"{crate.split('_')[-1]}-{name}"  # `record` and `set` are other things in a proof
-        self.symbol = f"#{crate}·{self.called}"
-        self.rows = [row(p) for p in params]
-        self.row = row(result) if result else NOTHING
+    def __init__(self, name, promise, asks=None):
+        self.name, self.promise, self.asks = name, promise, asks
+
+
+def gives(name, says, asks=None):
+    """says(*args): what the result is."""
+    return Contract(name, lambda r, z, args: f"{r} ≡ {says(*args)}", asks)
+
+
+def leaves(name, says):
+    """says(*args): what the table is that a function leaves which returns nothing."""
+    return Contract(name, lambda r, z, args: f"{z} ≡ {says(*args)}")
+
+
+def named(contracts):
+    return {c.name: c for c in contracts}
+
+
+class Callee:
+    """A function that is called. table: '&' or '&mut', where the first parameter is a lent table, else None; rows: of the other parameters; row: of the result."""
+
+    def __init__(self, contract, function):
+        self.promise, self.asks = contract.promise, contract.asks
+        self.crate, self.name = contract.name.split("::")
+        self.called = self.name.replace("_", "-")
+        self.id = self.called if "_" in self.name else f"{self.crate.split('_')[-1]}-{self.name}"  # `record` and `set` are other things in a proof
+        self.symbol = f"#{self.crate}·{self.called}"
+        params = function.locals[1:1 + function.params]
+        self.table = {"&rules::Table": "&", "&mut rules::Table": "&mut"}.get(params[0]) if params else None
+        self.params, self.result = params[1:] if self.table else params, function.locals[0]
+        self.rows, self.row = [row(p) for p in self.params], row(self.result)
 
     def uses(self, me):
         module = f"{path(me, self.crate, 'proofs')}.{'«record»' if self.name == 'record' else self.name}"
@@ -34,7 +55,7 @@ class Callee:
         xs = self.names("x")
         bound = "".join(f"({x} : {r.denotation}) " for x, r in zip(xs, self.rows)) + f"(r : {self.row.denotation})"
         κ, t, args = ("(κ, tt)", "(κ : Lft) (t : RefT Table) ", ["t"] + xs) if self.table else ("tt", "", xs)
-        said = self.tells("r", (["(now t)"] if self.table else []) + xs)
+        said = self.promise("r", None, (["(now t)"] if self.table else []) + xs)
         return text + f"""
   said-{self.id} : {t}{bound} → ent 𝓤 (ensured 𝓤 H A {self.id}.ended ({self.id}.clauses {IN}) {κ} {nest(args)} tt r) (fact 𝓤 ({said}))
   said-{self.id} {" ".join((["κ"] if self.table else []) + args + ["r"])} = exE 𝓤 _ (λ ws. snd∗ 𝓤 (sem 𝓤 H A (lasts {self.id}.ended {κ} {nest(args)} ws)) (fact 𝓤 ({said})))
@@ -47,10 +68,9 @@ class Callee:
         known = "".join(f"Is {r.row} {x} ({v} ∷ []) → " for x, v, r in zip(xs, vs, self.rows))
         arrows = "".join(f"{r.denotation} → Val → " for r in self.rows)
         own = "".join(f" {r.own(x, g)} fjoin ! $" for x, g, r in reversed(list(zip(xs, gs, self.rows))))
-        asks = f"({self.asks((['(now t)'] if self.table else []) + xs)}) → " if self.asks else ""
+        asks = f"({self.asks(*(['(now t)'] if self.table else []), *xs)}) → " if self.asks else ""
         ok, says = (" ok", "says ! ok $ ") if self.asks else ("", "")
         if not self.table:
-            ends = "frame !" if self.asks else "move ! (1 ∷ 0 ∷ []) $ join ! $ frame !"
             return f"""
   abbrev to-{self.id} : {arrows}C-{self.id} {IN} .Ghost
   to-{self.id}{pairs} = ((tt, tt, tt, {nest(xs)}, {nest([f"{v} ∷ []" for v in vs])}), tt)

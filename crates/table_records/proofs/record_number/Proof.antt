@@ -1,12 +1,12 @@
--- `event_lent::record_number` meets its contract
+-- `table_records::record_number` meets its contract
 use Prim.Native.Nat.{_<_}
 use mathlib.Core.Path.{refl}
 use lib.Dec.{ltb}
 use borrow.Author.Needs.{needs}
 use borrow.Author.Tests.{ltb-true}
 use Rattle.rules.proofs.Lists.{both}
-use Rattle.event_lent.proofs.record_number.Statement.{statement}
-use Rattle.event_lent.proofs.record_number.Tie as tie
+use Rattle.table_records.proofs.record_number.Statement.{statement}
+use Rattle.table_records.proofs.record_number.Tie as tie
 
 -- there are such a chunk and such a block
 inside : (c : tie.Then1) → (c .before .args .chunk < 8) × (c .before .args .block < 16)
