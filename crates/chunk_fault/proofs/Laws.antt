@@ -14,7 +14,7 @@ use Rattle.rules.specs.declared.Chunk.{Chunk}
 use Rattle.rules.specs.declared.State.{State}
 use Rattle.rules.specs.declared.Table.{Table}
 use Rattle.rules.specs.Chunks.{failRefusals, failed, emptied}
-use Rattle.rules.specs.Codes.{codeOf}
+use Rattle.rules.specs.Codes.{codeOf, unlessRefused}
 use Rattle.rules.specs.Events.{withoutWaiting}
 use Rattle.rules.specs.Limits.{chunkLimit, blockLimit}
 use Rattle.rules.specs.Tables.{at, recordsBy, chunkOf, withChunk, withChunks, withRecords}
@@ -22,7 +22,6 @@ use Rattle.rules.specs.Zero.{zeroChunk, zeroRecord, noChunk, noRecord}
 use Rattle.rules.proofs.Lists.{grid-at}
 use Rattle.rules.proofs.Loops.{below-next, grid-length, grid-of, grid-same}
 use Rattle.chunk_alone.specs.declared.Changed.{Changed}
-use Rattle.chunk_alone.specs.Changes as alone
 use Rattle.chunk_fault.specs.Steps.{placeOf, withEmptied, failedTo}
 
 -- a part that two defaults have in common
@@ -114,7 +113,7 @@ blocks-next i h = (omega arith, omega arith)
 -- ---- the event
 
 module _ (t : Table) (len : length (t .chunks) ≡ 8) (chunk : ℕ) (c : Chunk) (x : Changed) (code : ℕ) (y : Chunk) (b : Bool)
-    (hc : c ≡ getD (t .chunks) chunk zeroChunk) (hx : x ≡ alone.changed (failRefusals (c .state)) c (failed c)) (hcode : code ≡ x .code) (hy : y ≡ x .chunk) (tells : b ≡ not (eqb code 0)) where
+    (hc : c ≡ getD (t .chunks) chunk zeroChunk) (hx : x ≡ record { code = codeOf (failRefusals (c .state)); chunk = unlessRefused (failRefusals (c .state)) c (failed c) }) (hcode : code ≡ x .code) (hy : y ≡ x .chunk) (tells : b ≡ not (eqb code 0)) where
   abbrev Fails : ℕ → Table → Type 0
   Fails r z = (r ≡ codeOf (failRefusals (chunkOf t chunk .state))) × (z ≡ failedTo chunk t)
 

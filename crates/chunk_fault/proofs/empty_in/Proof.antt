@@ -17,7 +17,7 @@ use base.Logic.{SProp, ent, sep, emp, via, fst∗, id⊢}
 use base.Fml.{Lft, GName, Share, ftrue, fat, froom, fdies, flft}
 use prog.Memory.{Memory}
 use prog.Routine.{Routine}
-use prog.Wp.{Heap, Out, Env, afterSeq, afterBlock, afterTurn, Calls, Loops, Wp, atReturn, WpFn, Tables}
+use prog.Wp.{Heap, Out, afterSeq, afterBlock, afterTurn, Calls, Loops, Wp, atReturn, WpFn, Tables}
 use ghost.Atoms.{Atoms, sem}
 use contract.Monad.{Fun, fact}
 use contract.Running.{givenOf, tables, tablesOf}
@@ -65,6 +65,9 @@ use Rattle.chunk_fault.proofs.empty_in.Code.Mir as Mir
 
 abbrev ty : ℕ → Ty
 ty k = spell Mir.table (tyAt Mir.by-name-locals k)
+
+abbrev En : (l0 l1 l2 l3 l4 l5 l6 : ℕ) → List (Ty × ℕ)
+En l0 l1 l2 l3 l4 l5 l6 = (ty 0, l0) ∷ (ty 1, l1) ∷ (ty 2, l2) ∷ (ty 3, l3) ∷ (ty 4, l4) ∷ (ty 5, l5) ∷ (ty 6, l6) ∷ []
 
 abbrev turn : Body
 turn = inside (inside (inside (after 1 (code.function .body))))
@@ -124,9 +127,6 @@ module _ {M : Type 1} (𝓤 : URA M) (H : Heap 𝓤) (A : Atoms 𝓤) (W : Given
       Nearer-wf = InvImage·wf (λ (i : Upto). 16 - i .0) (Nat·lt-wfRel .wf)
 
       module _ (len : length (h .records) ≡ 128) (l0 l1 l2 l3 l4 l5 l6 : ℕ) where
-        abbrev En : Env 𝓤 H
-        En = (ty 0, l0) ∷ (ty 1, l1) ∷ (ty 2, l2) ∷ (ty 3, l3) ∷ (ty 4, l4) ∷ (ty 5, l5) ∷ (ty 6, l6) ∷ []
-
         abbrev At : Upto → List (Item 𝓤)
         At i =
             ‵ (MutRef (named 0) κ TableR.the-row .own (rt γ (tableTo h len x2 (i .0))) (vptr b o ∷ [])) ∷ ‵ (flft κ q)
@@ -140,16 +140,16 @@ module _ {M : Type 1} (𝓤 : URA M) (H : Heap 𝓤) (A : Atoms 𝓤) (W : Given
             ∷ []
 
         abbrev Turned : Upto → Out → SProp 𝓤
-        Turned i = afterTurn 𝓤 H (Below 𝓤 H A Nearer At i) (afterBlock 𝓤 H (afterSeq 𝓤 H (Wp 𝓤 H C Λ En (after 2 (code.function .body)) (atReturn 𝓤 H En Post)) (atReturn 𝓤 H En Post)))
+        Turned i = afterTurn 𝓤 H (Below 𝓤 H A Nearer At i) (afterBlock 𝓤 H (afterSeq 𝓤 H (Wp 𝓤 H C Λ (En l0 l1 l2 l3 l4 l5 l6) (after 2 (code.function .body)) (atReturn 𝓤 H (En l0 l1 l2 l3 l4 l5 l6) Post)) (atReturn 𝓤 H (En l0 l1 l2 l3 l4 l5 l6) Post)))
 
-        turns : (i : Upto) → Sq W (At i) (runs C Λ En turn (anyQ (Turned i)))
+        turns : (i : Upto) → Sq W (At i) (runs C Λ (En l0 l1 l2 l3 l4 l5 l6) turn (anyQ (Turned i)))
         unfolding afterTurn
         turns i =
             assigns ! (bin ! (load ! (from ! (stop !)) (look ! 8 {q = fullShare} {τ = tyInt w64} {b = l3} {o = 0} {v = (vint w64 (i .0))} refl)) (lit ! tt) tt) (from ! (stop !)) (init ! 6 refl (tt, tt)) $
             first ! $ branches ! (load ! (from ! (stop !)) (look ! 6 refl))
             (λ held.
             skips ! $
-            exec ! C Λ En (after 2 turn) (anyQ (Turned i)) $
+            exec ! C Λ (En l0 l1 l2 l3 l4 l5 l6) (after 2 turn) (anyQ (Turned i)) $
             assigns ! (addr ! (from ! (hop ! (look ! 12 refl) (stop !)))) (from ! (stop !)) (init ! 2 refl (tt, tt)) $
             -- _5 = chunk_fault::empty_block_in(_6, _2, _3)
             lft-new ! tt (λ ν1. move ! (1 ∷ 2 ∷ []) $
@@ -167,7 +167,7 @@ module _ {M : Type 1} (𝓤 : URA M) (H : Heap 𝓤) (A : Atoms 𝓤) (W : Given
             forget ! 2 refl $ forget ! 4 refl $ forget ! 6 refl $ again ! Nearer At i (i .0 + 1, blocks-next (i .0) (reaches (i .0) _ 16 held (leb→le _ _ tt))) (add-one-dec 16 (i .0) (reaches (i .0) _ 16 held (leb→le _ _ tt)))))))))))
             (λ failed.
             jumps ! $
-            exec ! C Λ En (after 2 (code.function .body)) (atRet En Post) $
+            exec ! C Λ (En l0 l1 l2 l3 l4 l5 l6) (after 2 (code.function .body)) (atRet (En l0 l1 l2 l3 l4 l5 l6) Post) $
             assigns ! (of-opd ! (unit-lit !)) (from ! (stop !)) (init ! 14 refl (tt, tt)) $
             returns ! (look ! 14 {q = fullShare} {τ = tyUnit} {b = l0} {o = 0} {v = vunit} refl) $
             forget ! 6 refl $ forget ! 8 refl $ forget ! 10 refl $ forget ! 12 refl $ forget ! 14 refl $
@@ -184,7 +184,7 @@ module _ {M : Type 1} (𝓤 : URA M) (H : Heap 𝓤) (A : Atoms 𝓤) (W : Given
           fsplit3 ! $ drop ! $ open-ref ! tt (mem TableR.the-row) {x = h} {b = b} {o = o} $
           use1 W (given (length (h .records) ≡ 128) (‵ (partAt TableR.the-row fullShare h b o))) (records-sized 𝓤 H A W fullShare h b o) $ learn ! (λ len.
           close-ref ! tt (mem TableR.the-row) h {b = b} {o = o} $ feqI ! (List Val) (vptr b o ∷ []) (vptr b o ∷ []) refl $ fjoin3 ! $
-          assigns ! (of-opd ! (lit ! tt)) (from ! (stop !)) (init ! 8 {τ = tyInt w64} {v = (vint w64 0)} refl (uint-lawful 𝓤 H A W w64 .typed 0 _ (refl, lit< tt) .0)) $
+          assigns ! (of-opd ! (lit ! tt)) (from ! (stop !)) (init ! 8 refl (tt, record { fits = lit< tt })) $
           rewrite ! 0 (λ (z : Table). ‵ (MutRef (named 0) κ TableR.the-row .own (rt γ z) (vptr b o ∷ []))) (table-begins h len x2) refl $
           first ! $ blocks ! $ loops ! 𝓣 Nearer Nearer-wf (At len l0 l1 l2 l3 l4 l5 l6) (turns len l0 l1 l2 l3 l4 l5 l6) (0, blocks-start)))))))))
 
