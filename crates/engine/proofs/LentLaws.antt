@@ -4,7 +4,7 @@ use mathlib.Core.Path.{_≡_, refl, sym, ap, _∙_}
 use mathlib.Core.Bool.{Bool, true, false, cond, not}
 use mathlib.Core.List.{List, [], _∷_}
 use native.Mathlib.Omega.{arith}
-use lib.Dec.{eqb, T, leb}
+use lib.Dec.{eqb, T}
 use lib.ListN.{length, getD}
 use borrow.Author.Tests.{eqb-true, eqb-false, lt-ltb, leb-true}
 use Rattle.rules.specs.declared.Epoch.{Epoch}
@@ -18,7 +18,7 @@ use Rattle.rules.specs.Codes.{codeOf}
 use Rattle.rules.specs.Events.{quietly, done, refused, withoutWaiting, epochRefusals, kindOf, ranges, ruleOf, step, replyOf}
 use Rattle.rules.specs.Formed.{wellFormed}
 use Rattle.rules.specs.Limits.{chunkLimit, blockLimit, greatestClock}
-use Rattle.rules.specs.Tables.{setOf, hostOf, chunkOf, at, recordOf, withChunk, withRecords}
+use Rattle.rules.specs.Tables.{hostOf, chunkOf, at, recordOf, withChunk, withRecords}
 use Rattle.rules.specs.Timestamps.{next}
 use Rattle.rules.specs.Words.{place}
 use Rattle.rules.specs.Zero.{zeroRecord, zeroChunk, zeroHost, noHost, noChunk, noRecord}
