@@ -1,7 +1,6 @@
 -- `chunk_fault::place_of` meets its contract
 use Prim.Native.Nat.{_<_}
 use mathlib.Core.Path.{refl}
-use native.Mathlib.Omega.{arith}
 use lib.Dec.{ltb}
 use borrow.Author.Needs.{needs}
 use borrow.Author.Tests.{ltb-true}
