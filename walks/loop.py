@@ -17,6 +17,19 @@ class Loop:
     def __init__(self, limit, good, start, changed, next, less, uses):
         """good: a predicate of numbers that begins with i ≤ limit. start: a proof that 0 is good. changed: local: Changed. next: a proof that i + 1 is good, less: that i < limit, both at the end of a turn."""
         self.limit, self.good, self.start, self.changed, self.next, self.less, self.uses = limit, good, start, changed, next, less, uses
+        self.table = None
+
+    def changes(self, table, begins, becomes):
+        """The turns change the table. table(n): what it is at n; begins: a proof that h is that at 0, becomes: that what a turn leaves is that at i + 1."""
+        self.table = (table, begins, becomes)
+        return self
+
+    def now(self):
+        return self.table[0]("(i .0)") if self.table else "h"
+
+    def turned(self, walk, proof):
+        """The table's value, at the head, is said anew."""
+        walk.emit(f"rewrite ! 0 (λ (z : Table). {walk.lent('z')}) {bracket(proof)} refl $")
 
     def held(self, made):
         """What the changed locals hold at i; made(x, v, g, row) makes a Held."""
@@ -35,9 +48,11 @@ turn = inside (inside (inside (after {self.before} (code.function .body))))
         for local, c in self.changed.items():
             if c.begins:
                 walk.emit(f"rewrite ! {walk.cell(local)} (λ (u : {c.row.denotation}). ‵ (fat fullShare {bracket(c.row.mir)} l{local} 0 {c.row.value('u')})) {bracket(c.begins)} refl $")
+        if self.table:
+            self.turned(walk, self.table[1])
         at = f"len {walk.names()}" if walk.sizes else walk.names()
         walk.emit(f"first ! $ blocks ! $ loops ! 𝓣 Nearer Nearer-wf (At {at}) (turns {at}) (0, {self.start})")
-        self.cells = place.holds_all(self.held(made))
+        self.cells = place.holds_all(self.held(made)).but(now=self.now())
         outer, walk.lines = walk.lines, []
         opened = walk.go(mir.flat(block[1][1]), self.cells.but(turn=rest), 0)
         walk.close(opened)
@@ -49,6 +64,8 @@ turn = inside (inside (inside (after {self.before} (code.function .body))))
             if c.next:
                 held = place.held[local]
                 walk.emit(f"rewrite ! {walk.cell(local)} (λ (u : Val). ‵ (fat fullShare {bracket(c.row.mir)} l{local} 0 u)) (ap only ({c.row.tells} {held.x} _ {held.g}) ∙ ap {bracket(c.row.machine)} {bracket(c.next)}) refl $")
+        if self.table:
+            self.turned(walk, self.table[2])
         made = sorted({*place.held, *place.pointers} - set(self.cells.held), reverse=True)
         forgets = "".join(f"forget ! {walk.cell(i)} refl $ " for i in made)
         walk.emit(f"{forgets}again ! Nearer At i (i .0 + 1, {self.next}) (add-one-dec {self.limit} (i .0) {bracket(self.less)})")
@@ -59,7 +76,7 @@ turn = inside (inside (inside (after {self.before} (code.function .body))))
         for i in reversed(range(walk.count)):
             value = "(vptr b o)" if i == 1 else self.cells.held[i].v if i in self.cells.held else None
             cells.append(f"‵ (fat fullShare (ty {i}) l{i} 0 {value}) ∷ ‵ (fdies (ty {i}) l{i})" if value else f"‵ (froom (ty {i}) l{i} 0) ∷ ‵ (fdies (ty {i}) l{i})")
-        context = [walk.lent("h"), "‵ (flft κ q)"] if walk.mut else ["‵ (flft κ q)", walk.lent("h")]
+        context = [walk.lent(self.now()), "‵ (flft κ q)"] if walk.mut else ["‵ (flft κ q)", walk.lent("h")]
         size = f" (len : length (h .{walk.sizes.field}) ≡ {walk.sizes.count})" if walk.sizes else ""
         lines = "\n".join("  " + line for line in self.lines)
         return f"""

@@ -20,9 +20,9 @@ class Held:
 class Place:
     """Where the walk stands: what the locals hold, the pointers, the table's value, and how the last test came out."""
 
-    def __init__(self, held, pointers=None, now="h", within=False, below=None, rest=None, turn=None):
-        """within: in an arm. below: a part, and that an index is inside or outside of it. rest: the statements after the arm, and how many come before them. turn: in a loop, the statements after it and how many come before them."""
-        self.held, self.pointers, self.now, self.within, self.below, self.rest, self.turn = held, pointers or {}, now, within, below, rest, turn
+    def __init__(self, held, pointers=None, now="h", within=False, below=None, rest=None, turn=None, tests=0):
+        """within: in an arm. below: a part, and that an index is inside or outside of it. rest: the statements after the arm, and how many come before them. turn: in a loop, the statements after it and how many come before them. tests: how many tests were passed."""
+        self.held, self.pointers, self.now, self.within, self.below, self.rest, self.turn, self.tests = held, pointers or {}, now, within, below, rest, turn, tests
 
     def but(self, **changes):
         return Place(**{**self.__dict__, **changes})
@@ -35,13 +35,15 @@ class Place:
 
 
 class Walk:
-    def __init__(self, crate, name, callees, claim, shown, uses="", loop=None, sizes=None, asked=None, fits=None):
+    def __init__(self, crate, name, callees, claim, shown, uses="", loop=None, sizes=None, asked=None, fits=None, asks=None, lengths=()):
         """claim(r, z, xs): what the function promises of its result, of the table that it leaves and of its parameters.
         shown: the proof of it at each return, in their order. In it h is the table at entry, x2, x3, .. the parameters, r1, e1, r2, e2, .. each call's result and what it said,
         z1, .. the table that a call left, held and failed how a test came out, len the length of an array that an index is beyond, or of sizes.
-        asked: the proof of a callee's `requires`, by the callee's name. fits: that a sum fits."""
+        asked: the proof of a callee's `requires`, by the callee's name. fits: that a sum fits.
+        asks(h, xs): the function's own `requires`, of the table at entry and the parameters; in a proof ok. lengths: parts whose lengths are learnt at entry, hosts-len and so on.
+        Of a test within the arm of another: held2, failed2, .. ."""
         self.crate, self.name, self.callees, self.claim, self.shown, self.uses = crate, name, callees, claim, list(shown), uses
-        self.loop, self.sizes, self.asked, self.fits, self.compared = loop, sizes, asked or {}, fits, {}
+        self.loop, self.sizes, self.asked, self.fits, self.compared, self.asks, self.lengths = loop, sizes, asked or {}, fits, {}, asks, lengths
         self.id = name.replace("_", "-")
         self.mir = mir.functions(crate)[name]
         self.mut = self.mir.locals[1].startswith("&mut")
@@ -156,7 +158,9 @@ class Walk:
             place = place.holds(local, Held(held.x, BOOL.value(held.x), held.g, BOOL))
         inside = place.but(within=True, rest=(rest, at))
         self.emit(f"first ! $ branches ! {self.read(place, local)}")
-        for node, name in ((statement[2], "held"), (statement[3], "failed")):
+        inner = "" if place.tests == 0 else str(place.tests + 1)
+        inside = inside.but(tests=place.tests + 1)
+        for node, name in ((statement[2], "held" + inner), (statement[3], "failed" + inner)):
             self.emit(f"(λ {name}.")
             opened = self.go(mir.flat(node), inside.but(below=self.tested(place, local, statement, name)), None)
             self.close(opened + 1)
@@ -165,10 +169,11 @@ class Walk:
     def tested(self, place, local, statement, name):
         """What a test of an index against the length of an array tells: that it is below it, or not."""
         for node in mir.flat(statement[2]):
-            if node[0] == "assign" and node[2][0] == "addrOf" and mir.local(node[2][1])[1]:
-                part = PARTS[int(mir.local(node[2][1])[1][1][1])]
+            steps = mir.local(node[2][1])[1] if node[0] == "assign" and node[2][0] == "addrOf" else []
+            if len(steps) == 2:
+                part = PARTS[int(steps[1][1])]
                 if isinstance(part, Part) and (index := self.compared.get(local)):
-                    return part, f"({'reaches' if name == 'held' else 'passes'} {index} _ {part.count} {name} (leb→le _ _ tt))"
+                    return part, f"({'reaches' if name.startswith('held') else 'passes'} {index} _ {part.count} {name} (leb→le _ _ tt))"
         return None
 
     def assignment(self, statement, place, rest, last):
@@ -245,10 +250,10 @@ class Walk:
         else:
             self.emit("move ! (1 ∷ []) $ obor-close ! tt $ drop ! $ feqI ! (List Val) (vptr b o ∷ []) (vptr b o ∷ []) refl $ move ! (0 ∷ 3 ∷ 2 ∷ []) $ fjoin3 ! $ move ! (1 ∷ 0 ∷ []) $")
 
-    def learns(self, now, part):
+    def learns(self, now, part, name="len"):
         """The length of an array that lies there."""
         share, opened = self.opens(now)
-        self.emit(f"use1 W (given (length ({bracket(now)} .{part.field}) ≡ {part.count}) (‵ (partAt {TABLE.row} {share} {bracket(now)} b o))) ({part.field}-sized 𝓤 H A W {share} {bracket(now)} b o) $ learn ! (λ len.")
+        self.emit(f"use1 W (given (length ({bracket(now)} .{part.field}) ≡ {part.count}) (‵ (partAt {TABLE.row} {share} {bracket(now)} b o))) ({part.field}-sized 𝓤 H A W {share} {bracket(now)} b o) $ learn ! (λ {name}.")
         self.shuts(now)
         return opened + 1
 
@@ -382,6 +387,7 @@ class Walk:
 
     def steps(self):
         opened = self.learns("h", self.sizes) if self.sizes else 0
+        opened += sum(self.learns("h", part, f"{part.field}-len") for part in self.lengths)
         opened += self.go(mir.flat(self.mir.body), Place(self.parameters()))
         self.close(opened + self.count)
         if self.returned != len(self.shown):
@@ -433,6 +439,7 @@ En {self.names()} = {" ∷ ".join(f"(ty {i}, l{i})" for i in range(self.count))}
         R, xs = self.result, [x.x for x in held.values()]
         bound = "".join(f" (x{i} : {R_.denotation})" + (f" (m{i} : Val)" if held[i].v == f"m{i}" else "") for i, R_ in self.rows.items())
         known = "".join(f" (g{i} : Is {x.row.row} {x.x} ({x.v} ∷ []))" for i, x in held.items())
+        known += f" (ok : {self.asks('h', xs)})" if self.asks else ""
         table, unit = self.mut, R is NOTHING
         args = ([] if unit else ["r", "v", "g"]) + (["z"] if table else []) + ["eq"]
         types = ("" if unit else f"(r : {R.denotation}) (v : Val) → Is {R.row} r (v ∷ []) → ") + ("(z : Table) → " if table else "")
@@ -489,25 +496,32 @@ module _ {BASE} {GIVEN} {RUN} (κ : Lft) (q : Share) (b o : ℕ) (γ : GName) (h
 """
 
     def closing(self):
-        id, me = self.id, self.crate
         reach = {i: f"(a{' .1' * (i - 1)} .0)" for i in self.rows}
         given = " ".join(f"{reach[i]}" + (f" (only ({x.row.vals} {reach[i]}))" if x.v == f"m{i}" else "") for i, x in self.parameters().items())
         are = " ".join(f"(are{' .1' * (i - 1)} .0)" for i in self.rows) or "tt"
         kn = "".join(f" known-{c.id}" for c in self.called)
-        triples = "".join(f"Triple 𝓤 (𝓣 .C {c.symbol}) (C-{c.id} {IN}) → " for c in self.called)
         vals = nest(["ptr-vals"] + [R.vals for R in self.rows.values()])
         tells = nest([f"{'mut' if self.mut else 'shr'}-tells (named 0) (κs .0) {TABLE.row}"] + [R.tells for R in self.rows.values()])
         goes = nest([f"goes-ref 𝓤 H A W 1 0 tt (plain (λ _. {TABLE.row}))" if self.mut else f"goes-none-ref 𝓤 H A W 1 (0 ∷ []) tt (plain (λ _. {TABLE.row})) yes"]
                     + [f"goes-none 𝓤 H A W 1 (λ _. {R.row}) yes (λ κs x f. refl)" for R in self.rows.values()])
+        begins, ok, ends = (f"needs 𝓤 ({self.asks('(a .0 .now)', list(reach.values()))}) _ (λ ok. ", " ok", ")") if self.asks else ("via 𝓤 _ (fst∗ 𝓤 _ (emp 𝓤)) ", "", "")
+        walked = f"walk 𝓤 H A W at-mem run (κs .0) (qs .0) (a .0 .ptr .0) (a .0 .ptr .1) (a .0 .name) (a .0 .now) {given + ' ' if given else ''}{are}{ok} 𝓣{kn}"
+        return self.ending(1, vals, tells, f"{begins}({walked}){ends}", goes)
+
+    def ending(self, lifetimes, vals, tells, walked, goes):
+        """From the walk to the function's contract."""
+        id, me = self.id, self.crate
+        kn = "".join(f" known-{c.id}" for c in self.called)
+        triples = "".join(f"Triple 𝓤 (𝓣 .C {c.symbol}) (C-{c.id} {IN}) → " for c in self.called)
         run = "(WpFn 𝓤 H (𝓣 .C) (𝓣 .Λ) code.function)"
         cited = "".join(f"\n    (cited 𝓤 H (C-{c.id} 𝓤 H (𝓖 .A) (𝓜 .mem) (𝓡 .run)) 𝓜 𝓡 code.env {c.symbol} {c.id}-def.routine code.calls-{c.crate.replace('_', '-')}·{c.called} ({c.id}-thm.met 𝓤 H 𝓜 𝓖 𝓡))" for c in self.called)
         return f"""
 module _ {BASE} {GIVEN} {RUN} where
   {id}-walks : (𝓣 : Tables 𝓤 H) → {triples}Walks 𝓤 H A me.ended stayed {run} (me.clauses {IN})
   {id}-walks 𝓣{kn} = walked 𝓤 H A me.ended stayed (me.clauses {IN}) {run} (λ κs. {vals}) (λ κs. {tells})
-      (λ κs qs bounds a _ are. via 𝓤 _ (fst∗ 𝓤 _ (emp 𝓤)) (walk 𝓤 H A W at-mem run (κs .0) (qs .0) (a .0 .ptr .0) (a .0 .ptr .1) (a .0 .name) (a .0 .now) {given + " " if given else ""}{are} 𝓣{kn}))
+      (λ κs qs bounds a _ are. {walked})
 
-  goes : AllGo 𝓤 H A W 1 (me.signature .params) (me.ended .kept) stayed
+  goes : AllGo 𝓤 H A W {lifetimes} (me.signature .params) (me.ended .kept) stayed
   goes = {goes}
 
 {id}-meets : {BASE} {GIVEN} {RUN} (𝓣 : Tables 𝓤 H) → {triples}Meets 𝓤 H A me.signature {run} (me.spec {IN})

@@ -30,7 +30,7 @@ module _ (f : ℕ → ℕ → Record) where
   pub records-length : length (recordsBy f) ≡ 128
   records-length = grid-length chunkLimit blockLimit f
 
-  records-at : (c b : ℕ) → c < chunkLimit → b < blockLimit → getD (recordsBy f) (at c b) noRecord ≡ f c b
+  pub records-at : (c b : ℕ) → c < chunkLimit → b < blockLimit → getD (recordsBy f) (at c b) noRecord ≡ f c b
   records-at c b h k = grid-at f chunkLimit blockLimit c b noRecord h k
 
   records-of : (l : List Record) → length l ≡ 128 → ((c b : ℕ) → c < chunkLimit → b < blockLimit → getD l (at c b) noRecord ≡ f c b) → l ≡ recordsBy f
@@ -57,7 +57,7 @@ module _ (k : Creation) (chunks : List Chunk) (records : List Record) (b : ℕ) 
 
 module _ (records : List Record) (block : ℕ) (copies : List Copy) where
   abbrev storedAt : (c b : ℕ) → Record
-  storedAt c b = cond (eqb b block) (getD copies c noCopy .block) (getD records (at c b) noRecord)
+  storedAt c b = cond (eqb b block) (getD copies c noCopy .held) (getD records (at c b) noRecord)
 
   abbrev pub storedTo : ℕ → (c b : ℕ) → Record
   storedTo i c b = cond (ltb c i) (storedAt c b) (getD records (at c b) noRecord)
@@ -65,7 +65,7 @@ module _ (records : List Record) (block : ℕ) (copies : List Copy) where
   pub stored-begin : length records ≡ 128 → records ≡ recordsBy (storedTo 0)
   stored-begin len = records-of (storedTo 0) records len (λ c b _ _. rw (le-ltb c 0 (omega arith)) refl)
 
-  pub stored-next : (i : ℕ) → i < chunkLimit → block < blockLimit → set (recordsBy (storedTo i)) (at i block) (getD copies i noCopy .block) ≡ recordsBy (storedTo (i + 1))
+  pub stored-next : (i : ℕ) → i < chunkLimit → block < blockLimit → set (recordsBy (storedTo i)) (at i block) (getD copies i noCopy .held) ≡ recordsBy (storedTo (i + 1))
   stored-next i h inside =
       records-of (storedTo (i + 1)) (set old (at i block) new) (length-set old (at i block) new ∙ records-length (storedTo i))
       (λ c b k m. go c b k m (ℕ-discrete c i) (ℕ-discrete b block))
@@ -74,7 +74,7 @@ module _ (records : List Record) (block : ℕ) (copies : List Copy) where
       old = recordsBy (storedTo i)
 
       new : Record
-      new = getD copies i noCopy .block
+      new = getD copies i noCopy .held
 
       other : (c b : ℕ) → c < chunkLimit → b < blockLimit → (at c b ≡ at i block → ⊥) → getD (set old (at i block) new) (at c b) noRecord ≡ storedTo i c b
       other c b k m e = getD-set-other old (at i block) (at c b) new noRecord e ∙ records-at (storedTo i) c b k m
@@ -94,7 +94,7 @@ module _ (records : List Record) (block : ℕ) (copies : List Copy) where
 
 module _ (k : Creation) (chunks : List Chunk) (records : List Record) where
   abbrev settledAt : (c b : ℕ) → Record
-  settledAt c b = getD (settled (copiesIn k chunks records b)) c noCopy .block
+  settledAt c b = getD (settled (copiesIn k chunks records b)) c noCopy .held
 
   abbrev pub settledTo : ℕ → (c b : ℕ) → Record
   settledTo i c b = cond (ltb b i) (settledAt c b) (getD records (at c b) noRecord)

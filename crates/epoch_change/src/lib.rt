@@ -105,7 +105,7 @@ pub fn settle_blocks(
     let blank = Copy {
         member: false,
         lost: false,
-        block: zero,
+        held: zero,
     };
     let mut out = records;
     let mut b: usize = 0;
@@ -120,7 +120,7 @@ pub fn settle_blocks(
             copies[c] = Copy {
                 member: member,
                 lost: chunk.lost,
-                block: held,
+                held: held,
             };
             c = c + 1;
         }
@@ -128,7 +128,7 @@ pub fn settle_blocks(
         let mut d: usize = 0;
         while d < rules::CHUNKS {
             let copy = settled[d];
-            let held = copy.block;
+            let held = copy.held;
             out[d * rules::BLOCKS + b] = held;
             d = d + 1;
         }

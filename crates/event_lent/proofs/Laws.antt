@@ -24,31 +24,35 @@ use Rattle.rules.specs.Words.{fold}
 use Rattle.rules.specs.Zero.{zeroRecord, zeroChunk, zeroHost, zeroPlace}
 use Rattle.rules.proofs.Loops.{fold-more, fold-end}
 use Rattle.network_places.specs.Sending.{sentAll}
-use Rattle.event_operands.specs.Address.{placeAt, hostAt, chunkAt, blockAt}
-use Rattle.event_parts.specs.declared.Parts.{Parts}
-use Rattle.event_lent.specs.declared.Touched.{Touched}
-use Rattle.event_lent.specs.Touches.{recordNumber, partsBy, touchedBy, touchedIn, keeping, stored, refusalOf, grantOf, actedOn}
+use Rattle.event_operands.specs.Address.{placeAt, hostAt}
+use Rattle.event_parts.specs.declared.Acted.{Acted}
+use Rattle.event_parts.specs.Acts.{acted}
+use Rattle.event_lent.specs.declared.Here.{Here}
+use Rattle.event_lent.specs.Touches.{hereBy, hereIn, partsBy, partsIn, keeping, storing, refusalOf, grantOf, actedOn}
 
 -- ---- what is gathered
 
-pub touch-is : (t : Table) (e : Event) (p : ℕ) → p ≡ placeAt e → (place : Place) → place ≡ getD (t .places) p zeroPlace → (s : Slot) → s ≡ place .slot
-    → (i : ℕ) → i ≡ hostAt e s → (c : ℕ) → c ≡ chunkAt e s → (host : Host) → host ≡ getD (t .hosts) i zeroHost → (b : ℕ) → b ≡ blockAt e s host
-    → (j : ℕ) → j ≡ recordNumber c b → (k : Creation) → k ≡ t .creation → (epoch : Epoch) → epoch ≡ t .epoch
-    → (chunk : Chunk) → chunk ≡ getD (t .chunks) c zeroChunk → (held : Record) → held ≡ getD (t .records) j zeroRecord
-    → (free : ℕ) → free ≡ freePlaces (t .places) → (parts : Parts) → parts ≡ partsBy k epoch s b host chunk held free
-    → touchedBy e i c j parts ≡ touchedIn t e
-unfolding touchedIn
-touch-is t e p p-is place place-is s s-is i i-is c c-is host host-is b b-is j j-is k k-is epoch epoch-is chunk chunk-is held held-is free free-is parts parts-is =
-    rw (parts-is, free-is, held-is, chunk-is, epoch-is, k-is, j-is, b-is, host-is, c-is, i-is, s-is, place-is, p-is) refl
+pub here-is : (t : Table) (e : Event) (p : ℕ) → p ≡ placeAt e → (place : Place) → place ≡ getD (t .places) p zeroPlace → (s : Slot) → s ≡ place .slot
+    → (i : ℕ) → i ≡ hostAt e s → (host : Host) → host ≡ getD (t .hosts) i zeroHost → hereBy e s i host ≡ hereIn t e
+unfolding hereIn
+here-is t e p p-is place place-is s s-is i i-is host host-is = rw (host-is, i-is, s-is, place-is, p-is) refl
+
+pub parts-are : (t : Table) (x : Here) (k : Creation) → k ≡ t .creation → (epoch : Epoch) → epoch ≡ t .epoch
+    → (i : ℕ) → i ≡ x .host → (host : Host) → host ≡ getD (t .hosts) i zeroHost → (c : ℕ) → c ≡ x .chunk → (chunk : Chunk) → chunk ≡ getD (t .chunks) c zeroChunk
+    → (j : ℕ) → j ≡ x .«record» → (held : Record) → held ≡ getD (t .records) j zeroRecord → (free : ℕ) → free ≡ freePlaces (t .places)
+    → partsBy k epoch x host chunk held free ≡ partsIn t x
+unfolding partsIn
+parts-are t x k k-is epoch epoch-is i i-is host host-is c c-is chunk chunk-is j j-is held held-is free free-is =
+    rw (free-is, held-is, j-is, chunk-is, c-is, host-is, i-is, epoch-is, k-is) refl
 
 -- ---- what is stored
 
-pub keep-is : (t : Table) (d : Touched) (i : ℕ) → i ≡ d .host → (host : Host) → host ≡ d .left .host → (t₁ : Table) → t₁ ≡ withHosts t (set (t .hosts) i host)
-    → (c : ℕ) → c ≡ d .chunk → (chunk : Chunk) → chunk ≡ d .left .chunk → (t₂ : Table) → t₂ ≡ withChunks t₁ (set (t₁ .chunks) c chunk)
-    → (j : ℕ) → j ≡ d .«record» → (held : Record) → held ≡ d .left .held → (t₃ : Table) → t₃ ≡ withRecords t₂ (set (t₂ .records) j held)
-    → (p : ℕ) → p ≡ d .place → (t₄ : Table) → t₄ ≡ withPlaces t₃ (removed (t₃ .places) p) → t₄ ≡ keeping t d
+pub keep-is : (t : Table) (x : Here) (a : Acted) (i : ℕ) → i ≡ x .host → (host : Host) → host ≡ a .host → (t₁ : Table) → t₁ ≡ withHosts t (set (t .hosts) i host)
+    → (c : ℕ) → c ≡ x .chunk → (chunk : Chunk) → chunk ≡ a .chunk → (t₂ : Table) → t₂ ≡ withChunks t₁ (set (t₁ .chunks) c chunk)
+    → (j : ℕ) → j ≡ x .«record» → (held : Record) → held ≡ a .held → (t₃ : Table) → t₃ ≡ withRecords t₂ (set (t₂ .records) j held)
+    → (p : ℕ) → p ≡ x .place → (t₄ : Table) → t₄ ≡ withPlaces t₃ (removed (t₃ .places) p) → t₄ ≡ keeping t x a
 unfolding keeping
-keep-is t d i i-is host host-is t₁ t₁-is c c-is chunk chunk-is t₂ t₂-is j j-is held held-is t₃ t₃-is p p-is t₄ t₄-is =
+keep-is t x a i i-is host host-is t₁ t₁-is c c-is chunk chunk-is t₂ t₂-is j j-is held held-is t₃ t₃-is p p-is t₄ t₄-is =
     rw (t₄-is, p-is, t₃-is, held-is, j-is, t₂-is, chunk-is, c-is, t₁-is, host-is, i-is) refl
 
 -- a message sent to the network of a table
@@ -80,34 +84,33 @@ module _ (m : List Place) (l : length m ≡ 8) where
       ∙ fold-end sending zeroPlace m 8 z₈ (omega arith))
       ∙ sending-all t m
 
-pub store-is : (t : Table) (d : Touched) (kept : Table) → kept ≡ keeping t d → (left : Table) → left ≡ withPlaces kept (sentAll (kept .places) (d .left .messages)) → left ≡ stored t d
-unfolding stored
-store-is t d kept kept-is left left-is = rw (left-is, kept-is) refl
-
 -- ---- what is answered
 
-module _ (t : Table) (e : Event) (d : Touched) (d-is : d ≡ touchedIn t e) (n : Bool) (n-is : n ≡ not (eqb (d .left .code) 0)) where
-  answered : (z : Bool) → eqb (d .left .code) 0 ≡ z
-      → cond z (done (record { table = stored t d; outcome = d .left .outcome })) (refused t (d .left .code)) ≡ actedOn t e
+module _ (t : Table) (e : Event) (x : Here) (x-is : x ≡ hereIn t e) (a : Acted) (a-is : a ≡ acted e (partsIn t x)) (n : Bool) (n-is : n ≡ not (eqb (a .code) 0)) where
+  answered : (z : Bool) → eqb (a .code) 0 ≡ z → cond z (done (record { table = storing t x a; outcome = a .outcome })) (refused t (a .code)) ≡ actedOn t e
   unfolding actedOn
-  answered z z-is = rw (sym z-is, d-is) refl
+  answered z z-is = rw (sym z-is, a-is, x-is) refl
 
-  refused-answer : T n → refused t (d .left .code) ≡ actedOn t e
-  refused-answer did = go (eqb (d .left .code) 0) refl
+  refused-answer : T n → refused t (a .code) ≡ actedOn t e
+  refused-answer did = go (eqb (a .code) 0) refl
     where
-      go : (z : Bool) → eqb (d .left .code) 0 ≡ z → refused t (d .left .code) ≡ actedOn t e
+      go : (z : Bool) → eqb (a .code) 0 ≡ z → refused t (a .code) ≡ actedOn t e
       go true z-is = absurd (rw (n-is, z-is) at did)
       go false z-is = answered false z-is
 
-  granted-answer : T (not n) → done (record { table = stored t d; outcome = d .left .outcome }) ≡ actedOn t e
-  granted-answer good = go (eqb (d .left .code) 0) refl
+  granted-answer : T (not n) → done (record { table = storing t x a; outcome = a .outcome }) ≡ actedOn t e
+  granted-answer did = go (eqb (a .code) 0) refl
     where
-      go : (z : Bool) → eqb (d .left .code) 0 ≡ z → done (record { table = stored t d; outcome = d .left .outcome }) ≡ actedOn t e
+      go : (z : Bool) → eqb (a .code) 0 ≡ z → done (record { table = storing t x a; outcome = a .outcome }) ≡ actedOn t e
       go true z-is = answered true z-is
-      go false z-is = absurd (rw (n-is, z-is) at good)
+      go false z-is = absurd (rw (n-is, z-is) at did)
 
-  pub refused-way : T n → (r : Reply) → r ≡ refusalOf d → (r ≡ replyOf (actedOn t e)) × (t ≡ actedOn t e .table)
-  refused-way did r r-is = let a = refused-answer did in (r-is ∙ ap replyOf a, ap (λ (x : Answer). x .table) a)
+  pub refused-way : T n → (r : Reply) → r ≡ refusalOf a → (r ≡ replyOf (actedOn t e)) × (t ≡ actedOn t e .table)
+  refused-way did r r-is = let y = refused-answer did in (r-is ∙ ap replyOf y, ap (λ (u : Answer). u .table) y)
 
-  pub granted-way : T (not n) → (z : Table) → z ≡ stored t d → (r : Reply) → r ≡ grantOf d → (r ≡ replyOf (actedOn t e)) × (z ≡ actedOn t e .table)
-  granted-way good z z-is r r-is = let a = granted-answer good in (r-is ∙ ap replyOf a, z-is ∙ ap (λ (x : Answer). x .table) a)
+  pub granted-way : T (not n) → (kept : Table) → kept ≡ keeping t x a → (z : Table) → z ≡ withPlaces kept (sentAll (kept .places) (a .messages))
+      → (r : Reply) → r ≡ grantOf a → (r ≡ replyOf (actedOn t e)) × (z ≡ actedOn t e .table)
+  unfolding storing
+  granted-way did kept kept-is z z-is r r-is =
+      let y = granted-answer did in
+      (r-is ∙ ap replyOf y, rw (z-is, kept-is) (ap (λ (u : Answer). u .table) y))

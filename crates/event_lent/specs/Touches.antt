@@ -25,25 +25,11 @@ use Rattle.rules.specs.Zero.{zeroSet, zeroRecord, zeroChunk, zeroHost}
 use Rattle.network_places.specs.Sending.{sentAll}
 use Rattle.event_operands.specs.Address.{placeAt, hostAt, chunkAt, blockAt}
 use Rattle.event_parts.specs.declared.Parts.{Parts}
+use Rattle.event_parts.specs.declared.Acted.{Acted}
 use Rattle.event_parts.specs.Acts.{acted}
-use Rattle.event_lent.specs.declared.Touched.{Touched}
+use Rattle.event_lent.specs.declared.Here.{Here}
 
 -- ---- whom it is about
-
-abbrev pub slotHere : Table → Event → Slot
-slotHere t e = slotOf (t .places) (placeAt e)
-
-abbrev pub hostHere : Table → Event → ℕ
-hostHere t e = hostAt e (slotHere t e)
-
-abbrev pub chunkHere : Table → Event → ℕ
-chunkHere t e = chunkAt e (slotHere t e)
-
-abbrev pub hostIn : Table → ℕ → Host
-hostIn t i = getD (t .hosts) i zeroHost
-
-abbrev pub blockHere : Table → Event → ℕ
-blockHere t e = blockAt e (slotHere t e) (hostIn t (hostHere t e))
 
 -- where chunk c has block b among the records; where there is none, beyond the last
 abbrev pub recordNumber : (chunk block : ℕ) → ℕ
@@ -56,53 +42,64 @@ setIn k b = if ltb b blockLimit then setOf k b else zeroSet
 abbrev pub removedAt : Event → ℕ
 removedAt e = if eqb (e .kind) 4 || eqb (e .kind) 5 then e .a else placeLimit
 
+abbrev pub hereBy : Event → Slot → (host : ℕ) → Host → Here
+hereBy e s i h = record {
+  slot = s;
+  host = i;
+  chunk = chunkAt e s;
+  block = blockAt e s h;
+  «record» = recordNumber (chunkAt e s) (blockAt e s h);
+  place = removedAt e;
+}
+
+unfoldable pub hereIn : Table → Event → Here
+hereIn t e =
+    let s = slotOf (t .places) (placeAt e) in
+    let i = hostAt e s in
+    hereBy e s i (getD (t .hosts) i zeroHost)
+
 -- ---- what it leaves of them
 
-abbrev pub partsBy : Creation → Epoch → Slot → (block : ℕ) → Host → Chunk → Record → (free : ℕ) → Parts
-partsBy k epoch slot b host chunk held free = record {
+abbrev pub partsBy : Creation → Epoch → Here → Host → Chunk → Record → (free : ℕ) → Parts
+partsBy k epoch x host chunk held free = record {
   creation = k;
   epoch = epoch;
-  slot = slot;
+  slot = x .slot;
   host = host;
   chunk = chunk;
-  «set» = setIn k b;
+  «set» = setIn k (x .block);
   held = held;
   free = free;
 }
 
-abbrev pub touchedBy : Event → (host chunk number : ℕ) → Parts → Touched
-touchedBy e host chunk number p = record { host = host; chunk = chunk; «record» = number; place = removedAt e; left = acted e p }
-
-unfoldable pub touchedIn : Table → Event → Touched
-touchedIn t e =
-    let c = chunkHere t e in
-    let b = blockHere t e in
-    let j = recordNumber c b in
-    touchedBy e (hostHere t e) c j
-    (partsBy (t .creation) (t .epoch) (slotHere t e) b (hostIn t (hostHere t e)) (getD (t .chunks) c zeroChunk) (getD (t .records) j zeroRecord) (freePlaces (t .places)))
+unfoldable pub partsIn : Table → Here → Parts
+partsIn t x =
+    partsBy (t .creation) (t .epoch) x (getD (t .hosts) (x .host) zeroHost) (getD (t .chunks) (x .chunk) zeroChunk) (getD (t .records) (x .«record») zeroRecord)
+    (freePlaces (t .places))
 
 -- ---- what is stored back
 
 -- the parts, and the network without the message that is delivered or dropped
-unfoldable pub keeping : Table → Touched → Table
-keeping t d =
-    withPlaces (withRecords (withChunk (withHost t (d .host) (d .left .host)) (d .chunk) (d .left .chunk)) (set (t .records) (d .«record») (d .left .held)))
-    (removed (t .places) (d .place))
+unfoldable pub keeping : Table → Here → Acted → Table
+keeping t x a =
+    withPlaces (withRecords (withChunk (withHost t (x .host) (a .host)) (x .chunk) (a .chunk)) (set (t .records) (x .«record») (a .held)))
+    (removed (t .places) (x .place))
 
 -- .. and its new messages
-unfoldable pub stored : Table → Touched → Table
-stored t d = withPlaces (keeping t d) (sentAll (keeping t d .places) (d .left .messages))
+unfoldable pub storing : Table → Here → Acted → Table
+storing t x a = withPlaces (keeping t x a) (sentAll (keeping t x a .places) (a .messages))
 
 -- ---- its answer: code 0: "new table, outcome"; any other: "same table, zeros"
 
 unfoldable pub actedOn : Table → Event → Answer
 actedOn t e =
-    let d = touchedIn t e in
-    if eqb (d .left .code) 0 then done (record { table = stored t d; outcome = d .left .outcome }) else refused t (d .left .code)
+    let x = hereIn t e in
+    let a = acted e (partsIn t x) in
+    if eqb (a .code) 0 then done (record { table = storing t x a; outcome = a .outcome }) else refused t (a .code)
 
 -- .. without the table
-abbrev pub refusalOf : Touched → Reply
-refusalOf d = record { code = d .left .code; outcome = Outcome.None }
+abbrev pub refusalOf : Acted → Reply
+refusalOf a = record { code = a .code; outcome = Outcome.None }
 
-abbrev pub grantOf : Touched → Reply
-grantOf d = record { code = 0; outcome = d .left .outcome }
+abbrev pub grantOf : Acted → Reply
+grantOf a = record { code = 0; outcome = a .outcome }

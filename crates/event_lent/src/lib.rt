@@ -9,8 +9,9 @@ ghost use Rattle.rules.specs.Limits.{chunkLimit};
 ghost use Rattle.rules.specs.Network.{replied};
 ghost use Rattle.rules.specs.Tables.{withPlaces};
 ghost use Rattle.rules.specs.Zero.{zeroPlace};
+ghost use Rattle.event_parts.specs.Acts.{acted};
 ghost use Rattle.network_places.specs.Sending.{sentAll};
-ghost use Rattle.event_lent.specs.Touches.{recordNumber, setIn, removedAt, partsBy, touchedBy, touchedIn, keeping, stored, refusalOf, grantOf, actedOn};
+ghost use Rattle.event_lent.specs.Touches.{recordNumber, setIn, removedAt, hereBy, hereIn, partsBy, partsIn, keeping, refusalOf, grantOf, actedOn};
 use event_parts::Acted;
 use event_parts::Parts;
 use rules::Chunk;
@@ -26,13 +27,14 @@ use rules::Set;
 use rules::Slot;
 use rules::Table;
 
-// What an event leaves of the parts that it touches, and where in the table they stand.
-struct Touched {
-    host: u64,
-    chunk: u64,
-    record: u64,
-    place: u64,
-    left: Acted,
+// Whom an event is about: its place's slot, and the numbers of the host, the chunk, the block, the record and the place that is emptied.
+pub struct Here {
+    pub slot: Slot,
+    pub host: u64,
+    pub chunk: u64,
+    pub block: u64,
+    pub record: u64,
+    pub place: u64,
 }
 
 // ---- where the parts stand
@@ -75,21 +77,69 @@ fn removed_at(e: Event) -> u64
     rules::PLACES as u64
 }
 
+// An event that names no block is about the block of the host's front operation.
+fn here_by(e: Event, s: Slot, host: u64, h: Host) -> Here
+    ensures { λ r. ⌜ r ≡ hereBy e s host h ⌝ }
+{
+    let c = event_operands::chunk_at(e, s);
+    let b = event_operands::block_at(e, s, h);
+    Here {
+        slot: s,
+        host: host,
+        chunk: c,
+        block: b,
+        record: record_number(c, b),
+        place: removed_at(e),
+    }
+}
+
+fn here_in(t: &Table, e: Event) -> Here
+    ensures { λ r. ⌜ r ≡ hereIn (now (t .entry)) e ⌝ }
+{
+    let slot = slot_of(table_places::place_in(t, event_operands::place_at(e)));
+    let i = event_operands::host_at(e, slot);
+    here_by(e, slot, i, table_hosts::host_in(t, i))
+}
+
+fn host_number(x: Here) -> u64
+    ensures { λ r. ⌜ r ≡ x .host ⌝ }
+{
+    x.host
+}
+
+fn chunk_number(x: Here) -> u64
+    ensures { λ r. ⌜ r ≡ x .chunk ⌝ }
+{
+    x.chunk
+}
+
+fn held_number(x: Here) -> u64
+    ensures { λ r. ⌜ r ≡ x .«record» ⌝ }
+{
+    x.record
+}
+
+fn place_number(x: Here) -> u64
+    ensures { λ r. ⌜ r ≡ x .place ⌝ }
+{
+    x.place
+}
+
 // ---- the parts, gathered and acted on
 
 fn parts_by(
     k: Creation,
     epoch: Epoch,
-    slot: Slot,
-    block: u64,
+    x: Here,
     host: Host,
     chunk: Chunk,
     held: Record,
     free: u64,
 ) -> Parts
-    ensures { λ r. ⌜ r ≡ partsBy k epoch slot block host chunk held free ⌝ }
+    ensures { λ r. ⌜ r ≡ partsBy k epoch x host chunk held free ⌝ }
 {
-    let set = set_of(k, block);
+    let slot = x.slot;
+    let set = set_of(k, x.block);
     Parts {
         creation: k,
         epoch: epoch,
@@ -102,96 +152,44 @@ fn parts_by(
     }
 }
 
-fn touched_by(e: Event, host: u64, chunk: u64, number: u64, p: Parts) -> Touched
-    ensures { λ r. ⌜ r ≡ touchedBy e host chunk number p ⌝ }
+fn left_in(t: &Table, e: Event, x: Here) -> Acted
+    ensures { λ r. ⌜ r ≡ acted e (partsIn (now (t .entry)) x) ⌝ }
 {
-    let left = event_parts::act(e, p);
-    Touched {
-        host: host,
-        chunk: chunk,
-        record: number,
-        place: removed_at(e),
-        left: left,
-    }
-}
-
-fn touch_in(t: &Table, e: Event) -> Touched
-    ensures { λ r. ⌜ r ≡ touchedIn (now (t .entry)) e ⌝ }
-{
-    let slot = slot_of(table_places::place_in(t, event_operands::place_at(e)));
-    let i = event_operands::host_at(e, slot);
-    let c = event_operands::chunk_at(e, slot);
-    let host = table_hosts::host_in(t, i);
-    let b = event_operands::block_at(e, slot, host);
-    let j = record_number(c, b);
     let k = table_numbers::creation_in(t);
     let epoch = table_numbers::epoch_in(t);
-    let chunk = table_chunks::chunk_in(t, c);
-    let held = table_records::record_in(t, j);
+    let host = table_hosts::host_in(t, host_number(x));
+    let chunk = table_chunks::chunk_in(t, chunk_number(x));
+    let held = table_records::record_in(t, held_number(x));
     let free = table_places::free_in(t);
-    touched_by(
-        e,
-        i,
-        c,
-        j,
-        parts_by(k, epoch, slot, b, host, chunk, held, free),
-    )
+    event_parts::act(e, parts_by(k, epoch, x, host, chunk, held, free))
 }
 
-// ---- what is stored back, and where
+// ---- what is stored back
 
-fn host_number(d: Touched) -> u64
-    ensures { λ r. ⌜ r ≡ d .host ⌝ }
+fn host_left(a: Acted) -> Host
+    ensures { λ r. ⌜ r ≡ a .host ⌝ }
 {
-    d.host
-}
-
-fn host_left(d: Touched) -> Host
-    ensures { λ r. ⌜ r ≡ d .left .host ⌝ }
-{
-    let a = d.left;
     a.host
 }
 
-fn chunk_number(d: Touched) -> u64
-    ensures { λ r. ⌜ r ≡ d .chunk ⌝ }
+fn chunk_left(a: Acted) -> Chunk
+    ensures { λ r. ⌜ r ≡ a .chunk ⌝ }
 {
-    d.chunk
-}
-
-fn chunk_left(d: Touched) -> Chunk
-    ensures { λ r. ⌜ r ≡ d .left .chunk ⌝ }
-{
-    let a = d.left;
     a.chunk
 }
 
-fn number_left(d: Touched) -> u64
-    ensures { λ r. ⌜ r ≡ d .«record» ⌝ }
+fn held_left(a: Acted) -> Record
+    ensures { λ r. ⌜ r ≡ a .held ⌝ }
 {
-    d.record
-}
-
-fn held_left(d: Touched) -> Record
-    ensures { λ r. ⌜ r ≡ d .left .held ⌝ }
-{
-    let a = d.left;
     a.held
 }
 
-fn place_number(d: Touched) -> u64
-    ensures { λ r. ⌜ r ≡ d .place ⌝ }
-{
-    d.place
-}
-
 // New message k: there is one a chunk.
-fn message(d: Touched, k: u64) -> Slot
-    ensures { λ r. ⌜ (r ≡ getD (d .left .messages) k zeroPlace .slot) × (length (d .left .messages) ≡ chunkLimit) ⌝ }
+fn message(a: Acted, k: u64) -> Slot
+    ensures { λ r. ⌜ (r ≡ getD (a .messages) k zeroPlace .slot) × (length (a .messages) ≡ chunkLimit) ⌝ }
 {
     let i = k as usize;
     if i < rules::CHUNKS {
-        let a = d.left;
         let m = a.messages;
         let p = m[i];
         return p.slot;
@@ -200,57 +198,48 @@ fn message(d: Touched, k: u64) -> Slot
 }
 
 // The parts, and the network without the message that is delivered or dropped.
-fn keep_in(t: &mut Table, d: Touched)
-    ensures { λ _. ⌜ now (t .exit) ≡ keeping (now (t .entry)) d ⌝ }
+fn keep_in(t: &mut Table, x: Here, a: Acted)
+    ensures { λ _. ⌜ now (t .exit) ≡ keeping (now (t .entry)) x a ⌝ }
 {
-    table_hosts::put_host(t, host_number(d), host_left(d));
-    table_chunks::put_chunk(t, chunk_number(d), chunk_left(d));
-    table_records::put_record(t, number_left(d), held_left(d));
-    table_places::remove_in(t, place_number(d));
+    table_hosts::put_host(t, host_number(x), host_left(a));
+    table_chunks::put_chunk(t, chunk_number(x), chunk_left(a));
+    table_records::put_record(t, held_number(x), held_left(a));
+    table_places::remove_in(t, place_number(x));
 }
 
 // New message k goes to the network, if there is one.
-fn send_one(t: &mut Table, d: Touched, k: u64)
-    ensures { λ _. ⌜ (now (t .exit) ≡ withPlaces (now (t .entry)) (replied (now (t .entry) .places) (getD (d .left .messages) k zeroPlace .slot))) × (length (d .left .messages) ≡ chunkLimit) ⌝ }
+fn send_one(t: &mut Table, a: Acted, k: u64)
+    ensures { λ _. ⌜ (now (t .exit) ≡ withPlaces (now (t .entry)) (replied (now (t .entry) .places) (getD (a .messages) k zeroPlace .slot))) × (length (a .messages) ≡ chunkLimit) ⌝ }
 {
-    table_places::send_in(t, message(d, k));
+    table_places::send_in(t, message(a, k));
 }
 
 // "New messages go to the lowest free places, by ascending chunk".
-fn send_each(t: &mut Table, d: Touched)
-    ensures { λ _. ⌜ now (t .exit) ≡ withPlaces (now (t .entry)) (sentAll (now (t .entry) .places) (d .left .messages)) ⌝ }
+fn send_each(t: &mut Table, a: Acted)
+    ensures { λ _. ⌜ now (t .exit) ≡ withPlaces (now (t .entry)) (sentAll (now (t .entry) .places) (a .messages)) ⌝ }
 {
-    send_one(t, d, 0);
-    send_one(t, d, 1);
-    send_one(t, d, 2);
-    send_one(t, d, 3);
-    send_one(t, d, 4);
-    send_one(t, d, 5);
-    send_one(t, d, 6);
-    send_one(t, d, 7);
-}
-
-fn store_in(t: &mut Table, d: Touched)
-    ensures { λ _. ⌜ now (t .exit) ≡ stored (now (t .entry)) d ⌝ }
-{
-    keep_in(t, d);
-    send_each(t, d);
+    send_one(t, a, 0);
+    send_one(t, a, 1);
+    send_one(t, a, 2);
+    send_one(t, a, 3);
+    send_one(t, a, 4);
+    send_one(t, a, 5);
+    send_one(t, a, 6);
+    send_one(t, a, 7);
 }
 
 // ---- the event
 
-fn is_refused(d: Touched) -> bool
-    ensures { λ r. ⌜ r ≡ not (eqb (d .left .code) 0) ⌝ }
+fn is_refused(a: Acted) -> bool
+    ensures { λ r. ⌜ r ≡ not (eqb (a .code) 0) ⌝ }
 {
-    let a = d.left;
     a.code != rules::DONE
 }
 
 // "same table, zeros"
-fn refusal(d: Touched) -> Reply
-    ensures { λ r. ⌜ r ≡ refusalOf d ⌝ }
+fn refusal(a: Acted) -> Reply
+    ensures { λ r. ⌜ r ≡ refusalOf a ⌝ }
 {
-    let a = d.left;
     Reply {
         code: a.code,
         outcome: Outcome::None,
@@ -258,10 +247,9 @@ fn refusal(d: Touched) -> Reply
 }
 
 // "new table, outcome"
-fn grant(d: Touched) -> Reply
-    ensures { λ r. ⌜ r ≡ grantOf d ⌝ }
+fn grant(a: Acted) -> Reply
+    ensures { λ r. ⌜ r ≡ grantOf a ⌝ }
 {
-    let a = d.left;
     let o = a.outcome;
     Reply {
         code: rules::DONE,
@@ -273,10 +261,12 @@ fn grant(d: Touched) -> Reply
 pub fn act_in(t: &mut Table, e: Event) -> Reply
     ensures { λ r. ⌜ (r ≡ replyOf (actedOn (now (t .entry)) e)) × (now (t .exit) ≡ actedOn (now (t .entry)) e .table) ⌝ }
 {
-    let d = touch_in(t, e);
-    if is_refused(d) {
-        return refusal(d);
+    let x = here_in(t, e);
+    let a = left_in(t, e, x);
+    if is_refused(a) {
+        return refusal(a);
     }
-    store_in(t, d);
-    grant(d)
+    keep_in(t, x, a);
+    send_each(t, a);
+    grant(a)
 }

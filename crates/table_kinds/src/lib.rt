@@ -1,6 +1,6 @@
 // What an entry, a chunk's state or an operation is: an enum looked at case by case.
 ghost use mathlib.Core.Path.{_≡_};
-ghost use Rattle.rules.specs.Kinds.{isRead, isNormal, isReading};
+ghost use Rattle.rules.specs.Kinds.{isRead, isAborted, valueOf, isNormal, isReading};
 use rules::Action;
 use rules::Kind;
 use rules::State;
@@ -14,6 +14,29 @@ pub fn is_read(k: Kind) -> bool
         Kind::Undecided(_) => false,
         Kind::Committed(_) => false,
         Kind::Aborted(_) => false,
+    }
+}
+
+pub fn is_aborted(k: Kind) -> bool
+    ensures { λ r. ⌜ r ≡ isAborted k ⌝ }
+{
+    match k {
+        Kind::Read => false,
+        Kind::Undecided(_) => false,
+        Kind::Committed(_) => false,
+        Kind::Aborted(_) => true,
+    }
+}
+
+// A write has its value.
+pub fn value_of(k: Kind) -> u64
+    ensures { λ r. ⌜ r ≡ valueOf k ⌝ }
+{
+    match k {
+        Kind::Read => 0,
+        Kind::Undecided(v) => v,
+        Kind::Committed(v) => v,
+        Kind::Aborted(v) => v,
     }
 }
 

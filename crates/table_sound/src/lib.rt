@@ -3,12 +3,12 @@ ghost use Prim.Native.Nat.{_-_};
 ghost use mathlib.Core.Path.{_≡_};
 ghost use mathlib.Core.Bool.{_&&_, not};
 ghost use Rattle.rules.specs.Creation.{isCreation, ofStore, isSetOf};
-ghost use Rattle.rules.specs.Formed.{operationFormed, operationAt, queueFormed, attemptFormed, hostFormed, chunkFormed, entryFormed, entryAt, waitingFormed, recordFormed, headerFormed, sortFormed, messageFormed, slotFormed, hostsFormed, chunksFormed, recordsFormed, placesFormed, wellFormed};
+ghost use Rattle.rules.specs.Formed.{operationFormed, operationAt, queueFormed, attemptFormed, hostFormed, chunkFormed, entryFormed, entryAt, waitingFormed, hostAt, chunkAt, headerFormed, sortFormed, messageFormed, slotFormed, hostsFormed, chunksFormed, recordsFormed, placesFormed, wellFormed};
 ghost use Rattle.rules.specs.Limits.{blockLimit, operationLimit, waitingLimit};
 ghost use Rattle.rules.specs.Timestamps.{_above_};
 ghost use Rattle.rules.specs.Words.{if_then_else_, every, numbers};
-ghost use Rattle.rules.specs.Zero.{isEmpty, isZeroEntry, isZeroRecord, isZeroChunk, isZeroOperation, isZeroAttempt, isZeroHost};
-ghost use Rattle.table_sound.specs.Parts.{counted, ofBlocks};
+ghost use Rattle.rules.specs.Zero.{isEmpty, isZeroEntry, isZeroChunk, isZeroOperation, isZeroAttempt, isZeroHost};
+ghost use Rattle.table_sound.specs.Parts.{counted, countsOf, allFormed, ofBlocks, unusedEntries, numbersFormed, isOfStore, isQuiet, quietAt, busyAt, recordInPlace};
 use rules::Attempt;
 use rules::Chunk;
 use rules::Creation;
@@ -41,14 +41,13 @@ struct Counts {
 fn of_store(n: Counts, s: Set) -> bool
     ensures { λ r. ⌜ r ≡ ofStore (counted n) s ⌝ }
 {
+    let mut ok = true;
     let mut i: usize = 0;
     while i < rules::CHUNKS {
-        if !(!s.chunks[i] | ((i as u64) < n.chunks)) {
-            return false;
-        }
+        ok = ok & (!s.chunks[i] | ((i as u64) < n.chunks));
         i = i + 1;
     }
-    true
+    ok
 }
 
 // "Each block has a non-empty set of chunks that hold its copies"; a block that the store lacks has none.
@@ -71,15 +70,14 @@ fn sets_formed(k: Creation) -> bool
         chunks: k.chunks,
         blocks: k.blocks,
     };
+    let mut ok = true;
     let mut i: usize = 0;
     while i < rules::BLOCKS {
         let s = k.sets[i];
-        if !is_set_of(n, (i as u64) < n.blocks, s) {
-            return false;
-        }
+        ok = ok & is_set_of(n, (i as u64) < n.blocks, s);
         i = i + 1;
     }
-    true
+    ok
 }
 
 // "1 to 8 hosts, 1 to 8 chunks, 1 to 16 blocks .. with the age limit (0 to 4,294,967,295)"
@@ -115,15 +113,14 @@ fn operation_at(n: Counts, used: bool, o: Operation) -> bool
 fn operations_formed(n: Counts, q: Queue) -> bool
     ensures { λ r. ⌜ r ≡ every (operationAt (counted n) q) (numbers operationLimit) ⌝ }
 {
+    let mut ok = true;
     let mut i: usize = 0;
     while i < rules::OPERATIONS {
         let o = q.operations[i];
-        if !operation_at(n, (i as u64) < q.count, o) {
-            return false;
-        }
+        ok = ok & operation_at(n, (i as u64) < q.count, o);
         i = i + 1;
     }
-    true
+    ok
 }
 
 // "up to 8 operations, counting the current one"
@@ -192,15 +189,14 @@ fn host_at(n: Counts, used: bool, h: Host) -> bool
 fn hosts_formed(n: Counts, hosts: [Host; rules::HOSTS]) -> bool
     ensures { λ r. ⌜ r ≡ hostsFormed (counted n) hosts ⌝ }
 {
+    let mut ok = true;
     let mut i: usize = 0;
     while i < rules::HOSTS {
         let h = hosts[i];
-        if !host_at(n, (i as u64) < n.hosts, h) {
-            return false;
-        }
+        ok = ok & host_at(n, (i as u64) < n.hosts, h);
         i = i + 1;
     }
-    true
+    ok
 }
 
 // ---- a chunk
@@ -209,14 +205,13 @@ fn hosts_formed(n: Counts, hosts: [Host; rules::HOSTS]) -> bool
 fn blocks_of_store(blocks: u64, c: Chunk) -> bool
     ensures { λ r. ⌜ r ≡ every (ofBlocks blocks c) (numbers blockLimit) ⌝ }
 {
+    let mut ok = true;
     let mut i: usize = 0;
     while i < rules::BLOCKS {
-        if !(!c.reconcile[i] | ((i as u64) < blocks)) {
-            return false;
-        }
+        ok = ok & (!c.reconcile[i] | ((i as u64) < blocks));
         i = i + 1;
     }
-    true
+    ok
 }
 
 // "all chunks have one epoch, the store's"
@@ -247,15 +242,14 @@ fn chunk_at(n: Counts, epoch: Epoch, used: bool, c: Chunk) -> bool
 fn chunks_formed(n: Counts, epoch: Epoch, chunks: [Chunk; rules::CHUNKS]) -> bool
     ensures { λ r. ⌜ r ≡ chunksFormed (counted n) epoch chunks ⌝ }
 {
+    let mut ok = true;
     let mut i: usize = 0;
     while i < rules::CHUNKS {
         let c = chunks[i];
-        if !chunk_at(n, epoch, (i as u64) < n.chunks, c) {
-            return false;
-        }
+        ok = ok & chunk_at(n, epoch, (i as u64) < n.chunks, c);
         i = i + 1;
     }
-    true
+    ok
 }
 
 // ---- a record
@@ -296,17 +290,16 @@ fn before(i: usize) -> usize
 fn entries_formed(n: Counts, w: Waiting) -> bool
     ensures { λ r. ⌜ r ≡ every (entryAt (counted n) w) (numbers waitingLimit) ⌝ }
 {
+    let mut ok = true;
     let mut i: usize = 0;
     while i < rules::WAITING {
         let e = w.entries[i];
         let j = before(i);
         let ahead = w.entries[j];
-        if !entry_at(n, (i as u64) < w.count, ahead.timestamp, e) {
-            return false;
-        }
+        ok = ok & entry_at(n, (i as u64) < w.count, ahead.timestamp, e);
         i = i + 1;
     }
-    true
+    ok
 }
 
 // "up to 8 waiting entries in timestamp order"
@@ -316,49 +309,84 @@ fn waiting_formed(n: Counts, w: Waiting) -> bool
     (w.count <= rules::WAITING as u64) & entries_formed(n, w)
 }
 
-// "a value, last read, last write": a value is any 64-bit number.
-fn record_formed(n: Counts, x: Record) -> bool
-    ensures { λ r. ⌜ r ≡ recordFormed (counted n) x ⌝ }
+// Every place is unused. A loop over all of them, with no way out, is unrolled: the entries are read where they lie, not copied.
+fn entries_unused(w: Waiting) -> bool
+    ensures { λ r. ⌜ r ≡ unusedEntries w ⌝ }
 {
-    let w = x.waiting;
-    (x.read.0 <= rules::GREATEST_TIMESTAMP)
-        & (x.write.0 <= rules::GREATEST_TIMESTAMP)
-        & waiting_formed(n, w)
+    let mut ok = true;
+    let mut i: usize = 0;
+    while i < rules::WAITING {
+        let e = w.entries[i];
+        ok = ok & is_zero_entry(e);
+        i = i + 1;
+    }
+    ok
 }
 
-// A waiting list of none has every place unused.
-fn is_zero_record(n: Counts, x: Record) -> bool
-    ensures { λ r. ⌜ r ≡ isZeroRecord x ⌝ }
-{
-    let w = x.waiting;
-    (x.value == 0) & (x.read.0 == 0) & (x.write.0 == 0) & (w.count == 0) & entries_formed(n, w)
-}
-
-// Of a chunk and a block of the store's, or an unused place.
-fn record_at(n: Counts, used: bool, x: Record) -> bool
-    ensures { λ r. ⌜ r ≡ if used then recordFormed (counted n) x else isZeroRecord x ⌝ }
+// "a value, last read, last write": a value is any 64-bit number; of an unused record all three are 0.
+fn numbers_formed(used: bool, x: Record) -> bool
+    ensures { λ r. ⌜ r ≡ numbersFormed used x ⌝ }
 {
     if used {
-        return record_formed(n, x);
+        return (x.read.0 <= rules::GREATEST_TIMESTAMP) & (x.write.0 <= rules::GREATEST_TIMESTAMP);
     }
-    is_zero_record(n, x)
+    (x.value == 0) & (x.read.0 == 0) & (x.write.0 == 0)
+}
+
+// Record i is of a chunk and a block of the store's: it stands at chunk x 16 + block.
+fn is_of_store(n: Counts, i: u64) -> bool
+    ensures { λ r. ⌜ r ≡ isOfStore n i ⌝ }
+{
+    let blocks = rules::BLOCKS as u64;
+    (i / blocks < n.chunks) & (i % blocks < n.blocks)
+}
+
+// Nothing waits: the rule, so it is looked at first.
+fn is_quiet(x: Record) -> bool
+    ensures { λ r. ⌜ r ≡ isQuiet x ⌝ }
+{
+    let w = x.waiting;
+    w.count == 0
+}
+
+// A record that nothing waits in: every place for an entry is unused.
+fn quiet_at(n: Counts, i: u64, x: Record) -> bool
+    ensures { λ r. ⌜ r ≡ quietAt n i x ⌝ }
+{
+    let w = x.waiting;
+    numbers_formed(is_of_store(n, i), x) & entries_unused(w)
+}
+
+// A record with waiting entries is one of the store's.
+fn busy_at(n: Counts, i: u64, x: Record) -> bool
+    ensures { λ r. ⌜ r ≡ busyAt n i x ⌝ }
+{
+    let w = x.waiting;
+    is_of_store(n, i)
+        & (x.read.0 <= rules::GREATEST_TIMESTAMP)
+        & (x.write.0 <= rules::GREATEST_TIMESTAMP)
+        & waiting_formed(n, w)
 }
 
 // "A chunk has a record for every block, held or not": that of chunk c and block b at c x 16 + b.
 fn records_formed(n: Counts, records: [Record; rules::RECORDS]) -> bool
     ensures { λ r. ⌜ r ≡ recordsFormed (counted n) records ⌝ }
 {
+    let mut ok = true;
     let mut i: usize = 0;
     while i < rules::RECORDS {
-        let c = (i / rules::BLOCKS) as u64;
-        let b = (i % rules::BLOCKS) as u64;
+        // Read anew for the test that the count leads to: neither read is a copy.
         let x = records[i];
-        if !record_at(n, (c < n.chunks) & (b < n.blocks), x) {
-            return false;
+        if is_quiet(x) {
+            let y = records[i];
+            ok = ok & quiet_at(n, i as u64, y);
+        } else {
+            let y = records[i];
+            ok = ok & busy_at(n, i as u64, y);
         }
         i = i + 1;
     }
-    true
+    ok
 }
 
 // ---- a message
@@ -406,15 +434,14 @@ fn place_formed(n: Counts, p: Place) -> bool
 fn places_formed(n: Counts, places: [Place; rules::PLACES]) -> bool
     ensures { λ r. ⌜ r ≡ placesFormed (counted n) places ⌝ }
 {
+    let mut ok = true;
     let mut i: usize = 0;
     while i < rules::PLACES {
         let p = places[i];
-        if !place_formed(n, p) {
-            return false;
-        }
+        ok = ok & place_formed(n, p);
         i = i + 1;
     }
-    true
+    ok
 }
 
 // ---- the table
@@ -425,29 +452,143 @@ pub fn well_formed(t: Table) -> bool
     ensures { λ r. ⌜ r ≡ wellFormed t ⌝ }
 {
     let k = t.creation;
-    if !is_creation(k) {
-        return false;
-    }
-    if rules::GREATEST_CLOCK < t.epoch.0 {
-        return false;
-    }
     let n = Counts {
         hosts: k.hosts,
         chunks: k.chunks,
         blocks: k.blocks,
     };
     let hosts = t.hosts;
-    if !hosts_formed(n, hosts) {
-        return false;
-    }
     let chunks = t.chunks;
-    if !chunks_formed(n, t.epoch, chunks) {
-        return false;
-    }
     let records = t.records;
-    if !records_formed(n, records) {
-        return false;
-    }
     let places = t.places;
-    places_formed(n, places)
+    is_creation(k)
+        & (t.epoch.0 <= rules::GREATEST_CLOCK)
+        & hosts_formed(n, hosts)
+        & chunks_formed(n, t.epoch, chunks)
+        & records_formed(n, records)
+        & places_formed(n, places)
+}
+
+// ---- the table where it lies
+
+fn counts_of(k: Creation) -> Counts
+    ensures { λ r. ⌜ r ≡ countsOf k ⌝ }
+{
+    Counts {
+        hosts: k.hosts,
+        chunks: k.chunks,
+        blocks: k.blocks,
+    }
+}
+
+// What was looked at before is formed, and so is one part more.
+fn host_next(ok: bool, n: Counts, i: u64, h: Host) -> bool
+    ensures { λ r. ⌜ r ≡ ok && hostAt (counted n) i h ⌝ }
+{
+    ok & host_at(n, i < n.hosts, h)
+}
+
+fn chunk_next(ok: bool, n: Counts, epoch: Epoch, i: u64, c: Chunk) -> bool
+    ensures { λ r. ⌜ r ≡ ok && chunkAt (counted n) epoch i c ⌝ }
+{
+    ok & chunk_at(n, epoch, i < n.chunks, c)
+}
+
+fn place_next(ok: bool, n: Counts, p: Place) -> bool
+    ensures { λ r. ⌜ r ≡ ok && slotFormed (counted n) (p .slot) ⌝ }
+{
+    ok & place_formed(n, p)
+}
+
+fn record_next(ok: bool, formed: bool) -> bool
+    ensures { λ r. ⌜ r ≡ ok && formed ⌝ }
+{
+    ok & formed
+}
+
+fn hosts_sound(t: &Table, n: Counts) -> bool
+    ensures { λ r. ⌜ r ≡ hostsFormed (counted n) (now (t .entry) .hosts) ⌝ }
+{
+    let mut ok = true;
+    let mut i: u64 = 0;
+    while i < rules::HOSTS as u64 {
+        ok = host_next(ok, n, i, table_hosts::host_in(t, i));
+        i = i + 1;
+    }
+    ok
+}
+
+fn chunks_sound(t: &Table, n: Counts, epoch: Epoch) -> bool
+    ensures { λ r. ⌜ r ≡ chunksFormed (counted n) epoch (now (t .entry) .chunks) ⌝ }
+{
+    let mut ok = true;
+    let mut i: u64 = 0;
+    while i < rules::CHUNKS as u64 {
+        ok = chunk_next(ok, n, epoch, i, table_chunks::chunk_in(t, i));
+        i = i + 1;
+    }
+    ok
+}
+
+// A record is read anew for the test that its count leads to: neither read is a copy.
+fn record_sound(t: &Table, n: Counts, i: u64) -> bool
+    ensures { λ r. ⌜ r ≡ recordInPlace n (now (t .entry) .records) i ⌝ }
+{
+    let quiet = is_quiet(table_records::record_in(t, i));
+    if quiet {
+        return quiet_at(n, i, table_records::record_in(t, i));
+    } else {
+        return busy_at(n, i, table_records::record_in(t, i));
+    }
+}
+
+fn records_sound(t: &Table, n: Counts) -> bool
+    ensures { λ r. ⌜ r ≡ recordsFormed (counted n) (now (t .entry) .records) ⌝ }
+{
+    let mut ok = true;
+    let mut i: u64 = 0;
+    while i < rules::RECORDS as u64 {
+        ok = record_next(ok, record_sound(t, n, i));
+        i = i + 1;
+    }
+    ok
+}
+
+fn places_sound(t: &Table, n: Counts) -> bool
+    ensures { λ r. ⌜ r ≡ placesFormed (counted n) (now (t .entry) .places) ⌝ }
+{
+    let mut ok = true;
+    let mut i: u64 = 0;
+    while i < rules::PLACES as u64 {
+        ok = place_next(ok, n, table_places::place_in(t, i));
+        i = i + 1;
+    }
+    ok
+}
+
+fn all_formed(
+    k: Creation,
+    epoch: Epoch,
+    hosts: bool,
+    chunks: bool,
+    records: bool,
+    places: bool,
+) -> bool
+    ensures { λ r. ⌜ r ≡ allFormed k epoch hosts chunks records places ⌝ }
+{
+    is_creation(k) & (epoch.0 <= rules::GREATEST_CLOCK) & hosts & chunks & records & places
+}
+
+// As `well_formed`, of a table that lies elsewhere: each part is read there, and none of its arrays is copied.
+pub fn sound_in(t: &Table) -> bool
+    ensures { λ r. ⌜ r ≡ wellFormed (now (t .entry)) ⌝ }
+{
+    let k = table_numbers::creation_in(t);
+    let epoch = table_numbers::epoch_in(t);
+    let n = counts_of(k);
+    let hosts = hosts_sound(t, n);
+    let chunks = chunks_sound(t, n, epoch);
+    let records = records_sound(t, n);
+    let places = places_sound(t, n);
+    all_formed(k, epoch, hosts, chunks, records, places)
 }

@@ -1,31 +1,31 @@
 -- `epoch_settle::latest` meets its contract
-use Prim.Native.Nat.{_+_, _-_, _≤_}
-use mathlib.Core.Path.{_≡_, refl, sym, ap, _∙_}
+use Prim.Native.Nat.{_≤_, _-_}
+use mathlib.Core.Path.{_≡_, refl, _∙_}
 use native.Mathlib.Omega.{arith}
-use lib.ListN.{drop}
+use lib.ListN.{length, length-map, drop}
 use borrow.Author.Needs.{needs}
-use Rattle.rules.specs.declared.Timestamp.{Timestamp}
-use Rattle.rules.specs.declared.Entry.{Entry}
 use Rattle.rules.specs.Waiting.{inOrder}
 use Rattle.rules.specs.Words.{fold}
-use Rattle.rules.specs.Zero.{zeroEntry}
-use Rattle.rules.proofs.Loops.{fold-more, fold-end}
 use Rattle.epoch_settle.specs.Steps.{withEntry}
-use Rattle.epoch_settle.proofs.Laws.{entry-at}
+use Rattle.epoch_settle.proofs.Laws.{none-left, latest-front, entry-swap}
 use Rattle.epoch_settle.proofs.latest.Statement.{statement}
 use Rattle.epoch_settle.proofs.latest.Tie as tie
 
 abbrev Inv-loop : tie.InvT-loop
-Inv-loop copies w q n m₀ i₀ m i = (i ≤ n) × (fold (withEntry copies w) m (drop i (inOrder q)) ≡ fold (withEntry copies w) m₀ (inOrder q))
+Inv-loop copies q m₀ i₀ m i = (i ≤ 8) × (m ≡ fold (withEntry copies) m₀ (drop i (inOrder q)))
 
 abbrev μ-loop : tie.MeasureT-loop
-μ-loop copies w q n m₀ i₀ m i = n - i
+μ-loop copies q m₀ i₀ m i = i
 
-used-requires : tie.Need-used-requires Inv-loop μ-loop
-used-requires c κs = search needs
+len : (c : tie.Start Inv-loop μ-loop) → length (c .args .t3 .entries) ≡ 8
+len c = simp length-map at (c .good .1 .1 .0 .1 .1 .1 .0 .1 .0 .1)
 
 loop-holds : tie.Need-loop-holds Inv-loop μ-loop
-loop-holds c = (search needs, refl)
+unfolding fold
+loop-holds c = let k = none-left (c .args .t3) (len c) in (search needs, rw k refl)
+
+sub-i : tie.Need-sub-i Inv-loop μ-loop
+sub-i c = search needs
 
 mul-e : tie.Need-mul-e Inv-loop μ-loop
 mul-e c = search needs
@@ -36,29 +36,20 @@ element-copy-out-e c = search needs
 with-entry-requires : tie.Need-with-entry-requires Inv-loop μ-loop
 with-entry-requires c κs = search needs
 
-add-i : tie.Need-add-i Inv-loop μ-loop
-add-i c = search needs
-
 loop-less : tie.Need-loop-less Inv-loop μ-loop
 loop-less c = search needs
 
 loop-again : tie.Need-loop-again Inv-loop μ-loop
 loop-again c =
     let l = c .before .before .before in
-    let a = l .before .before .args in
-    let k = l .before .used .ensures .0 in
-    let f = withEntry (a .copies) (a .w) in (
+    let a = l .before .args in
+    let i = l .loop .i in (
       omega arith,
-      ap (λ (m : Timestamp). fold f m (drop (l .loop .i + 1) (inOrder (a .t3)))) (c .with-entry .ensures ∙ ap (λ (e : Entry). f (l .loop .m) e) (sym (entry-at (a .t3) (l .loop .i) (omega arith))))
-          ∙ sym (fold-more f zeroEntry (inOrder (a .t3)) (l .loop .i) (l .loop .m) (omega arith)) ∙ l .loop .inv .1,
+      c .with-entry .ensures ∙ latest-front (a .t3) (i - 1) i (len (l .before)) (omega arith) (omega arith) (withEntry (a .copies)) (entry-swap (a .copies)) (a .w) (l .loop .m) (l .loop .inv .1),
     )
 
 returns : tie.Need-returns Inv-loop μ-loop
-returns c =
-    let l = c .before in
-    let a = l .before .before .args in
-    let k = l .before .used .ensures .0 in
-    sym (fold-end (withEntry (a .copies) (a .w)) zeroEntry (inOrder (a .t3)) (l .loop .i) (l .loop .m) (omega arith)) ∙ l .loop .inv .1
+returns c = let e : c .before .loop .i ≡ 0 = omega arith in rw e at (c .before .loop .inv .1)
 
 pub latest-spec : {M : Type 1} → statement M
 latest-spec =
@@ -66,12 +57,11 @@ latest-spec =
     (tie.spec
     Inv-loop
     μ-loop
-    used-requires
     loop-holds
+    sub-i
     mul-e
     element-copy-out-e
     with-entry-requires
-    add-i
     loop-less
     loop-again
     returns)

@@ -4,11 +4,11 @@ use borrow.Author.Needs.{needs}
 use Rattle.epoch_settle.proofs.write_with.Statement.{statement}
 use Rattle.epoch_settle.proofs.write_with.Tie as tie
 
-is-write-requires : tie.Need-is-write-requires
-is-write-requires c κs = search needs
+is-read-requires : tie.Need-is-read-requires
+is-read-requires c κs = search needs
 
 returns : tie.Need-returns
-returns c = rw (c .is-write .ensures) refl
+returns c = rw (c .is-read .ensures) refl
 
 pub write-with-spec : {M : Type 1} → statement M
-write-with-spec = tie.close (tie.spec is-write-requires returns)
+write-with-spec = tie.close (tie.spec is-read-requires returns)

@@ -9,8 +9,8 @@ use Rattle.rules.specs.Zero.{zeroPlace}
 use Rattle.event_lent.proofs.message.Statement.{statement}
 use Rattle.event_lent.proofs.message.Tie as tie
 
-len : (c : tie.Start) → length (c .args .d .left .messages) ≡ 8
-len c = simp length-map at (c .good .0 .1 .1 .1 .1 .1 .1 .0 .1 .1 .1 .1 .1 .1 .0 .1 .0 .1)
+len : (c : tie.Start) → length (c .args .a .messages) ≡ 8
+len c = simp length-map at (c .good .0 .1 .1 .1 .1 .1 .1 .0 .1 .0 .1)
 
 mul-p : tie.Need-mul-p
 mul-p c = search needs
@@ -19,13 +19,13 @@ array-copy-out-p : tie.Need-array-copy-out-p
 array-copy-out-p c = search needs
 
 returns : tie.Need-returns
-returns c = (search needs, len (c .before .before .before .before))
+returns c = (search needs, len (c .before .before .before))
 
 returns-2 : tie.Need-returns-2
 returns-2 c =
     let a = c .before .args in
-    let l : length (a .d .left .messages) ≤ a .k = omega (arith, len (c .before)) in
-    (ap (λ (p : Place). p .slot) (sym (List·getD-eq-default (a .d .left .messages) zeroPlace l)), len (c .before))
+    let l : length (a .a .messages) ≤ a .k = omega (arith, len (c .before)) in
+    (ap (λ (p : Place). p .slot) (sym (List·getD-eq-default (a .a .messages) zeroPlace l)), len (c .before))
 
 pub message-spec : {M : Type 1} → statement M
 message-spec = tie.close (tie.spec mul-p array-copy-out-p returns returns-2)

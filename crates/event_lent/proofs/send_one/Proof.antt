@@ -37,9 +37,9 @@ use denote.Triple.Call.{calls-at}
 use denote.Triple.Clauses.{ensured, lasts}
 use denote.Triple.Table.{entered, cited}
 use denote.Triple.Walked.{says, Stays, stay-ref, stay-none, walkOf, AllGo, Walks, ends-at, walked, goes-ref, goes-none, walk-meets}
-use Rattle.event_lent.specs.declared.Touched.{Touched}
-use Rattle.event_lent.proofs.Touched as TouchedR
-use Rattle.event_lent.proofs.Touched.Laws as TouchedL
+use Rattle.event_parts.specs.declared.Acted.{Acted}
+use Rattle.event_parts.proofs.Acted as ActedR
+use Rattle.event_parts.proofs.Acted.Laws as ActedL
 use Rattle.rules.specs.declared.Slot.{Slot}
 use Rattle.rules.proofs.Slot as SlotR
 use Rattle.rules.proofs.Slot.Laws as SlotL
@@ -63,24 +63,24 @@ use Rattle.event_lent.proofs.send_one.Statement as stated
 use Rattle.event_lent.proofs.send_one.Code as code
 
 abbrev stayed : Stays (me.ended .signature .params) (me.ended .kept)
-stayed = (stay-ref (0 ∷ []) tt (plain (λ _. TableR.the-row)), (stay-none (λ _. TouchedR.the-row) yes, (stay-none (λ _. usize) yes, tt)))
+stayed = (stay-ref (0 ∷ []) tt (plain (λ _. TableR.the-row)), (stay-none (λ _. ActedR.the-row) yes, (stay-none (λ _. usize) yes, tt)))
 
 module _ {M : Type 1} (𝓤 : URA M) (H : Heap 𝓤) (A : Atoms 𝓤) (at-mem : Memory → SProp 𝓤) (run : Routine → Fun 𝓤) where
   abbrev C-lent-message : Contract 𝓤
   C-lent-message = tripleOf 𝓤 H A lent-message.signature (lent-message.spec 𝓤 H A at-mem run)
 
-  said-lent-message : (x0 : Touched) (x1 : ℕ) (r : Slot) → ent 𝓤 (ensured 𝓤 H A lent-message.ended (lent-message.clauses 𝓤 H A at-mem run) tt (x0, (x1, tt)) tt r) (fact 𝓤 ((r ≡ getD (x0 .left .messages) x1 zeroPlace .slot) × (length (x0 .left .messages) ≡ chunkLimit)))
-  said-lent-message x0 x1 r = exE 𝓤 _ (λ ws. snd∗ 𝓤 (sem 𝓤 H A (lasts lent-message.ended tt (x0, (x1, tt)) ws)) (fact 𝓤 ((r ≡ getD (x0 .left .messages) x1 zeroPlace .slot) × (length (x0 .left .messages) ≡ chunkLimit))))
+  said-lent-message : (x0 : Acted) (x1 : ℕ) (r : Slot) → ent 𝓤 (ensured 𝓤 H A lent-message.ended (lent-message.clauses 𝓤 H A at-mem run) tt (x0, (x1, tt)) tt r) (fact 𝓤 ((r ≡ getD (x0 .messages) x1 zeroPlace .slot) × (length (x0 .messages) ≡ chunkLimit)))
+  said-lent-message x0 x1 r = exE 𝓤 _ (λ ws. snd∗ 𝓤 (sem 𝓤 H A (lasts lent-message.ended tt (x0, (x1, tt)) ws)) (fact 𝓤 ((r ≡ getD (x0 .messages) x1 zeroPlace .slot) × (length (x0 .messages) ≡ chunkLimit))))
 
   abbrev C-send-in : Contract 𝓤
   C-send-in = tripleOf 𝓤 H A send-in.signature (send-in.spec 𝓤 H A at-mem run)
 
 module _ {M : Type 1} (𝓤 : URA M) (H : Heap 𝓤) (A : Atoms 𝓤) (W : Given 𝓤 H A) (at-mem : Memory → SProp 𝓤) (run : Routine → Fun 𝓤) where
-  abbrev to-lent-message : Touched → Val → ℕ → Val → C-lent-message 𝓤 H A at-mem run .Ghost
+  abbrev to-lent-message : Acted → Val → ℕ → Val → C-lent-message 𝓤 H A at-mem run .Ghost
   to-lent-message x0 v0 x1 v1 = ((tt, tt, tt, (x0, (x1, tt)), (v0 ∷ [], (v1 ∷ [], tt))), tt)
 
-  goes-lent-message : (x0 : Touched) (v0 : Val) (x1 : ℕ) (v1 : Val) → Is TouchedR.the-row x0 (v0 ∷ []) → Is usize x1 (v1 ∷ []) → ent 𝓤 (sem 𝓤 H A ftrue) (C-lent-message 𝓤 H A at-mem run .pre (to-lent-message x0 v0 x1 v1))
-  goes-lent-message x0 v0 x1 v1 g0 g1 = qed W (‵ ftrue ∷ []) ∵ nothing ! $ owned ! usize (Is usize) (uint-makes 𝓤 H A W w64) x1 _ g1 $ fjoin ! $ owned ! TouchedR.the-row (Is TouchedR.the-row) (LL.makes TouchedR.the-type TouchedL.the-plain 𝓤 H A) x0 _ g0 $ fjoin ! $ move ! (1 ∷ 0 ∷ []) $ join ! $ frame ! $ done !
+  goes-lent-message : (x0 : Acted) (v0 : Val) (x1 : ℕ) (v1 : Val) → Is ActedR.the-row x0 (v0 ∷ []) → Is usize x1 (v1 ∷ []) → ent 𝓤 (sem 𝓤 H A ftrue) (C-lent-message 𝓤 H A at-mem run .pre (to-lent-message x0 v0 x1 v1))
+  goes-lent-message x0 v0 x1 v1 g0 g1 = qed W (‵ ftrue ∷ []) ∵ nothing ! $ owned ! usize (Is usize) (uint-makes 𝓤 H A W w64) x1 _ g1 $ fjoin ! $ owned ! ActedR.the-row (Is ActedR.the-row) (LL.makes ActedR.the-type ActedL.the-plain 𝓤 H A) x0 _ g0 $ fjoin ! $ move ! (1 ∷ 0 ∷ []) $ join ! $ frame ! $ done !
 
   abbrev to-send-in : Lft → Share → RefT Table → Slot → Val → C-send-in 𝓤 H A at-mem run .Ghost
   to-send-in κ q t x0 v0 = (((κ, tt), (q, tt), tt, (t, (x0, tt)), (vptr (t .ptr .0) (t .ptr .1) ∷ [], (v0 ∷ [], tt))), tt)
@@ -89,11 +89,11 @@ module _ {M : Type 1} (𝓤 : URA M) (H : Heap 𝓤) (A : Atoms 𝓤) (W : Given
   goes-send-in κ q t x0 v0 g0 =
       qed W (‵ (flft κ q) ∷ ‵ (MutRef (named 0) κ TableR.the-row .own t (vptr (t .ptr .0) (t .ptr .1) ∷ [])) ∷ []) ∵ nothing ! $ owned ! SlotR.the-row (Is SlotR.the-row) (EL.makes SlotR.the-type SlotL.the-plain 𝓤 H A) x0 _ g0 $ fjoin ! $ move ! (2 ∷ 0 ∷ []) $ fjoin ! $ nothing ! $ move ! (2 ∷ 0 ∷ []) $ join ! $ join ! $ frame ! $ done !
 
-module _ {M : Type 1} (𝓤 : URA M) (H : Heap 𝓤) (A : Atoms 𝓤) (W : Given 𝓤 H A) (at-mem : Memory → SProp 𝓤) (run : Routine → Fun 𝓤) (κ : Lft) (q : Share) (b o : ℕ) (γ : GName) (h : Table) (x2 : Touched) (m2 : Val) (x3 : ℕ) where
+module _ {M : Type 1} (𝓤 : URA M) (H : Heap 𝓤) (A : Atoms 𝓤) (W : Given 𝓤 H A) (at-mem : Memory → SProp 𝓤) (run : Routine → Fun 𝓤) (κ : Lft) (q : Share) (b o : ℕ) (γ : GName) (h : Table) (x2 : Acted) (m2 : Val) (x3 : ℕ) where
   abbrev rt : GName → Table → RefT Table
   rt δ z = record { ptr = (b, o); name = δ; now = z }
 
-  abbrev x : RefT Table × (Touched × (ℕ × Unit {0}))
+  abbrev x : RefT Table × (Acted × (ℕ × Unit {0}))
   x = (rt γ h, (x2, (x3, tt)))
 
   abbrev vs : List Val × (List Val × (List Val × Unit {0}))
@@ -102,12 +102,12 @@ module _ {M : Type 1} (𝓤 : URA M) (H : Heap 𝓤) (A : Atoms 𝓤) (W : Given
   abbrev Post : Val → SProp 𝓤
   Post = walkOf 𝓤 H A me.ended stayed (me.clauses 𝓤 H A at-mem run) .post (((κ, tt), (q, tt), tt, x, vs), tt)
 
-  module _ (g2 : Is TouchedR.the-row x2 (m2 ∷ [])) (g3 : Is usize x3 ((vint w64 x3) ∷ [])) where
-    exits : (z : Table) → (z ≡ withPlaces h (replied (h .places) (getD (x2 .left .messages) x3 zeroPlace .slot))) × (length (x2 .left .messages) ≡ chunkLimit) → ent 𝓤 (⋆ 𝓤 H A (‵ (MutRef (named 0) κ TableR.the-row .own (rt γ z) (vptr b o ∷ [])) ∷ ‵ (flft κ q) ∷ [])) (Post vunit)
+  module _ (g2 : Is ActedR.the-row x2 (m2 ∷ [])) (g3 : Is usize x3 ((vint w64 x3) ∷ [])) where
+    exits : (z : Table) → (z ≡ withPlaces h (replied (h .places) (getD (x2 .messages) x3 zeroPlace .slot))) × (length (x2 .messages) ≡ chunkLimit) → ent 𝓤 (⋆ 𝓤 H A (‵ (MutRef (named 0) κ TableR.the-row .own (rt γ z) (vptr b o ∷ [])) ∷ ‵ (flft κ q) ∷ [])) (Post vunit)
     exits z eq =
         qed W (‵ (MutRef (named 0) κ TableR.the-row .own (rt γ z) (vptr b o ∷ [])) ∷ ‵ (flft κ q) ∷ []) ∵
         suffices ! _ (ends-at 𝓤 H A me.ended stayed (me.clauses 𝓤 H A at-mem run) W (((κ, tt), (q, tt), tt, x, vs), tt) vunit tt (z, (tt, (tt, tt))) (tt, (tt, (tt, tt)))) $ says ! eq $
-        nothing ! $ move ! (2 ∷ 0 ∷ []) $ join ! $ frame ! $ nothing ! $ owned ! usize (Is usize) (uint-makes 𝓤 H A W w64) x3 _ g3 $ fjoin ! $ owned ! TouchedR.the-row (Is TouchedR.the-row) (LL.makes TouchedR.the-type TouchedL.the-plain 𝓤 H A) x2 _ g2 $ fjoin ! $ move ! (1 ∷ 0 ∷ []) $ fjoin ! $ feqI ! (List Val) (vunit ∷ []) (vunit ∷ []) refl $ move ! (1 ∷ 0 ∷ []) $ done !
+        nothing ! $ move ! (2 ∷ 0 ∷ []) $ join ! $ frame ! $ nothing ! $ owned ! usize (Is usize) (uint-makes 𝓤 H A W w64) x3 _ g3 $ fjoin ! $ owned ! ActedR.the-row (Is ActedR.the-row) (LL.makes ActedR.the-type ActedL.the-plain 𝓤 H A) x2 _ g2 $ fjoin ! $ move ! (1 ∷ 0 ∷ []) $ fjoin ! $ feqI ! (List Val) (vunit ∷ []) (vunit ∷ []) refl $ move ! (1 ∷ 0 ∷ []) $ done !
 
     module _ (𝓣 : Tables 𝓤 H) (known-lent-message : Triple 𝓤 (𝓣 .C #event_lent·message) (C-lent-message 𝓤 H A at-mem run)) (known-send-in : Triple 𝓤 (𝓣 .C #table_places·send-in) (C-send-in 𝓤 H A at-mem run)) where
       abbrev C : Calls 𝓤 H
@@ -121,17 +121,17 @@ module _ {M : Type 1} (𝓤 : URA M) (H : Heap 𝓤) (A : Atoms 𝓤) (W : Given
 
       walk : ent 𝓤 (onEntry 𝓤 H A me.signature (κ, tt) (q, tt) x vs) (WpFn 𝓤 H C Λ code.function (vptr b o ∷ m2 ∷ (vint w64 x3) ∷ []) Post)
       walk =
-          qed W ((‵ (flft κ q) ⊛ ‵ ftrue) ∷ ‵ (owns (MutRef (named 0) κ TableR.the-row ∷ TouchedR.the-row ∷ usize ∷ []) x vs) ∷ []) ∵
+          qed W ((‵ (flft κ q) ⊛ ‵ ftrue) ∷ ‵ (owns (MutRef (named 0) κ TableR.the-row ∷ ActedR.the-row ∷ usize ∷ []) x vs) ∷ []) ∵
           split ! $ move ! (2 ∷ []) $ fsplit ! $ keep ! (0 ∷ 2 ∷ []) $ enter ! C Λ code.function (vptr b o ∷ m2 ∷ (vint w64 x3) ∷ []) _ $
           alloc1 ! (λ l0. alloc1 ! (λ l1. alloc1 ! (λ l2. alloc1 ! (λ l3. alloc1 ! (λ l4. alloc1 ! (λ l5. alloc1 ! (λ l6. alloc0 ! $ params1 ! $
-          pass1 ! (init ! 10 refl (tt, tt)) $ pass1 ! (init ! 8 {τ = TouchedL.mir} {v = m2} refl (LL.lawful TouchedR.the-type TouchedL.the-laws 𝓤 H A W .typed x2 _ g2 .0)) $ pass1 ! (init ! 6 {τ = tyInt w64} {v = (vint w64 x3)} refl (uint-lawful 𝓤 H A W w64 .typed x3 _ g3 .0)) $ pass0 ! $ move ! (14 ∷ 15 ∷ []) $
+          pass1 ! (init ! 10 refl (tt, tt)) $ pass1 ! (init ! 8 {τ = ActedL.mir} {v = m2} refl (LL.lawful ActedR.the-type ActedL.the-laws 𝓤 H A W .typed x2 _ g2 .0)) $ pass1 ! (init ! 6 {τ = tyInt w64} {v = (vint w64 x3)} refl (uint-lawful 𝓤 H A W w64 .typed x3 _ g3 .0)) $ pass0 ! $ move ! (14 ∷ 15 ∷ []) $
           -- [t; the token; the locals]
           assigns ! (addr ! (from ! (hop ! (look ! 12 refl) (stop !)))) (from ! (stop !)) (init ! 4 refl (tt, tt)) $
           -- _6 = event_lent::message(_2, _3)
           nothing ! $ use1 W (raw (C-lent-message 𝓤 H A at-mem run .pre (to-lent-message 𝓤 H A W at-mem run x2 m2 x3 (vint w64 x3)))) (goes-lent-message 𝓤 H A W at-mem run x2 m2 x3 (vint w64 x3) g2 g3) $
-          calls-at ! fm (C-lent-message 𝓤 H A at-mem run) known-lent-message (to-lent-message 𝓤 H A W at-mem run x2 m2 x3 (vint w64 x3)) (and-then ! (load ! (from ! (stop !)) (look ! 11 {q = fullShare} {τ = TouchedL.mir} {b = l2} {o = 0} {v = m2} refl)) (and-then ! (load ! (from ! (stop !)) (look ! 9 {q = fullShare} {τ = tyInt w64} {b = l3} {o = 0} {v = (vint w64 x3)} refl)) (no-more !))) (λ w1.
+          calls-at ! fm (C-lent-message 𝓤 H A at-mem run) known-lent-message (to-lent-message 𝓤 H A W at-mem run x2 m2 x3 (vint w64 x3)) (and-then ! (load ! (from ! (stop !)) (look ! 11 {q = fullShare} {τ = ActedL.mir} {b = l2} {o = 0} {v = m2} refl)) (and-then ! (load ! (from ! (stop !)) (look ! 9 {q = fullShare} {τ = tyInt w64} {b = l3} {o = 0} {v = (vint w64 x3)} refl)) (no-more !))) (λ w1.
           use1 W (later (some (λ (r : Slot). (‵ ftrue ⊛ ‵ (SlotR.the-row .own r (w1 ∷ []))) ⊛ raw (ensured 𝓤 H A lent-message.ended (lent-message.clauses 𝓤 H A at-mem run) tt (x2, (x3, tt)) tt r)))) (id⊢ 𝓤 _) $ await ! tt $ pick ! (λ r1. split ! $ move ! (1 ∷ []) $
-          use1 W (raw (fact 𝓤 ((r1 ≡ getD (x2 .left .messages) x3 zeroPlace .slot) × (length (x2 .left .messages) ≡ chunkLimit)))) (said-lent-message 𝓤 H A at-mem run x2 x3 r1) $ heard ! ((r1 ≡ getD (x2 .left .messages) x3 zeroPlace .slot) × (length (x2 .left .messages) ≡ chunkLimit)) (λ e1. split ! $ drop ! $ facts ! SlotR.the-row (Is SlotR.the-row) (shows 𝓤 H A SlotR.the-row) r1 (w1 ∷ []) (λ is1.
+          use1 W (raw (fact 𝓤 ((r1 ≡ getD (x2 .messages) x3 zeroPlace .slot) × (length (x2 .messages) ≡ chunkLimit)))) (said-lent-message 𝓤 H A at-mem run x2 x3 r1) $ heard ! ((r1 ≡ getD (x2 .messages) x3 zeroPlace .slot) × (length (x2 .messages) ≡ chunkLimit)) (λ e1. split ! $ drop ! $ facts ! SlotR.the-row (Is SlotR.the-row) (shows 𝓤 H A SlotR.the-row) r1 (w1 ∷ []) (λ is1.
           land ! (from ! (stop !)) (init ! 2 {τ = SlotL.mir} {v = w1} refl (EL.lawful SlotR.the-type SlotL.the-laws 𝓤 H A W tt .typed r1 _ is1 .0)) $
           -- _4 = table_places::send_in(_5, _6)
           lft-new ! tt (λ ν2. move ! (1 ∷ 2 ∷ []) $
@@ -152,11 +152,11 @@ module _ {M : Type 1} (𝓤 : URA M) (H : Heap 𝓤) (A : Atoms 𝓤) (W : Given
 
 module _ {M : Type 1} (𝓤 : URA M) (H : Heap 𝓤) (A : Atoms 𝓤) (W : Given 𝓤 H A) (at-mem : Memory → SProp 𝓤) (run : Routine → Fun 𝓤) where
   send-one-walks : (𝓣 : Tables 𝓤 H) → Triple 𝓤 (𝓣 .C #event_lent·message) (C-lent-message 𝓤 H A at-mem run) → Triple 𝓤 (𝓣 .C #table_places·send-in) (C-send-in 𝓤 H A at-mem run) → Walks 𝓤 H A me.ended stayed (WpFn 𝓤 H (𝓣 .C) (𝓣 .Λ) code.function) (me.clauses 𝓤 H A at-mem run)
-  send-one-walks 𝓣 known-lent-message known-send-in = walked 𝓤 H A me.ended stayed (me.clauses 𝓤 H A at-mem run) (WpFn 𝓤 H (𝓣 .C) (𝓣 .Λ) code.function) (λ κs. (ptr-vals, (LL.vals TouchedR.the-type TouchedL.the-laws, (uint-vals w64, tt)))) (λ κs. (mut-tells (named 0) (κs .0) TableR.the-row, (LL.tells TouchedR.the-type TouchedL.the-laws, (uint-tells w64, tt))))
-      (λ κs qs bounds a _ are. via 𝓤 _ (fst∗ 𝓤 _ (emp 𝓤)) (walk 𝓤 H A W at-mem run (κs .0) (qs .0) (a .0 .ptr .0) (a .0 .ptr .1) (a .0 .name) (a .0 .now) (a .1 .0) (only (LL.vals TouchedR.the-type TouchedL.the-laws (a .1 .0))) (a .1 .1 .0) (are .1 .0) (are .1 .1 .0) 𝓣 known-lent-message known-send-in))
+  send-one-walks 𝓣 known-lent-message known-send-in = walked 𝓤 H A me.ended stayed (me.clauses 𝓤 H A at-mem run) (WpFn 𝓤 H (𝓣 .C) (𝓣 .Λ) code.function) (λ κs. (ptr-vals, (LL.vals ActedR.the-type ActedL.the-laws, (uint-vals w64, tt)))) (λ κs. (mut-tells (named 0) (κs .0) TableR.the-row, (LL.tells ActedR.the-type ActedL.the-laws, (uint-tells w64, tt))))
+      (λ κs qs bounds a _ are. via 𝓤 _ (fst∗ 𝓤 _ (emp 𝓤)) (walk 𝓤 H A W at-mem run (κs .0) (qs .0) (a .0 .ptr .0) (a .0 .ptr .1) (a .0 .name) (a .0 .now) (a .1 .0) (only (LL.vals ActedR.the-type ActedL.the-laws (a .1 .0))) (a .1 .1 .0) (are .1 .0) (are .1 .1 .0) 𝓣 known-lent-message known-send-in))
 
   goes : AllGo 𝓤 H A W 1 (me.signature .params) (me.ended .kept) stayed
-  goes = (goes-ref 𝓤 H A W 1 0 tt (plain (λ _. TableR.the-row)), (goes-none 𝓤 H A W 1 (λ _. TouchedR.the-row) yes (λ κs x f. refl), (goes-none 𝓤 H A W 1 (λ _. usize) yes (λ κs x f. refl), tt)))
+  goes = (goes-ref 𝓤 H A W 1 0 tt (plain (λ _. TableR.the-row)), (goes-none 𝓤 H A W 1 (λ _. ActedR.the-row) yes (λ κs x f. refl), (goes-none 𝓤 H A W 1 (λ _. usize) yes (λ κs x f. refl), tt)))
 
 send-one-meets : {M : Type 1} (𝓤 : URA M) (H : Heap 𝓤) (A : Atoms 𝓤) (W : Given 𝓤 H A) (at-mem : Memory → SProp 𝓤) (run : Routine → Fun 𝓤) (𝓣 : Tables 𝓤 H) → Triple 𝓤 (𝓣 .C #event_lent·message) (C-lent-message 𝓤 H A at-mem run) → Triple 𝓤 (𝓣 .C #table_places·send-in) (C-send-in 𝓤 H A at-mem run) → Meets 𝓤 H A me.signature (WpFn 𝓤 H (𝓣 .C) (𝓣 .Λ) code.function) (me.spec 𝓤 H A at-mem run)
 send-one-meets 𝓤 H A W at-mem run 𝓣 known-lent-message known-send-in = walk-meets 𝓤 H A me.ended stayed W (goes 𝓤 H A W at-mem run) (me.clauses 𝓤 H A at-mem run) (WpFn 𝓤 H (𝓣 .C) (𝓣 .Λ) code.function) (WpFn-mono 𝓤 H (W .laws) 𝓣 code.function) (send-one-walks 𝓤 H A W at-mem run 𝓣 known-lent-message known-send-in)

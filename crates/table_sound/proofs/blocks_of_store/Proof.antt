@@ -1,32 +1,26 @@
 -- `table_sound::blocks_of_store` meets its contract. Every block before i is one of the store's
 use Prim.Native.Nat.{_-_, _≤_}
-use mathlib.Core.Bool.{true}
-use mathlib.Core.Path.{_≡_, sym}
+use mathlib.Core.Path.{_≡_, refl, sym}
 use native.Mathlib.Omega.{arith}
 use borrow.Author.Needs.{needs}
-use borrow.Author.Tests.{not-true, not-false}
-use Rattle.rules.specs.Words.{every, numbers}
-use Rattle.rules.proofs.Loops.{every-begin, every-next, every-stop}
 use Rattle.table_sound.specs.Parts.{ofBlocks}
+use Rattle.rules.specs.Words.{every, numbers}
+use Rattle.rules.proofs.Loops.{every-begin}
+use Rattle.table_sound.proofs.Laws.{every-more}
 use Rattle.table_sound.proofs.blocks_of_store.Statement.{statement}
 use Rattle.table_sound.proofs.blocks_of_store.Tie as tie
 
 abbrev Inv-loop : tie.InvT-loop
-Inv-loop blocks c i₀ i = (i ≤ 16) × (every (ofBlocks blocks c) (numbers i) ≡ true)
+Inv-loop blocks c ok₀ i₀ ok i = (i ≤ 16) × (ok ≡ every (ofBlocks blocks c) (numbers i))
 
 abbrev μ-loop : tie.MeasureT-loop
-μ-loop blocks c i₀ i = 16 - i
+μ-loop blocks c ok₀ i₀ ok i = 16 - i
 
 loop-holds : tie.Need-loop-holds Inv-loop μ-loop
-loop-holds c = (search needs, every-begin _)
+loop-holds c = (search needs, sym (every-begin _))
 
-element-copy-out-if1 : tie.Need-element-copy-out-if1 Inv-loop μ-loop
-element-copy-out-if1 c = search needs
-
-returns : tie.Need-returns Inv-loop μ-loop
-returns c =
-    let l = c .before .before .before in
-    sym (every-stop _ 16 (l .loop .i) (omega arith) (not-true _ (c .if1 .taken)))
+element-copy-out-ok : tie.Need-element-copy-out-ok Inv-loop μ-loop
+element-copy-out-ok c = search needs
 
 add-i : tie.Need-add-i Inv-loop μ-loop
 add-i c = search needs
@@ -35,25 +29,12 @@ loop-less : tie.Need-loop-less Inv-loop μ-loop
 loop-less c = search needs
 
 loop-again : tie.Need-loop-again Inv-loop μ-loop
-loop-again c =
-    let l = c .before .before .before in
-    (omega arith, every-next _ _ (l .loop .inv .1) (not-false _ (c .if1 .left)))
+loop-again c = (omega arith, every-more _ _ _ _ (c .before .before .loop .inv .1) (refl))
 
-returns-2 : tie.Need-returns-2 Inv-loop μ-loop
-returns-2 c =
+returns : tie.Need-returns Inv-loop μ-loop
+returns c =
     let e : c .before .loop .i ≡ 16 = omega arith in
-    sym (rw e at (c .before .loop .inv .1))
+    rw e at (c .before .loop .inv .1)
 
 pub blocks-of-store-spec : {M : Type 1} → statement M
-blocks-of-store-spec =
-    tie.close
-    (tie.spec
-    Inv-loop
-    μ-loop
-    loop-holds
-    element-copy-out-if1
-    returns
-    add-i
-    loop-less
-    loop-again
-    returns-2)
+blocks-of-store-spec = tie.close (tie.spec Inv-loop μ-loop loop-holds element-copy-out-ok add-i loop-less loop-again returns)

@@ -1,25 +1,24 @@
 -- `table_sound::entries_formed` meets its contract. Every place before i is formed
 use Prim.Native.Nat.{_-_, _≤_}
-use mathlib.Core.Bool.{true}
-use mathlib.Core.Path.{_≡_, sym, _∙_}
+use mathlib.Core.Path.{_≡_, sym}
 use native.Mathlib.Omega.{arith}
 use borrow.Author.Needs.{needs}
-use borrow.Author.Tests.{not-true, not-false}
 use Rattle.rules.specs.Formed.{entryAt}
-use Rattle.rules.specs.Words.{every, numbers}
-use Rattle.rules.proofs.Loops.{every-begin, every-next, every-stop}
 use Rattle.table_sound.specs.Parts.{counted}
+use Rattle.rules.specs.Words.{every, numbers}
+use Rattle.rules.proofs.Loops.{every-begin}
+use Rattle.table_sound.proofs.Laws.{every-more}
 use Rattle.table_sound.proofs.entries_formed.Statement.{statement}
 use Rattle.table_sound.proofs.entries_formed.Tie as tie
 
 abbrev Inv-loop : tie.InvT-loop
-Inv-loop n w i₀ i = (i ≤ 8) × (every (entryAt (counted n) w) (numbers i) ≡ true)
+Inv-loop n w ok₀ i₀ ok i = (i ≤ 8) × (ok ≡ every (entryAt (counted n) w) (numbers i))
 
 abbrev μ-loop : tie.MeasureT-loop
-μ-loop n w i₀ i = 8 - i
+μ-loop n w ok₀ i₀ ok i = 8 - i
 
 loop-holds : tie.Need-loop-holds Inv-loop μ-loop
-loop-holds c = (search needs, every-begin _)
+loop-holds c = (search needs, sym (every-begin _))
 
 mul-e : tie.Need-mul-e Inv-loop μ-loop
 mul-e c = search needs
@@ -39,11 +38,6 @@ element-copy-out-ahead c = search needs
 entry-at-requires : tie.Need-entry-at-requires Inv-loop μ-loop
 entry-at-requires c κs = search needs
 
-returns : tie.Need-returns Inv-loop μ-loop
-returns c =
-    let l = c .before .before .before .before .before .before in
-    sym (every-stop _ 8 (l .loop .i) (omega arith) (sym (rw (c .before .before .before .before2 .ensures) at (c .before .entry-at .ensures)) ∙ not-true _ (c .if1 .taken)))
-
 add-i : tie.Need-add-i Inv-loop μ-loop
 add-i c = search needs
 
@@ -51,30 +45,12 @@ loop-less : tie.Need-loop-less Inv-loop μ-loop
 loop-less c = search needs
 
 loop-again : tie.Need-loop-again Inv-loop μ-loop
-loop-again c =
-    let l = c .before .before .before .before .before .before in
-    (omega arith, every-next _ _ (l .loop .inv .1) (sym (rw (c .before .before .before .before2 .ensures) at (c .before .entry-at .ensures)) ∙ not-false _ (c .if1 .left)))
+loop-again c = (omega arith, every-more _ _ _ _ (c .before .before .before .before .before .loop .inv .1) (rw (c .before .before .before2 .ensures) at (c .entry-at .ensures)))
 
-returns-2 : tie.Need-returns-2 Inv-loop μ-loop
-returns-2 c =
+returns : tie.Need-returns Inv-loop μ-loop
+returns c =
     let e : c .before .loop .i ≡ 8 = omega arith in
-    sym (rw e at (c .before .loop .inv .1))
+    rw e at (c .before .loop .inv .1)
 
 pub entries-formed-spec : {M : Type 1} → statement M
-entries-formed-spec =
-    tie.close
-    (tie.spec
-    Inv-loop
-    μ-loop
-    loop-holds
-    mul-e
-    element-copy-out-e
-    before-requires
-    mul-ahead
-    element-copy-out-ahead
-    entry-at-requires
-    returns
-    add-i
-    loop-less
-    loop-again
-    returns-2)
+entries-formed-spec = tie.close (tie.spec Inv-loop μ-loop loop-holds mul-e element-copy-out-e before-requires mul-ahead element-copy-out-ahead entry-at-requires add-i loop-less loop-again returns)

@@ -1,34 +1,28 @@
--- `table_sound::of_store` meets its contract. Every chunk before i is one of the store's
+-- `table_sound::of_store` meets its contract. Every chunk before i that is in the set is one of the store's
 use Prim.Native.Nat.{_-_, _≤_}
-use mathlib.Core.Bool.{true, _||_, not}
-use mathlib.Core.Path.{_≡_, sym}
+use mathlib.Core.Path.{_≡_, refl, sym}
 use native.Mathlib.Omega.{arith}
 use borrow.Author.Needs.{needs}
-use borrow.Author.Tests.{not-true, not-false}
-use Rattle.rules.specs.Tables.{isChunk}
-use Rattle.rules.specs.Words.{every, numbers}
+use mathlib.Core.Bool.{not, _||_}
+use lib.Dec.{ltb}
 use Rattle.rules.specs.Zero.{_among_}
-use Rattle.rules.proofs.Loops.{every-begin, every-next, every-stop}
-use Rattle.table_sound.specs.Parts.{counted}
+use Rattle.rules.specs.Words.{every, numbers}
+use Rattle.rules.proofs.Loops.{every-begin}
+use Rattle.table_sound.proofs.Laws.{every-more}
 use Rattle.table_sound.proofs.of_store.Statement.{statement}
 use Rattle.table_sound.proofs.of_store.Tie as tie
 
 abbrev Inv-loop : tie.InvT-loop
-Inv-loop n s i₀ i = (i ≤ 8) × (every (λ c. not (c among s) || isChunk (counted n) c) (numbers i) ≡ true)
+Inv-loop n s ok₀ i₀ ok i = (i ≤ 8) × (ok ≡ every (λ c. not (c among s) || ltb c (n .chunks)) (numbers i))
 
 abbrev μ-loop : tie.MeasureT-loop
-μ-loop n s i₀ i = 8 - i
+μ-loop n s ok₀ i₀ ok i = 8 - i
 
 loop-holds : tie.Need-loop-holds Inv-loop μ-loop
-loop-holds c = (search needs, every-begin _)
+loop-holds c = (search needs, sym (every-begin _))
 
-element-copy-out-if1 : tie.Need-element-copy-out-if1 Inv-loop μ-loop
-element-copy-out-if1 c = search needs
-
-returns : tie.Need-returns Inv-loop μ-loop
-returns c =
-    let l = c .before .before .before .before in
-    sym (every-stop _ 8 (l .loop .i) (omega arith) (not-true _ (c .if1 .taken)))
+element-copy-out-ok : tie.Need-element-copy-out-ok Inv-loop μ-loop
+element-copy-out-ok c = search needs
 
 add-i : tie.Need-add-i Inv-loop μ-loop
 add-i c = search needs
@@ -37,25 +31,12 @@ loop-less : tie.Need-loop-less Inv-loop μ-loop
 loop-less c = search needs
 
 loop-again : tie.Need-loop-again Inv-loop μ-loop
-loop-again c =
-    let l = c .before .before .before .before in
-    (omega arith, every-next _ _ (l .loop .inv .1) (not-false _ (c .if1 .left)))
+loop-again c = (omega arith, every-more _ _ _ _ (c .before .before .before .loop .inv .1) (refl))
 
-returns-2 : tie.Need-returns-2 Inv-loop μ-loop
-returns-2 c =
+returns : tie.Need-returns Inv-loop μ-loop
+returns c =
     let e : c .before .loop .i ≡ 8 = omega arith in
-    sym (rw e at (c .before .loop .inv .1))
+    rw e at (c .before .loop .inv .1)
 
 pub of-store-spec : {M : Type 1} → statement M
-of-store-spec =
-    tie.close
-    (tie.spec
-    Inv-loop
-    μ-loop
-    loop-holds
-    element-copy-out-if1
-    returns
-    add-i
-    loop-less
-    loop-again
-    returns-2)
+of-store-spec = tie.close (tie.spec Inv-loop μ-loop loop-holds element-copy-out-ok add-i loop-less loop-again returns)
