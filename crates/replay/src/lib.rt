@@ -95,12 +95,12 @@ fn run_in(table: Table, events: &[u64]) -> u64
     let mut t = table;
     let n = count(events);
     let mut sum: u64 = 0;
-    let mut i: usize = 0;
-    while i < n {
-        let e = event_at(events, i);
+    let mut k: usize = 0;
+    while k < n {
+        let e = event_at(events, k);
         let r = engine::step_in(&mut t, e);
         sum = mix_reply(sum, r);
-        i = i + 1;
+        k = k + 1;
     }
     sum
 }
