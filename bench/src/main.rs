@@ -1,15 +1,11 @@
-//! The proved engine and the second program on the same events, in one run: nanoseconds an event
-//! and the ratio. Ends with an error where their answers differ.
+//! The proved engine, where the table lies and by value, and the second program on the same events, in one run: nanoseconds an
+//! event and the ratios. Ends with an error where their answers differ.
 
-mod cases;
-mod copying;
-mod drivers;
-mod sides;
-mod stack;
-
-use cases::{Case, Session};
-use copying::copy_time;
-use sides::{checked, proved, second_program, table_bytes, Times};
+use bench::cases::{self, Case, Session};
+use bench::copying::copy_time;
+use bench::sides::{kerzubian_replay, kerzubian_replay_in, table_bytes, timed, Times, SIDES};
+use bench::stack::{depth_of, Depth};
+use bench::{drivers, sides};
 use std::process::ExitCode;
 
 /// Each side is timed so often, in turn; the least time counts, which others disturbed the least.
@@ -28,15 +24,28 @@ fn main() -> ExitCode {
 fn figures() -> Result<(), String> {
     let cases = cases::all();
     println!("load at the start: {}", load());
-    sizes(&cases)?;
-    println!("\nstep, the table by value in and back (second: in place), an event;");
+    let copy = copy_time(table_bytes());
+    sizes(copy);
+    stacks(&cases)?;
+    println!("\none event, nanoseconds: step_in where the table lies, step by value, the second program in place;");
+    println!("their ratios to the second program; by value less in place, in copies of the table;");
     println!("operations, messages, waiting entries: what the store holds on average");
     println!(
-        "{:<32} {:>7} {:>10} {:>8} {:>7}  {:>9} {:>9} {:>6}",
-        "case", "events", "operations", "messages", "waiting", "proved ns", "second ns", "ratio"
+        "{:<32} {:>7} {:>10} {:>8} {:>7}  {:>8} {:>8} {:>8}  {:>8} {:>8}  {:>6}",
+        "case",
+        "events",
+        "operations",
+        "messages",
+        "waiting",
+        "in place",
+        "by value",
+        "second",
+        "in place",
+        "by value",
+        "copies"
     );
     for case in &cases {
-        step_line(case)?;
+        step_line(case, copy)?;
     }
     println!("\ndriver, standard input to standard output, a line; what its start and the first lines take is taken off");
     println!(
@@ -57,51 +66,59 @@ fn load() -> String {
     std::fs::read_to_string("/proc/loadavg").map_or("unknown".into(), |l| l.trim().to_string())
 }
 
-fn sizes(cases: &[Case]) -> Result<(), String> {
+fn sizes(copy: f64) {
     println!(
-        "table: {} bytes, a copy of it takes {:.0} ns (second: {} bytes)",
+        "table: {} bytes, a copy of it takes {copy:.0} ns (second: {} bytes)",
         table_bytes(),
-        copy_time(table_bytes()),
         std::mem::size_of::<second::table::Table>()
     );
-    let mut deepest = stack::Depth::default();
-    for case in cases {
-        for session in &case.sessions {
-            deepest = deepest.deeper(stack::depth_of(session)?);
+}
+
+fn stacks(cases: &[Case]) -> Result<(), String> {
+    let forms: [(&str, sides::Replay); 2] =
+        [("step_in", kerzubian_replay_in), ("step", kerzubian_replay)];
+    for (name, replay) in forms {
+        let mut deepest = Depth::default();
+        for session in cases.iter().flat_map(|case| &case.sessions) {
+            deepest = deepest.deeper(depth_of(replay, session)?);
         }
+        println!(
+            "stack: {name} takes {} bytes, a whole replay by it {} bytes",
+            deepest.step, deepest.replay
+        );
     }
-    println!(
-        "stack: step takes {} bytes, a whole replay {} bytes",
-        deepest.step, deepest.replay
-    );
     Ok(())
 }
 
-fn step_line(case: &Case) -> Result<(), String> {
-    let mut times = Times::default();
+fn step_line(case: &Case, copy: f64) -> Result<(), String> {
+    let mut times = Times::<SIDES>::default();
     for _ in 0..ROUNDS {
-        times.add(checked(case, proved, second_program)?);
+        times.add(timed(case)?);
     }
-    let events = case.events();
     let [operations, messages, waiting] = case.held();
+    let [lies, value, second] = times.a_unit(case.events());
     println!(
-        "{:<32} {:>7} {:>10.1} {:>8.1} {:>7.1}  {}",
+        "{:<32} {:>7} {operations:>10.1} {messages:>8.1} {waiting:>7.1}  {lies:>8.0} {value:>8.0} {second:>8.0}  {:>8.2} {:>8.2}  {:>6.1}",
         case.name,
-        events,
-        operations,
-        messages,
-        waiting,
-        times.a_unit(events)
+        case.events(),
+        lies / second,
+        value / second,
+        (value - lies) / copy
     );
     Ok(())
 }
 
 fn driver_line(case: &Case, session: &Session) -> Result<(), String> {
-    let mut times = Times::default();
+    let mut times = Times::<2>::default();
     for _ in 0..ROUNDS {
         times.add(drivers::timed(session)?);
     }
-    let lines = session.events();
-    println!("{:<32} {:>7}  {}", case.name, lines, times.a_unit(lines));
+    let [proved, second] = times.a_unit(session.events());
+    println!(
+        "{:<32} {:>7}  {proved:>9.0} {second:>9.0} {:>6.1}",
+        case.name,
+        session.events(),
+        proved / second
+    );
     Ok(())
 }

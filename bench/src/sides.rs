@@ -1,13 +1,25 @@
-//! The two sides: the proved engine behind its C function, the second program by its own.
+//! The sides: the proved engine behind its C functions, where the table lies and by value, and the second program by its own.
 
 use crate::cases::{Case, Session, NUMBERS};
 use second::answer::Answer;
 use second::event::step;
 use std::time::{Duration, Instant};
 
+/// crates/replay: a slice is a pointer and then a length.
+pub type Replay =
+    unsafe extern "C" fn(*const u8, usize, *const u8, usize, *const u64, usize) -> u64;
+
 extern "C" {
-    /// crates/replay: a slice is a pointer and then a length.
     pub fn kerzubian_replay(
+        first: *const u8,
+        first_length: usize,
+        second: *const u8,
+        second_length: usize,
+        events: *const u64,
+        events_length: usize,
+    ) -> u64;
+
+    pub fn kerzubian_replay_in(
         first: *const u8,
         first_length: usize,
         second: *const u8,
@@ -25,12 +37,27 @@ pub fn table_bytes() -> usize {
     unsafe { kerzubian_table_bytes() as usize }
 }
 
-/// The checksum of the answers of the proved engine.
-pub fn proved(session: &Session, numbers: &[u64]) -> u64 {
+/// How many sides there are.
+pub const SIDES: usize = 3;
+pub const SIDE_NAMES: [&str; SIDES] = ["in place", "by value", "second"];
+
+/// The checksum of a side's answers.
+type Side = fn(&Session, &[u64]) -> u64;
+pub const ALL: [Side; SIDES] = [in_place, by_value, second_program];
+
+pub fn in_place(session: &Session, numbers: &[u64]) -> u64 {
+    replayed(kerzubian_replay_in, session, numbers)
+}
+
+pub fn by_value(session: &Session, numbers: &[u64]) -> u64 {
+    replayed(kerzubian_replay, session, numbers)
+}
+
+pub fn replayed(replay: Replay, session: &Session, numbers: &[u64]) -> u64 {
     let (first, second) = (&session.first, &session.second);
-    // It asks nothing of its caller but three slices.
+    // Both ask nothing of their caller but three slices.
     unsafe {
-        kerzubian_replay(
+        replay(
             first.as_ptr(),
             first.len(),
             second.as_ptr(),
@@ -41,7 +68,6 @@ pub fn proved(session: &Session, numbers: &[u64]) -> u64 {
     }
 }
 
-/// The checksum of the answers of the second program.
 pub fn second_program(session: &Session, numbers: &[u64]) -> u64 {
     let mut table = session.fresh.clone();
     numbers.chunks_exact(NUMBERS).fold(0, |sum, e| {
@@ -68,63 +94,54 @@ fn mix(sum: u64, number: u64) -> u64 {
     ((sum >> 56) + (sum & low) * 31).wrapping_add(number)
 }
 
-/// The least time of each side so far.
-#[derive(Default)]
-pub struct Times {
-    least: Option<[Duration; 2]>,
+/// The least time of each of N sides so far.
+pub struct Times<const N: usize> {
+    least: [Duration; N],
 }
 
-impl Times {
-    pub fn add(&mut self, [proved, second]: [Duration; 2]) {
-        let [a, b] = self.least.unwrap_or([proved, second]);
-        self.least = Some([a.min(proved), b.min(second)]);
-    }
-
-    /// Nanoseconds a unit of each side, and their ratio.
-    pub fn a_unit(&self, units: usize) -> String {
-        let [proved, second] = self.least.unwrap_or_default();
-        let a_unit = |time: Duration| time.as_nanos() as f64 / units as f64;
-        let ratio = proved.as_secs_f64() / second.as_secs_f64();
-        format!(
-            "{:>9.0} {:>9.0} {:>6.1}",
-            a_unit(proved),
-            a_unit(second),
-            ratio
-        )
+impl<const N: usize> Default for Times<N> {
+    fn default() -> Self {
+        Times {
+            least: [Duration::MAX; N],
+        }
     }
 }
 
-type Side = fn(&Session, &[u64]) -> u64;
+impl<const N: usize> Times<N> {
+    pub fn add(&mut self, times: [Duration; N]) {
+        for (least, time) in self.least.iter_mut().zip(times) {
+            *least = time.min(*least);
+        }
+    }
 
-/// The time of a case's events on each side, that of what goes before them taken off.
-pub fn checked(case: &Case, proved: Side, second: Side) -> Result<[Duration; 2], String> {
-    let (mut a, mut b) = (Duration::ZERO, Duration::ZERO);
+    /// Nanoseconds a unit of each side.
+    pub fn a_unit(&self, units: usize) -> [f64; N] {
+        self.least.map(|time| time.as_nanos() as f64 / units as f64)
+    }
+}
+
+/// The time of a case's events on each side, that of what goes before them taken off. An error where the answers differ.
+pub fn timed(case: &Case) -> Result<[Duration; SIDES], String> {
+    let mut sums = [Duration::ZERO; SIDES];
     for session in &case.sessions {
-        let before = &session.numbers[..session.before];
-        let [a0, b0] = both(case, session, before, [proved, second])?;
-        let [a1, b1] = both(case, session, &session.numbers, [proved, second])?;
-        a += a1.saturating_sub(a0);
-        b += b1.saturating_sub(b0);
+        let before = each(case, session, &session.numbers[..session.before])?;
+        let whole = each(case, session, &session.numbers)?;
+        for i in 0..SIDES {
+            sums[i] += whole[i].saturating_sub(before[i]);
+        }
     }
-    Ok([a, b])
+    Ok(sums)
 }
 
-fn both(
-    case: &Case,
-    session: &Session,
-    numbers: &[u64],
-    sides: [Side; 2],
-) -> Result<[Duration; 2], String> {
-    let [(proved, a), (second, b)] = sides.map(|side| {
+fn each(case: &Case, session: &Session, numbers: &[u64]) -> Result<[Duration; SIDES], String> {
+    let answers = ALL.map(|side| {
         let began = Instant::now();
         let sum = side(session, numbers);
         (sum, began.elapsed())
     });
-    match proved == second {
-        true => Ok([a, b]),
-        false => Err(format!(
-            "{}: the answers differ: {proved} and {second}",
-            case.name
-        )),
+    let sums = answers.map(|(sum, _)| sum);
+    match sums.iter().all(|sum| *sum == sums[0]) {
+        true => Ok(answers.map(|(_, time)| time)),
+        false => Err(format!("{}: the answers differ: {sums:?}", case.name)),
     }
 }

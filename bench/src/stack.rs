@@ -2,19 +2,19 @@
 //! no longer paint was used.
 
 use crate::cases::Session;
-use crate::sides::{kerzubian_replay, proved};
+use crate::sides::{replayed, Replay};
 use std::ffi::c_void;
 use std::ptr::{null, null_mut};
 
 const WORDS: usize = 1 << 18;
 const PAINT: u64 = 0x5AA5_C33C_0FF0_9669;
-/// No more code than this belongs to the function that calls `step`.
+/// No more code than this belongs to a function that replays.
 const CODE: u64 = 1 << 14;
 
 /// Bytes of stack.
 #[derive(Clone, Copy, Default)]
 pub struct Depth {
-    /// From where `step` was called, down.
+    /// From where the engine was called, down.
     pub step: usize,
     /// From where the replay was called, down.
     pub replay: usize,
@@ -30,8 +30,8 @@ impl Depth {
 }
 
 /// Of a whole session.
-pub fn depth_of(session: &Session) -> Result<Depth, String> {
-    let stack = run_on_painted(Some(session))?;
+pub fn depth_of(replay: Replay, session: &Session) -> Result<Depth, String> {
+    let stack = run_on_painted(Some(&(replay, session)))?;
     let idle = run_on_painted(None)?;
     let touched = |stack: &[u64]| {
         stack
@@ -40,8 +40,8 @@ pub fn depth_of(session: &Session) -> Result<Depth, String> {
             .unwrap_or(WORDS)
     };
     let (deepest, floor) = (touched(&stack), touched(&idle));
-    // The last call that the replay made is that of `step`: the address that it returned to still stands there.
-    let code = kerzubian_replay as *const () as u64;
+    // The last call that the replay made is that of the engine: the address that it returned to still stands there.
+    let code = replay as *const () as u64;
     let called = stack
         .iter()
         .position(|word| (code..code + CODE).contains(word));
@@ -51,11 +51,14 @@ pub fn depth_of(session: &Session) -> Result<Depth, String> {
     })
 }
 
+/// What to replay by, and what.
+type Task<'a> = (Replay, &'a Session);
+
 /// The stack of a thread that replayed the session, or did nothing. Its last word is the first that was used.
-fn run_on_painted(session: Option<&Session>) -> Result<Vec<u64>, String> {
+fn run_on_painted(task: Option<&Task>) -> Result<Vec<u64>, String> {
     let mut stack = vec![PAINT; WORDS];
-    let argument = session.map_or(null(), |s| s as *const Session);
-    // The thread ends before the stack and the session go.
+    let argument = task.map_or(null(), |t| t as *const Task);
+    // The thread ends before the stack and the task go.
     let failed = unsafe {
         let mut attributes = [0u64; 16];
         let attributes = attributes.as_mut_ptr().cast::<c_void>();
@@ -71,9 +74,9 @@ fn run_on_painted(session: Option<&Session>) -> Result<Vec<u64>, String> {
     }
 }
 
-extern "C" fn replay(session: *const c_void) -> *const c_void {
-    if let Some(session) = unsafe { session.cast::<Session>().as_ref() } {
-        std::hint::black_box(proved(session, &session.numbers));
+extern "C" fn replay(task: *const c_void) -> *const c_void {
+    if let Some((replay, session)) = unsafe { task.cast::<Task>().as_ref() } {
+        std::hint::black_box(replayed(*replay, session, &session.numbers));
     }
     null()
 }

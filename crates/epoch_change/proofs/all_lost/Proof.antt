@@ -19,27 +19,12 @@ abbrev μ-loop : tie.MeasureT-loop
 loop-holds : tie.Need-loop-holds Inv-loop μ-loop
 loop-holds c = (search needs, every-begin _)
 
-element-copy-out-member : tie.Need-element-copy-out-member Inv-loop μ-loop
-element-copy-out-member c = search needs
-
-mul-chunk : tie.Need-mul-chunk Inv-loop μ-loop
-mul-chunk c = search needs
-
-array-copy-out-chunk : tie.Need-array-copy-out-chunk Inv-loop μ-loop
-array-copy-out-chunk c = search needs
-
 returns : tie.Need-returns Inv-loop μ-loop
 returns c =
     let l = c .before .before .before .before .before in
     let s = l .before in
     sym (every-stop (lostOr (s .args .t1) (s .args .t2)) 8 (l .loop .c) (omega arith) (not-lost (s .args .t1) (s .args .t2) (l .loop .c) (c .if1 .taken)))
     ∙ all-lost-is (s .args .t1) (s .args .t2)
-
-add-c : tie.Need-add-c Inv-loop μ-loop
-add-c c = search needs
-
-loop-less : tie.Need-loop-less Inv-loop μ-loop
-loop-less c = search needs
 
 loop-again : tie.Need-loop-again Inv-loop μ-loop
 loop-again c =
@@ -60,11 +45,11 @@ all-lost-spec =
     Inv-loop
     μ-loop
     loop-holds
-    element-copy-out-member
-    mul-chunk
-    array-copy-out-chunk
+    (λ c. search needs)
+    (λ c. search needs)
+    (λ c. search needs)
     returns
-    add-c
-    loop-less
+    (λ c. search needs)
+    (λ c. search needs)
     loop-again
     returns-2)

@@ -19,25 +19,10 @@ abbrev μ-loop : tie.MeasureT-loop
 loop-holds : tie.Need-loop-holds Inv-loop μ-loop
 loop-holds c = (search needs, some-begin _)
 
-mul-chunk : tie.Need-mul-chunk Inv-loop μ-loop
-mul-chunk c = search needs
-
-array-copy-out-chunk : tie.Need-array-copy-out-chunk Inv-loop μ-loop
-array-copy-out-chunk c = search needs
-
-is-failed-requires : tie.Need-is-failed-requires Inv-loop μ-loop
-is-failed-requires c κs = search needs
-
 returns : tie.Need-returns Inv-loop μ-loop
 returns c =
     let l = c .before .before .before .before in
     sym (some-stop (failedAt (l .before .args .t1)) 8 (l .loop .c) (omega arith) (sym (c .before .is-failed .ensures) ∙ c .if1 .taken))
-
-add-c : tie.Need-add-c Inv-loop μ-loop
-add-c c = search needs
-
-loop-less : tie.Need-loop-less Inv-loop μ-loop
-loop-less c = search needs
 
 loop-again : tie.Need-loop-again Inv-loop μ-loop
 loop-again c =
@@ -56,11 +41,11 @@ any-failed-spec =
     Inv-loop
     μ-loop
     loop-holds
-    mul-chunk
-    array-copy-out-chunk
-    is-failed-requires
+    (λ c. search needs)
+    (λ c. search needs)
+    (λ c κs. search needs)
     returns
-    add-c
-    loop-less
+    (λ c. search needs)
+    (λ c. search needs)
     loop-again
     returns-2)

@@ -12,17 +12,11 @@ use Rattle.epoch_change.proofs.change_code.Tie as tie
 none-failed : (c : tie.Else1) → some (failedAt (c .before .before .before .args .chunks)) (numbers chunkLimit) ≡ false
 none-failed c = sym (c .before .before .any-failed .ensures) ∙ c .if1 .left
 
-any-failed-requires : tie.Need-any-failed-requires
-any-failed-requires c κs = search needs
-
 returns : tie.Need-returns
 returns c = refused-here _ _ _ (sym (c .before .before .any-failed .ensures) ∙ c .if1 .taken)
 
 returns-2 : tie.Need-returns-2
 returns-2 c = refused-later _ _ _ _ (none-failed (c .before)) (refused-here _ _ _ (c .if2 .taken))
-
-any-all-lost-requires : tie.Need-any-all-lost-requires
-any-all-lost-requires c κs = search needs
 
 returns-3 : tie.Need-returns-3
 returns-3 c =
@@ -39,4 +33,4 @@ returns-4 c =
 pub change-code-spec : {M : Type 1} → statement M
 change-code-spec =
     tie.close
-    (tie.spec any-failed-requires returns returns-2 any-all-lost-requires returns-3 returns-4)
+    (tie.spec (λ c κs. search needs) returns returns-2 (λ c κs. search needs) returns-3 returns-4)

@@ -11,20 +11,11 @@ use Rattle.epoch_lent.proofs.chunk_at.Tie as tie
 len : (c : tie.Start) → length (c .args .t1 .chunks) ≡ 8
 len c = simp length-map at (c .good .0 .1 .1 .0 .1 .0 .1)
 
-mul-result : tie.Need-mul-result
-mul-result c = search needs
-
-element-copy-out-result : tie.Need-element-copy-out-result
-element-copy-out-result c = search needs
-
 returns : tie.Need-returns
 returns c =
     let s = c .before .before in
     let k = len s in
     default-none noChunk zeroChunk (s .args .t1 .chunks) (s .args .c) (omega arith)
-
-chunk-requires : tie.Need-chunk-requires
-chunk-requires c κs = search needs
 
 returns-2 : tie.Need-returns-2
 returns-2 c =
@@ -33,4 +24,4 @@ returns-2 c =
     c .chunk .ensures ∙ sym (List·getD-eq-default (s .args .t1 .chunks) zeroChunk {n = s .args .c} (omega arith))
 
 pub chunk-at-spec : {M : Type 1} → statement M
-chunk-at-spec = tie.close (tie.spec mul-result element-copy-out-result returns chunk-requires returns-2)
+chunk-at-spec = tie.close (tie.spec (λ c. search needs) (λ c. search needs) returns (λ c κs. search needs) returns-2)

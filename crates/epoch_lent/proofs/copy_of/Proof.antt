@@ -4,11 +4,8 @@ use borrow.Author.Needs.{needs}
 use Rattle.epoch_lent.proofs.copy_of.Statement.{statement}
 use Rattle.epoch_lent.proofs.copy_of.Tie as tie
 
-holds-requires : tie.Need-holds-requires
-holds-requires c κs = search needs
-
 returns : tie.Need-returns
 returns c = rw (c .holds .ensures) refl
 
 pub copy-of-spec : {M : Type 1} → statement M
-copy-of-spec = tie.close (tie.spec holds-requires returns)
+copy-of-spec = tie.close (tie.spec (λ c κs. search needs) returns)

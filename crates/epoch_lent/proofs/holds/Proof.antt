@@ -10,15 +10,6 @@ use Rattle.epoch_lent.proofs.holds.Tie as tie
 len : (c : tie.Start) → length (c .args .t1 .sets) ≡ 16
 len c = simp length-map at (c .good .0 .1 .1 .1 .1 .1 .1 .0 .1 .0 .1)
 
-mul-set : tie.Need-mul-set
-mul-set c = search needs
-
-element-copy-out-set : tie.Need-element-copy-out-set
-element-copy-out-set c = search needs
-
-among-requires : tie.Need-among-requires
-among-requires c κs = search needs
-
 returns : tie.Need-returns
 returns c = c .among .ensures
 
@@ -29,4 +20,4 @@ returns-2 c =
     rw (List·getD-eq-default (a .t1 .sets) noSet {n = a .b} (omega arith)) refl
 
 pub holds-spec : {M : Type 1} → statement M
-holds-spec = tie.close (tie.spec mul-set element-copy-out-set among-requires returns returns-2)
+holds-spec = tie.close (tie.spec (λ c. search needs) (λ c. search needs) (λ c κs. search needs) returns returns-2)

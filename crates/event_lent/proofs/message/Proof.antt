@@ -12,12 +12,6 @@ use Rattle.event_lent.proofs.message.Tie as tie
 len : (c : tie.Start) → length (c .args .a .messages) ≡ 8
 len c = simp length-map at (c .good .0 .1 .1 .1 .1 .1 .1 .0 .1 .0 .1)
 
-mul-p : tie.Need-mul-p
-mul-p c = search needs
-
-array-copy-out-p : tie.Need-array-copy-out-p
-array-copy-out-p c = search needs
-
 returns : tie.Need-returns
 returns c = (search needs, len (c .before .before .before))
 
@@ -28,4 +22,4 @@ returns-2 c =
     (ap (λ (p : Place). p .slot) (sym (List·getD-eq-default (a .a .messages) zeroPlace l)), len (c .before))
 
 pub message-spec : {M : Type 1} → statement M
-message-spec = tie.close (tie.spec mul-p array-copy-out-p returns returns-2)
+message-spec = tie.close (tie.spec (λ c. search needs) (λ c. search needs) returns returns-2)

@@ -4,11 +4,8 @@ use borrow.Author.Needs.{needs}
 use Rattle.event_lent.proofs.parts_by.Statement.{statement}
 use Rattle.event_lent.proofs.parts_by.Tie as tie
 
-set-of-requires : tie.Need-set-of-requires
-set-of-requires c κs = search needs
-
 returns : tie.Need-returns
 returns c = rw (c .set-of .ensures) refl
 
 pub parts-by-spec : {M : Type 1} → statement M
-parts-by-spec = tie.close (tie.spec set-of-requires returns)
+parts-by-spec = tie.close (tie.spec (λ c κs. search needs) returns)

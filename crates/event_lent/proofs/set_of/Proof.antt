@@ -5,20 +5,11 @@ use borrow.Author.Tests.{lt-ltb, le-ltb}
 use Rattle.event_lent.proofs.set_of.Statement.{statement}
 use Rattle.event_lent.proofs.set_of.Tie as tie
 
-mul-result : tie.Need-mul-result
-mul-result c = search needs
-
-element-copy-out-result : tie.Need-element-copy-out-result
-element-copy-out-result c = search needs
-
 returns : tie.Need-returns
 returns c = rw (lt-ltb _ 16 (c .before .if1 .taken)) refl
-
-set-requires : tie.Need-set-requires
-set-requires c κs = search needs
 
 returns-2 : tie.Need-returns-2
 returns-2 c = rw (le-ltb _ 16 (c .before .if1 .left), c .set .ensures) refl
 
 pub set-of-spec : {M : Type 1} → statement M
-set-of-spec = tie.close (tie.spec mul-result element-copy-out-result returns set-requires returns-2)
+set-of-spec = tie.close (tie.spec (λ c. search needs) (λ c. search needs) returns (λ c κs. search needs) returns-2)

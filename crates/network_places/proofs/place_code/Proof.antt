@@ -5,9 +5,6 @@ use Rattle.rules.specs.Codes.{codeOf}
 use Rattle.network_places.proofs.place_code.Statement.{statement}
 use Rattle.network_places.proofs.place_code.Tie as tie
 
-is-empty-requires : tie.Need-is-empty-requires
-is-empty-requires c κs = search needs
-
 returns : tie.Need-returns
 unfolding codeOf
 returns c = rw (sym (c .before .is-empty .ensures) ∙ c .if1 .taken) refl
@@ -17,4 +14,4 @@ unfolding codeOf
 returns-2 c = rw (sym (c .before .is-empty .ensures) ∙ c .if1 .left) refl
 
 pub place-code-spec : {M : Type 1} → statement M
-place-code-spec = tie.close (tie.spec is-empty-requires returns returns-2)
+place-code-spec = tie.close (tie.spec (λ c κs. search needs) returns returns-2)

@@ -4,11 +4,8 @@ use borrow.Author.Needs.{needs}
 use Rattle.table_sound.proofs.all_formed.Statement.{statement}
 use Rattle.table_sound.proofs.all_formed.Tie as tie
 
-is-creation-requires : tie.Need-is-creation-requires
-is-creation-requires c κs = search needs
-
 returns : tie.Need-returns
 returns c = rw (c .before .is-creation .ensures) refl
 
 pub all-formed-spec : {M : Type 1} → statement M
-all-formed-spec = tie.close (tie.spec is-creation-requires returns)
+all-formed-spec = tie.close (tie.spec (λ c κs. search needs) returns)

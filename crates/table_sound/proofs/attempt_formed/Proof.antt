@@ -5,18 +5,12 @@ use borrow.Author.Tests.{lt-ltb, le-ltb}
 use Rattle.table_sound.proofs.attempt_formed.Statement.{statement}
 use Rattle.table_sound.proofs.attempt_formed.Tie as tie
 
-of-store-requires : tie.Need-of-store-requires
-of-store-requires c κs = search needs
-
 returns : tie.Need-returns
 returns c = rw (lt-ltb _ _ (c .before .before .before .if1 .taken), c .of-store .ensures) refl
-
-is-zero-attempt-requires : tie.Need-is-zero-attempt-requires
-is-zero-attempt-requires c κs = search needs
 
 returns-2 : tie.Need-returns-2
 returns-2 c = rw (le-ltb _ _ (c .before .if1 .left)) (c .is-zero-attempt .ensures)
 
 pub attempt-formed-spec : {M : Type 1} → statement M
 attempt-formed-spec =
-    tie.close (tie.spec of-store-requires returns is-zero-attempt-requires returns-2)
+    tie.close (tie.spec (λ c κs. search needs) returns (λ c κs. search needs) returns-2)

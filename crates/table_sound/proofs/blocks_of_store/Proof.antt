@@ -19,15 +19,6 @@ abbrev μ-loop : tie.MeasureT-loop
 loop-holds : tie.Need-loop-holds Inv-loop μ-loop
 loop-holds c = (search needs, sym (every-begin _))
 
-element-copy-out-ok : tie.Need-element-copy-out-ok Inv-loop μ-loop
-element-copy-out-ok c = search needs
-
-add-i : tie.Need-add-i Inv-loop μ-loop
-add-i c = search needs
-
-loop-less : tie.Need-loop-less Inv-loop μ-loop
-loop-less c = search needs
-
 loop-again : tie.Need-loop-again Inv-loop μ-loop
 loop-again c = (omega arith, every-more _ _ _ _ (c .before .before .loop .inv .1) (refl))
 
@@ -37,4 +28,4 @@ returns c =
     rw e at (c .before .loop .inv .1)
 
 pub blocks-of-store-spec : {M : Type 1} → statement M
-blocks-of-store-spec = tie.close (tie.spec Inv-loop μ-loop loop-holds element-copy-out-ok add-i loop-less loop-again returns)
+blocks-of-store-spec = tie.close (tie.spec Inv-loop μ-loop loop-holds (λ c. search needs) (λ c. search needs) (λ c. search needs) loop-again returns)

@@ -4,14 +4,8 @@ use borrow.Author.Needs.{needs}
 use Rattle.table_sound.proofs.busy_at.Statement.{statement}
 use Rattle.table_sound.proofs.busy_at.Tie as tie
 
-is-of-store-requires : tie.Need-is-of-store-requires
-is-of-store-requires c κs = search needs
-
-waiting-formed-requires : tie.Need-waiting-formed-requires
-waiting-formed-requires c κs = search needs
-
 returns : tie.Need-returns
 returns c = rw (c .before .before .before .is-of-store .ensures, c .waiting-formed .ensures) refl
 
 pub busy-at-spec : {M : Type 1} → statement M
-busy-at-spec = tie.close (tie.spec is-of-store-requires waiting-formed-requires returns)
+busy-at-spec = tie.close (tie.spec (λ c κs. search needs) (λ c κs. search needs) returns)

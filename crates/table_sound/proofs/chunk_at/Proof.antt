@@ -3,17 +3,11 @@ use borrow.Author.Needs.{needs}
 use Rattle.table_sound.proofs.chunk_at.Statement.{statement}
 use Rattle.table_sound.proofs.chunk_at.Tie as tie
 
-chunk-formed-requires : tie.Need-chunk-formed-requires
-chunk-formed-requires c κs = search needs
-
 returns : tie.Need-returns
 returns c = rw (c .before .if1 .taken) (c .chunk-formed .ensures)
-
-is-zero-chunk-requires : tie.Need-is-zero-chunk-requires
-is-zero-chunk-requires c κs = search needs
 
 returns-2 : tie.Need-returns-2
 returns-2 c = rw (c .before .if1 .left) (c .is-zero-chunk .ensures)
 
 pub chunk-at-spec : {M : Type 1} → statement M
-chunk-at-spec = tie.close (tie.spec chunk-formed-requires returns is-zero-chunk-requires returns-2)
+chunk-at-spec = tie.close (tie.spec (λ c κs. search needs) returns (λ c κs. search needs) returns-2)

@@ -4,11 +4,8 @@ use borrow.Author.Needs.{needs}
 use Rattle.table_sound.proofs.chunk_formed.Statement.{statement}
 use Rattle.table_sound.proofs.chunk_formed.Tie as tie
 
-blocks-of-store-requires : tie.Need-blocks-of-store-requires
-blocks-of-store-requires c κs = search needs
-
 returns : tie.Need-returns
 returns c = rw (c .blocks-of-store .ensures) refl
 
 pub chunk-formed-spec : {M : Type 1} → statement M
-chunk-formed-spec = tie.close (tie.spec blocks-of-store-requires returns)
+chunk-formed-spec = tie.close (tie.spec (λ c κs. search needs) returns)

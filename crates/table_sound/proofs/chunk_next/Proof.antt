@@ -4,11 +4,8 @@ use borrow.Author.Needs.{needs}
 use Rattle.table_sound.proofs.chunk_next.Statement.{statement}
 use Rattle.table_sound.proofs.chunk_next.Tie as tie
 
-chunk-at-requires : tie.Need-chunk-at-requires
-chunk-at-requires c κs = search needs
-
 returns : tie.Need-returns
 returns c = rw (c .chunk-at .ensures) refl
 
 pub chunk-next-spec : {M : Type 1} → statement M
-chunk-next-spec = tie.close (tie.spec chunk-at-requires returns)
+chunk-next-spec = tie.close (tie.spec (λ c κs. search needs) returns)

@@ -20,30 +20,6 @@ abbrev μ-loop : tie.MeasureT-loop
 loop-holds : tie.Need-loop-holds Inv-loop μ-loop
 loop-holds c = (search needs, sym (every-begin _))
 
-mul-e : tie.Need-mul-e Inv-loop μ-loop
-mul-e c = search needs
-
-element-copy-out-e : tie.Need-element-copy-out-e Inv-loop μ-loop
-element-copy-out-e c = search needs
-
-before-requires : tie.Need-before-requires Inv-loop μ-loop
-before-requires c κs = search needs
-
-mul-ahead : tie.Need-mul-ahead Inv-loop μ-loop
-mul-ahead c = search needs
-
-element-copy-out-ahead : tie.Need-element-copy-out-ahead Inv-loop μ-loop
-element-copy-out-ahead c = search needs
-
-entry-at-requires : tie.Need-entry-at-requires Inv-loop μ-loop
-entry-at-requires c κs = search needs
-
-add-i : tie.Need-add-i Inv-loop μ-loop
-add-i c = search needs
-
-loop-less : tie.Need-loop-less Inv-loop μ-loop
-loop-less c = search needs
-
 loop-again : tie.Need-loop-again Inv-loop μ-loop
 loop-again c = (omega arith, every-more _ _ _ _ (c .before .before .before .before .before .loop .inv .1) (rw (c .before .before .before2 .ensures) at (c .entry-at .ensures)))
 
@@ -53,4 +29,4 @@ returns c =
     rw e at (c .before .loop .inv .1)
 
 pub entries-formed-spec : {M : Type 1} → statement M
-entries-formed-spec = tie.close (tie.spec Inv-loop μ-loop loop-holds mul-e element-copy-out-e before-requires mul-ahead element-copy-out-ahead entry-at-requires add-i loop-less loop-again returns)
+entries-formed-spec = tie.close (tie.spec Inv-loop μ-loop loop-holds (λ c. search needs) (λ c. search needs) (λ c κs. search needs) (λ c. search needs) (λ c. search needs) (λ c κs. search needs) (λ c. search needs) (λ c. search needs) loop-again returns)

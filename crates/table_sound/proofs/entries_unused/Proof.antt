@@ -20,21 +20,6 @@ abbrev μ-loop : tie.MeasureT-loop
 loop-holds : tie.Need-loop-holds Inv-loop μ-loop
 loop-holds c = (search needs, sym (every-begin _))
 
-mul-e : tie.Need-mul-e Inv-loop μ-loop
-mul-e c = search needs
-
-element-copy-out-e : tie.Need-element-copy-out-e Inv-loop μ-loop
-element-copy-out-e c = search needs
-
-is-zero-entry-requires : tie.Need-is-zero-entry-requires Inv-loop μ-loop
-is-zero-entry-requires c κs = search needs
-
-add-i : tie.Need-add-i Inv-loop μ-loop
-add-i c = search needs
-
-loop-less : tie.Need-loop-less Inv-loop μ-loop
-loop-less c = search needs
-
 loop-again : tie.Need-loop-again Inv-loop μ-loop
 loop-again c = (omega arith, every-more _ _ _ _ (c .before .before .before .loop .inv .1) (c .is-zero-entry .ensures))
 
@@ -44,4 +29,4 @@ returns c =
     rw e at (c .before .loop .inv .1)
 
 pub entries-unused-spec : {M : Type 1} → statement M
-entries-unused-spec = tie.close (tie.spec Inv-loop μ-loop loop-holds mul-e element-copy-out-e is-zero-entry-requires add-i loop-less loop-again returns)
+entries-unused-spec = tie.close (tie.spec Inv-loop μ-loop loop-holds (λ c. search needs) (λ c. search needs) (λ c κs. search needs) (λ c. search needs) (λ c. search needs) loop-again returns)

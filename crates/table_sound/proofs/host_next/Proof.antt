@@ -4,11 +4,8 @@ use borrow.Author.Needs.{needs}
 use Rattle.table_sound.proofs.host_next.Statement.{statement}
 use Rattle.table_sound.proofs.host_next.Tie as tie
 
-host-at-requires : tie.Need-host-at-requires
-host-at-requires c κs = search needs
-
 returns : tie.Need-returns
 returns c = rw (c .host-at .ensures) refl
 
 pub host-next-spec : {M : Type 1} → statement M
-host-next-spec = tie.close (tie.spec host-at-requires returns)
+host-next-spec = tie.close (tie.spec (λ c κs. search needs) returns)

@@ -5,12 +5,9 @@ use Rattle.rules.specs.Creation.{isCreation}
 use Rattle.table_sound.proofs.is_creation.Statement.{statement}
 use Rattle.table_sound.proofs.is_creation.Tie as tie
 
-sets-formed-requires : tie.Need-sets-formed-requires
-sets-formed-requires c κs = search needs
-
 returns : tie.Need-returns
 unfolding isCreation
 returns c = rw (c .before .sets-formed .ensures) refl
 
 pub is-creation-spec : {M : Type 1} → statement M
-is-creation-spec = tie.close (tie.spec sets-formed-requires returns)
+is-creation-spec = tie.close (tie.spec (λ c κs. search needs) returns)

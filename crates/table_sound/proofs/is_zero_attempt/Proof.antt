@@ -4,11 +4,8 @@ use borrow.Author.Needs.{needs}
 use Rattle.table_sound.proofs.is_zero_attempt.Statement.{statement}
 use Rattle.table_sound.proofs.is_zero_attempt.Tie as tie
 
-is-empty-requires : tie.Need-is-empty-requires
-is-empty-requires c κs = search needs
-
 returns : tie.Need-returns
 returns c = rw (c .before .before .before .is-empty .ensures) refl
 
 pub is-zero-attempt-spec : {M : Type 1} → statement M
-is-zero-attempt-spec = tie.close (tie.spec is-empty-requires returns)
+is-zero-attempt-spec = tie.close (tie.spec (λ c κs. search needs) returns)

@@ -7,16 +7,10 @@ use Rattle.table_sound.proofs.Laws.{all-below-zero}
 use Rattle.table_sound.proofs.is_zero_chunk.Statement.{statement}
 use Rattle.table_sound.proofs.is_zero_chunk.Tie as tie
 
-is-normal-requires : tie.Need-is-normal-requires
-is-normal-requires c κs = search needs
-
-blocks-of-store-requires : tie.Need-blocks-of-store-requires
-blocks-of-store-requires c κs = search needs
-
 returns : tie.Need-returns
 returns c =
     let x = c .before .before .before .before .args .c in
     rw (c .blocks-of-store .ensures, c .before .before .before .is-normal .ensures, all-below-zero (λ b. getD (x .reconcile) b false)) refl
 
 pub is-zero-chunk-spec : {M : Type 1} → statement M
-is-zero-chunk-spec = tie.close (tie.spec is-normal-requires blocks-of-store-requires returns)
+is-zero-chunk-spec = tie.close (tie.spec (λ c κs. search needs) (λ c κs. search needs) returns)

@@ -4,11 +4,8 @@ use borrow.Author.Needs.{needs}
 use Rattle.table_sound.proofs.is_zero_entry.Statement.{statement}
 use Rattle.table_sound.proofs.is_zero_entry.Tie as tie
 
-is-read-requires : tie.Need-is-read-requires
-is-read-requires c κs = search needs
-
 returns : tie.Need-returns
 returns c = rw (c .is-read .ensures) refl
 
 pub is-zero-entry-spec : {M : Type 1} → statement M
-is-zero-entry-spec = tie.close (tie.spec is-read-requires returns)
+is-zero-entry-spec = tie.close (tie.spec (λ c κs. search needs) returns)

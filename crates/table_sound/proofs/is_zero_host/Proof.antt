@@ -5,12 +5,6 @@ use Rattle.table_sound.proofs.Laws.{zero-host}
 use Rattle.table_sound.proofs.is_zero_host.Statement.{statement}
 use Rattle.table_sound.proofs.is_zero_host.Tie as tie
 
-operations-formed-requires : tie.Need-operations-formed-requires
-operations-formed-requires c κs = search needs
-
-is-zero-attempt-requires : tie.Need-is-zero-attempt-requires
-is-zero-attempt-requires c κs = search needs
-
 returns : tie.Need-returns
 returns c =
     let a = c .before .before .before in
@@ -19,4 +13,4 @@ returns c =
 
 pub is-zero-host-spec : {M : Type 1} → statement M
 is-zero-host-spec =
-    tie.close (tie.spec operations-formed-requires is-zero-attempt-requires returns)
+    tie.close (tie.spec (λ c κs. search needs) (λ c κs. search needs) returns)

@@ -4,11 +4,8 @@ use borrow.Author.Needs.{needs}
 use Rattle.table_sound.proofs.is_zero_operation.Statement.{statement}
 use Rattle.table_sound.proofs.is_zero_operation.Tie as tie
 
-is-reading-requires : tie.Need-is-reading-requires
-is-reading-requires c κs = search needs
-
 returns : tie.Need-returns
 returns c = rw (c .is-reading .ensures) refl
 
 pub is-zero-operation-spec : {M : Type 1} → statement M
-is-zero-operation-spec = tie.close (tie.spec is-reading-requires returns)
+is-zero-operation-spec = tie.close (tie.spec (λ c κs. search needs) returns)

@@ -4,18 +4,6 @@ use borrow.Author.Needs.{needs}
 use Rattle.table_sound.proofs.message_formed.Statement.{statement}
 use Rattle.table_sound.proofs.message_formed.Tie as tie
 
-header-of-requires : tie.Need-header-of-requires
-header-of-requires c κs = search needs
-
-sort-of-requires : tie.Need-sort-of-requires
-sort-of-requires c κs = search needs
-
-header-formed-requires : tie.Need-header-formed-requires
-header-formed-requires c κs = search needs
-
-sort-formed-requires : tie.Need-sort-formed-requires
-sort-formed-requires c κs = search needs
-
 returns : tie.Need-returns
 returns c =
     let h = c .before in
@@ -26,8 +14,8 @@ pub message-formed-spec : {M : Type 1} → statement M
 message-formed-spec =
     tie.close
     (tie.spec
-    header-of-requires
-    sort-of-requires
-    header-formed-requires
-    sort-formed-requires
+    (λ c κs. search needs)
+    (λ c κs. search needs)
+    (λ c κs. search needs)
+    (λ c κs. search needs)
     returns)

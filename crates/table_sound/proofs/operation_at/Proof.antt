@@ -7,11 +7,8 @@ use Rattle.table_sound.proofs.operation_at.Tie as tie
 returns : tie.Need-returns
 returns c = rw (c .before .before .if1 .taken) refl
 
-is-zero-operation-requires : tie.Need-is-zero-operation-requires
-is-zero-operation-requires c κs = search needs
-
 returns-2 : tie.Need-returns-2
 returns-2 c = rw (c .before .if1 .left) (c .is-zero-operation .ensures)
 
 pub operation-at-spec : {M : Type 1} → statement M
-operation-at-spec = tie.close (tie.spec returns is-zero-operation-requires returns-2)
+operation-at-spec = tie.close (tie.spec returns (λ c κs. search needs) returns-2)

@@ -3,15 +3,6 @@ use borrow.Author.Needs.{needs}
 use Rattle.table_sound.proofs.place_formed.Statement.{statement}
 use Rattle.table_sound.proofs.place_formed.Tie as tie
 
-enum-told : tie.Need-enum-told
-enum-told c = search needs
-
-enum-known-s : tie.Need-enum-known-s
-enum-known-s c = search needs
-
-message-formed-requires : tie.Need-message-formed-requires
-message-formed-requires c κs = search needs
-
 returns : tie.Need-returns
 returns c = search needs
 
@@ -20,4 +11,4 @@ returns-2 c = rw (c .before .before .s .given .1) (c .message-formed .ensures)
 
 pub place-formed-spec : {M : Type 1} → statement M
 place-formed-spec =
-    tie.close (tie.spec enum-told enum-known-s message-formed-requires returns returns-2)
+    tie.close (tie.spec (λ c. search needs) (λ c. search needs) (λ c κs. search needs) returns returns-2)

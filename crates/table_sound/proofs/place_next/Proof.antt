@@ -4,11 +4,8 @@ use borrow.Author.Needs.{needs}
 use Rattle.table_sound.proofs.place_next.Statement.{statement}
 use Rattle.table_sound.proofs.place_next.Tie as tie
 
-place-formed-requires : tie.Need-place-formed-requires
-place-formed-requires c κs = search needs
-
 returns : tie.Need-returns
 returns c = rw (c .place-formed .ensures) refl
 
 pub place-next-spec : {M : Type 1} → statement M
-place-next-spec = tie.close (tie.spec place-formed-requires returns)
+place-next-spec = tie.close (tie.spec (λ c κs. search needs) returns)

@@ -4,11 +4,8 @@ use borrow.Author.Needs.{needs}
 use Rattle.table_sound.proofs.queue_formed.Statement.{statement}
 use Rattle.table_sound.proofs.queue_formed.Tie as tie
 
-operations-formed-requires : tie.Need-operations-formed-requires
-operations-formed-requires c κs = search needs
-
 returns : tie.Need-returns
 returns c = rw (c .operations-formed .ensures) refl
 
 pub queue-formed-spec : {M : Type 1} → statement M
-queue-formed-spec = tie.close (tie.spec operations-formed-requires returns)
+queue-formed-spec = tie.close (tie.spec (λ c κs. search needs) returns)

@@ -19,21 +19,6 @@ abbrev μ-loop : tie.MeasureT-loop
 loop-holds : tie.Need-loop-holds Inv-loop μ-loop
 loop-holds c = (search needs, sym (every-begin _))
 
-mul-s : tie.Need-mul-s Inv-loop μ-loop
-mul-s c = search needs
-
-element-copy-out-s : tie.Need-element-copy-out-s Inv-loop μ-loop
-element-copy-out-s c = search needs
-
-is-set-of-requires : tie.Need-is-set-of-requires Inv-loop μ-loop
-is-set-of-requires c κs = search needs
-
-add-i : tie.Need-add-i Inv-loop μ-loop
-add-i c = search needs
-
-loop-less : tie.Need-loop-less Inv-loop μ-loop
-loop-less c = search needs
-
 loop-again : tie.Need-loop-again Inv-loop μ-loop
 loop-again c = (omega arith, every-more _ _ _ _ (c .before .before .before .before .loop .inv .1) (c .is-set-of .ensures))
 
@@ -43,4 +28,4 @@ returns c =
     rw e at (c .before .loop .inv .1)
 
 pub sets-formed-spec : {M : Type 1} → statement M
-sets-formed-spec = tie.close (tie.spec Inv-loop μ-loop loop-holds mul-s element-copy-out-s is-set-of-requires add-i loop-less loop-again returns)
+sets-formed-spec = tie.close (tie.spec Inv-loop μ-loop loop-holds (λ c. search needs) (λ c. search needs) (λ c κs. search needs) (λ c. search needs) (λ c. search needs) loop-again returns)

@@ -4,18 +4,6 @@ use borrow.Author.Needs.{needs}
 use Rattle.table_sound.proofs.sort_formed.Statement.{statement}
 use Rattle.table_sound.proofs.sort_formed.Tie as tie
 
-enum-known-s : tie.Need-enum-known-s
-enum-known-s c = search needs
-
-enum-told : tie.Need-enum-told
-enum-told c = search needs
-
-enum-told-2 : tie.Need-enum-told-2
-enum-told-2 c = search needs
-
-enum-told-3 : tie.Need-enum-told-3
-enum-told-3 c = search needs
-
 returns : tie.Need-returns
 returns c = rw (c .before .before .s .given .1) refl
 
@@ -31,4 +19,4 @@ returns-4 c = search needs
 pub sort-formed-spec : {M : Type 1} → statement M
 sort-formed-spec =
     tie.close
-    (tie.spec enum-known-s enum-told enum-told-2 enum-told-3 returns returns-2 returns-3 returns-4)
+    (tie.spec (λ c. search needs) (λ c. search needs) (λ c. search needs) (λ c. search needs) returns returns-2 returns-3 returns-4)

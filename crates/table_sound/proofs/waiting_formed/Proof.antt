@@ -4,11 +4,8 @@ use borrow.Author.Needs.{needs}
 use Rattle.table_sound.proofs.waiting_formed.Statement.{statement}
 use Rattle.table_sound.proofs.waiting_formed.Tie as tie
 
-entries-formed-requires : tie.Need-entries-formed-requires
-entries-formed-requires c κs = search needs
-
 returns : tie.Need-returns
 returns c = rw (c .entries-formed .ensures) refl
 
 pub waiting-formed-spec : {M : Type 1} → statement M
-waiting-formed-spec = tie.close (tie.spec entries-formed-requires returns)
+waiting-formed-spec = tie.close (tie.spec (λ c κs. search needs) returns)
