@@ -2,6 +2,7 @@
 //! one that counts their copies (`bin/copies.rs`).
 
 pub mod cases;
+pub mod clock;
 pub mod copying;
 pub mod drivers;
 pub mod sides;

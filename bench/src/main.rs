@@ -3,9 +3,11 @@
 
 use bench::cases::{self, Case, Session};
 use bench::copying::copy_time;
-use bench::sides::{kerzubian_replay, kerzubian_replay_in, table_bytes, timed, Times, SIDES};
+use bench::drivers;
+use bench::sides::{
+    kerzubian_replay, kerzubian_replay_in, table_bytes, timed, Replay, Times, SIDES,
+};
 use bench::stack::{depth_of, Depth};
-use bench::{drivers, sides};
 use std::process::ExitCode;
 
 /// Each side is timed so often, in turn; the least time counts, which others disturbed the least.
@@ -74,19 +76,19 @@ fn sizes(copy: f64) {
     );
 }
 
+/// The last call of either replay is that of `step_in`: `step` is compiled into the one by value, its own table with it.
 fn stacks(cases: &[Case]) -> Result<(), String> {
-    let forms: [(&str, sides::Replay); 2] =
-        [("step_in", kerzubian_replay_in), ("step", kerzubian_replay)];
-    for (name, replay) in forms {
-        let mut deepest = Depth::default();
-        for session in cases.iter().flat_map(|case| &case.sessions) {
-            deepest = deepest.deeper(depth_of(replay, session)?);
-        }
-        println!(
-            "stack: {name} takes {} bytes, a whole replay by it {} bytes",
-            deepest.step, deepest.replay
-        );
-    }
+    let [lies, value] = [kerzubian_replay_in as Replay, kerzubian_replay].map(|replay| {
+        let mut sessions = cases.iter().flat_map(|case| &case.sessions);
+        sessions.try_fold(Depth::default(), |deepest, session| {
+            Ok::<Depth, String>(deepest.deeper(depth_of(replay, session)?))
+        })
+    });
+    let (lies, value) = (lies?, value?);
+    println!(
+        "stack: step_in takes {} bytes, a whole replay where the table lies {} bytes, by value {} bytes",
+        lies.step, lies.replay, value.replay
+    );
     Ok(())
 }
 

@@ -1,9 +1,10 @@
 //! The sides: the proved engine behind its C functions, where the table lies and by value, and the second program by its own.
 
 use crate::cases::{Case, Session, NUMBERS};
+use crate::clock::processor_time;
 use second::answer::Answer;
 use second::event::step;
-use std::time::{Duration, Instant};
+use std::time::Duration;
 
 /// crates/replay: a slice is a pointer and then a length.
 pub type Replay =
@@ -135,9 +136,9 @@ pub fn timed(case: &Case) -> Result<[Duration; SIDES], String> {
 
 fn each(case: &Case, session: &Session, numbers: &[u64]) -> Result<[Duration; SIDES], String> {
     let answers = ALL.map(|side| {
-        let began = Instant::now();
+        let began = processor_time();
         let sum = side(session, numbers);
-        (sum, began.elapsed())
+        (sum, processor_time() - began)
     });
     let sums = answers.map(|(sum, _)| sum);
     match sums.iter().all(|sum| *sum == sums[0]) {
