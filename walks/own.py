@@ -8,23 +8,15 @@ from walk import Held, Walk
 
 
 class Own(Walk):
+    base = 0
+
     def __init__(self, *given):
         super().__init__(*given)
         self.rows = {i: row(self.mir.locals[i]) for i in range(1, self.mir.params + 1)}
+        self.away = None  # the local that is lent
 
-    def cell(self, local, base=0, away=None):
-        """away: the local that is lent."""
-        return base + 2 * (self.count - 1 - local) - (1 if away is not None and local < away else 0)
-
-    def read(self, place, local, base=0, away=None):
-        if local in place.pointers:
-            return f"(load ! {HERE} (look ! {self.cell(local, base, away)} refl))"
-        held = place.held[local]
-        return f"(load ! {HERE} (look ! {self.cell(local, base, away)} {{q = fullShare}} {{τ = {held.row.mir}}} {{b = l{local}}} {{o = 0}} {{v = {held.v}}} refl))"
-
-    def write(self, place, local, had, base=0, away=None):
-        held = place.held[local]
-        return f"({'store' if had else 'init'} ! {self.cell(local, base, away)} {{τ = {held.row.mir}}} {{v = {held.v}}} refl ({held.row.typed} {held.x} _ {held.g} .0))"
+    def cell(self, local, base=None):
+        return super().cell(local, base) - (self.away is not None and local < self.away)
 
     def home(self, local, base):
         """The lent cell is at 0 again and the rest past base: each to its place."""
@@ -39,64 +31,43 @@ class Own(Walk):
         return self.assign(place, local, f"(of-opd ! {self.read(place, mir.local(value[1])[0])})", place.held[mir.local(value[1])[0]], last), 0
 
     def call(self, statement, place):
-        callee, args, local = self.callees[mir.callee(statement)], mir.arguments(statement), int(statement[3][1])
-        if callee not in self.called:
-            self.called.append(callee)
-        self.calls += 1
-        n, R = self.calls, callee.row
-        values = args[1:] if callee.table else args
-        held = [place.held[i] for i in values]
-        xs = [x.x for x in held]
-        pairs = "".join(f" {x.x} {x.v}" for x in held)
-        known = "".join(f" {x.g}" for x in held)
-        self.emit(f"-- _{local} = {callee.crate}::{callee.name}({', '.join('_%d' % i for i in args)})")
-        return (self.lends if callee.table else self.hands)(callee, n, R, args, xs, pairs, known, place, local)
+        callee, *call = self.calling(statement, place)
+        return (self.lends if callee.table else self.hands)(place, callee, *call)
 
-    def told(self, callee, n, R, κs, token, t, xs):
-        ensured = f"(ensured 𝓤 H A {callee.id}.ended ({callee.id}.clauses {IN}) {κs} {nest(t + xs)} tt r)"
-        self.emit(f"use1 W (later (some (λ (r : {R.denotation}). ({token} ⊛ ‵ ({R.row} .own r (w{n} ∷ []))) ⊛ raw {ensured}))) (id⊢ 𝓤 _) $ await ! tt $ pick ! (λ r{n}. split ! $ move ! (1 ∷ []) $")
-        return f"facts ! {R.shows(f'r{n}', f'w{n}')} (λ is{n}."
-
-    def operands(self, place, args, base, away=None):
-        operands = "(no-more !)"
-        for i in reversed(args):
-            operands = f"(and-then ! {self.read(place, i, base, away)} {operands})"
-        return operands
-
-    def hands(self, callee, n, R, args, xs, pairs, known, place, local):
+    def hands(self, place, callee, n, args, local, xs, pairs, known):
         """A call by value."""
         id = callee.id
         self.emit(f"nothing ! $ use1 W (raw (C-{id} {IN} .pre (to-{id} {AT}{pairs}))) (goes-{id} {AT}{pairs}{known}) $")
         self.emit(f"calls-at ! fm (C-{id} {IN}) known-{id} (to-{id} {AT}{pairs}) {self.operands(place, args, 1)} (λ w{n}.")
-        facts = self.told(callee, n, R, "tt", "‵ ftrue", [], xs)
-        said = callee.tells(f"r{n}", xs)
+        facts = self.told(callee, n, "tt", "‵ ftrue", [], xs)
+        said = callee.promise(f"r{n}", None, xs)
         had = local in place.held
-        place = place.holds(local, Held(f"r{n}", f"w{n}", f"is{n}", R))
+        place = place.holds(local, Held(f"r{n}", f"w{n}", f"is{n}", callee.row))
         self.emit(f"use1 W (raw (fact 𝓤 ({said}))) (said-{id} {IN}{''.join(' ' + x for x in xs)} r{n}) $ heard ! ({said}) (λ e{n}. split ! $ drop ! $ {facts}")
         self.emit(f"land ! {HERE} {self.write(place, local, had)} $")
         return place, 4
 
-    def lends(self, callee, n, R, args, xs, pairs, known, place, local):
+    def lends(self, place, callee, n, args, local, xs, pairs, known):
         """A call that the local is lent to, as a `&mut`."""
-        id, k = callee.id, place.pointers[args[0]]
+        id, k = callee.id, place.pointers[mir.local(args[0])[0]]
         old, κ = place.held[k], f"(ν{n} ∷ [])"
         T, M = old.row.row, old.row.mir
         self.emit(f"{old.row.own(old.x, old.g)} move ! ({self.cell(k) + 1} ∷ 0 ∷ []) $ use2 W (‵ (partAt {T} fullShare {old.x} l{k} 0)) (part-in 𝓤 H A W {T} refl fullShare {old.x} l{k} 0 {old.v}) $")
         self.emit(f"lft-new ! tt (λ ν{n}. move ! (1 ∷ []) $")
         self.emit(f"use1 W (later (some (λ (γ : GName). ‵ (MutRef (named 0) {κ} {T} .own (rt l{k} γ {old.x}) (vptr l{k} 0 ∷ [])) ⊛ ‵ (flent {κ} (Behind (mem {T}) l{k} 0 γ))))) (lends-ref 𝓤 H A W {T} (named 0) {κ} {old.x} l{k} 0) $ await ! tt $ pick ! (λ δ{n}. split ! $ move ! (2 ∷ 0 ∷ []) $")
-        t = f"(rt l{k} δ{n} {old.x})"
+        self.away, t = k, f"(rt l{k} δ{n} {old.x})"
         pairs = f" {κ} fullShare {t}{pairs}"
         self.emit(f"use2 W (raw (C-{id} {IN} .pre (to-{id} {AT}{pairs}))) (goes-{id} {AT}{pairs}{known}) $")
-        self.emit(f"calls-at ! fm (C-{id} {IN}) known-{id} (to-{id} {AT}{pairs}) {self.operands(place, args, 2, k)} (λ w{n}.")
-        facts = self.told(callee, n, R, f"({κ}, tt)", f"(‵ (flft {κ} fullShare) ⊛ ‵ ftrue)", [t], xs)
+        self.emit(f"calls-at ! fm (C-{id} {IN}) known-{id} (to-{id} {AT}{pairs}) {self.operands(place, args, 2)} (λ w{n}.")
+        facts = self.told(callee, n, f"({κ}, tt)", f"(‵ (flft {κ} fullShare) ⊛ ‵ ftrue)", [t], xs)
         left = "Table × " + product(["Unit {0}"] * len(xs))
-        said = callee.leaves(f"r{n}", f"z{n} .0", old.x, xs)
+        said = callee.promise(f"r{n}", f"z{n} .0", [old.x] + xs)
         self.emit(f"use1 W (some (λ (z{n} : {left}). ‵ (lasts {id}.ended ({κ}, tt) {nest([t] + xs)} z{n}) ⊛ raw (fact 𝓤 ({said})))) (id⊢ 𝓤 _) $ pick ! (λ z{n}. split ! $ move ! (1 ∷ []) $ heard ! ({said}) (λ e{n}. fsplit ! $")
         self.emit(f"move ! (2 ∷ []) $ split ! $ move ! (1 ∷ []) $ {facts}")
         had = local in place.held
-        place = place.holds(local, Held(f"r{n}", f"w{n}", f"is{n}", R))
-        self.emit(f"land ! {HERE} {self.write(place, local, had, 4, k)} $ split ! $ lft-end ! tt $ move ! (0 ∷ 4 ∷ 2 ∷ []) $")
-        new = f"(z{n} .0)"
+        place = place.holds(local, Held(f"r{n}", f"w{n}", f"is{n}", callee.row))
+        self.emit(f"land ! {HERE} {self.write(place, local, had, 4)} $ split ! $ lft-end ! tt $ move ! (0 ∷ 4 ∷ 2 ∷ []) $")
+        self.away, new = None, f"(z{n} .0)"
         self.emit(f"use3 W (later (‵ (partAt {T} fullShare {new} l{k} 0))) (ref-back 𝓤 H A W {T} {κ} δ{n} {new} l{k} 0) $ await ! tt $")
         self.emit(f"use1 W (some (λ (u : Val). ‵ (fat fullShare {M} l{k} 0 u) ⊛ ‵ ({T} .own {new} (u ∷ [])))) (part-out 𝓤 H A W {T} refl fullShare {new} l{k} 0) $ pick ! (λ u{n}. split ! $")
         self.emit(f"move ! (1 ∷ []) $ facts ! {old.row.shows(new, f'u{n}')} (λ at{n}. {self.home(k, 3)}")
@@ -117,8 +88,8 @@ class Own(Walk):
 abbrev stayed : Stays (me.ended .signature .params) (me.ended .kept)
 stayed = {nest([f"stay-none (λ _. {R.row}) yes" for R in self.rows.values()])}
 
-module _ {BASE} {RUN} where{"".join(c.contract() for c in self.called)}
-module _ {BASE} {GIVEN} {RUN} where{"".join(c.goes() for c in self.called)}"""
+module _ {BASE} {RUN} where{"".join(c.contract() for c in self.called.values())}
+module _ {BASE} {GIVEN} {RUN} where{"".join(c.goes() for c in self.called.values())}"""
 
     def body(self):
         held, R = self.parameters(), self.result
@@ -142,7 +113,7 @@ module _ {BASE} {GIVEN} {RUN}{bound} where
   Post = walkOf 𝓤 H A me.ended stayed (me.clauses {IN}) .post {spot}
 
   module _{"".join(f" ({x.g} : Is {x.row.row} {x.x} ({x.v} ∷ []))" for x in held.values())} where
-    exits : (r : {R.denotation}) (v : Val) → Is {R.row} r (v ∷ []) → {self.claim("r", None, [x.x for x in held.values()])} → ent 𝓤 (sem 𝓤 H A ftrue) (Post v)
+    exits : (r : {R.denotation}) (v : Val) → Is {R.row} r (v ∷ []) → {self.promise("r", None, [x.x for x in held.values()])} → ent 𝓤 (sem 𝓤 H A ftrue) (Post v)
     exits r v g eq =
         qed W (‵ ftrue ∷ []) ∵
         suffices ! _ (ends-at 𝓤 H A me.ended stayed (me.clauses {IN}) W {spot} v r {silent} {silent}) $ says ! eq $
@@ -169,5 +140,5 @@ module _ {BASE} {GIVEN} {RUN}{bound} where
         are = " ".join(f"(are{' .1' * (i - 1)} .0)" for i in self.rows)
         vals, tells = nest([R.vals for R in self.rows.values()]), nest([R.tells for R in self.rows.values()])
         goes = nest([f"goes-none 𝓤 H A W 0 (λ _. {R.row}) yes (λ κs x f. refl)" for R in self.rows.values()])
-        walked = f"walk 𝓤 H A W at-mem run {given} {are} 𝓣{''.join(f' known-{c.id}' for c in self.called)}"
+        walked = f"walk 𝓤 H A W at-mem run {given} {are} 𝓣{''.join(f' known-{c.id}' for c in self.called.values())}"
         return self.ending(0, vals, tells, f"via 𝓤 _ (fst∗ 𝓤 _ (emp 𝓤)) ({walked})", goes)

@@ -3,15 +3,15 @@
 The context is [the locals; the slice; the token]. From the loop on the memory of the local that is lent stands as its part (partAt), not as a cell: its machine's value need not be named.
 """
 import mir
-from callee import Callee
+from contract import Callee, gives
 from rows import NUMBER, TABLE, row
 from text import AT, BASE, GIVEN, HERE, IN, LIBRARY, RUN, imports, nest, path
 
 ME, NAME, ID = "replay", "run_in", "run-in"
 EVENT, REPLY = row("rules::Event"), row("rules::Reply")
-STEP_IN = Callee("engine", "step_in", "&mut", ["rules::Event"], "rules::Reply", leaves=lambda r, z, t, xs: f"({r} ≡ replyOf (step {t} {xs[0]})) × ({z} ≡ step {t} {xs[0]} .table)")
-MIX_REPLY = Callee(ME, "mix_reply", None, ["u64", "rules::Reply"], "u64", lambda a: f"mixedWith {a[0]} ({a[1]} .code) ({a[1]} .outcome)")
+CONTRACTS = [gives("replay::mix_reply", lambda total, reply: f"mixedWith {total} ({reply} .code) ({reply} .outcome)")]
 USES = """Prim.Native.Nat: _/_
+prog.Routine: Env
 types.SemTy: Body=Lent
 base.Fml: flent
 denote.Builtin: u64
@@ -24,6 +24,7 @@ Rattle.rules.specs.Events: replyOf step
 Rattle.replay.specs.Replay: eventAt mixedWith tableAfter sumAfter
 Rattle.replay.proofs.Laws: table-before sum-before table-next sum-next four-fit count-below
 """
+CALLED = []
 SLICE = "ShrSlice (named 0) κ u64 .own t (sliceVal (t .ptr) (length (now t)) ∷ [])"
 
 
@@ -67,7 +68,6 @@ class SliceCallee:
 
 COUNT = SliceCallee("count", 0, NUMBER, lambda l, xs: f"length {l} / 4")
 EVENT_AT = SliceCallee("event_at", 1, EVENT, lambda l, xs: f"eventAt {l} {xs[0]}", lambda l, xs: f"{xs[0]} * 4 + 3 < length {l}")
-CALLED = [COUNT, EVENT_AT, STEP_IN, MIX_REPLY]
 # The locals: the result, the parameters, the table that is lent, how many events, the checksum, the event's number, the event, its reply, the test and the pointer.
 COUNT_OF = 11
 RESULT, GIVEN_TABLE, SLICES, OWN, ALL, SUM, INDEX, AN_EVENT, A_REPLY, TEST, POINTER = range(COUNT_OF)
@@ -131,7 +131,7 @@ def calls_slice(n, callee, local, xs, known, ops):
 def lends():
     """_8 = step_in(_10, _7): the local is lent, and comes back as the table after the event."""
     id, ν, lent = STEP_IN.id, "(ν ∷ [])", f"(rt δ {NOW})"
-    to, args, said = f"to-{id} {AT} {ν} fullShare {lent} r1 w1", nest([lent, "r1"]), STEP_IN.leaves("r2", "z2 .0", NOW, ["r1"])
+    to, args, said = f"to-{id} {AT} {ν} fullShare {lent} r1 w1", nest([lent, "r1"]), STEP_IN.promise("r2", "z2 .0", [NOW, "r1"])
     return f"""lft-new ! tt (λ ν. move ! ({cell(OWN) + 1} ∷ []) $
           use1 W (later (some (λ (δ : GName). ‵ (MutRef (named 0) {ν} {T} .own {lent} (vptr l{OWN} 0 ∷ [])) ⊛ ‵ (flent {ν} (Lent (mem {T}) l{OWN} 0 δ))))) (lends-ref 𝓤 H A W {T} (named 0) {ν} {NOW} l{OWN} 0) $
           await ! tt $ pick ! (λ δ. split ! $ move ! (2 ∷ 0 ∷ []) $
@@ -351,15 +351,21 @@ class Walk:
     """What walks/make writes."""
     name = NAME
 
+    def __init__(self, contracts):
+        self.contracts = contracts
+
     def text(self):
+        global STEP_IN, MIX_REPLY, CALLED
+        program = mir.functions(ME)
+        STEP_IN, MIX_REPLY = (Callee(self.contracts[name], program[name]) for name in ("engine::step_in", f"{ME}::mix_reply"))
+        CALLED = [COUNT, EVENT_AT, STEP_IN, MIX_REPLY]
         module = f"{path(ME, ME, 'proofs')}.{NAME}"
         types = "".join(f"Rattle.rules.specs.declared.{k}: {k}\nRattle·rules.proofs.{k} as {k}R\nRattle·rules.proofs.{k}.Laws as {k}L\n" for k in ("Event", "Reply", "Table"))
         own = f"{module}.Key: name=#{ME}·{ID}\n{module} as me\n{module}.Statement as stated\n{module}.Code as code\n{module}.Code.Mir as Mir\n"
-        if [kind for kind in mir.functions(ME)[NAME].locals if "Struct" not in kind] != KINDS:
+        if [kind for kind in program[f"{ME}::{NAME}"].locals if "Struct" not in kind] != KINDS:
             raise SystemExit(f"{ME}::{NAME}: no walk of locals of other kinds, or in another order")
         text = "\n".join(line.rstrip() for line in body().split("\n"))
         return f"-- `{ME}::{NAME}` meets its contract: a walk of its MIR. walks/make writes this file.\n" + imports(text, LIBRARY + USES + types + "".join(c.uses(ME) for c in CALLED) + own) + text
 
 
-def walks():
-    return [Walk()]
+WALKS = {ME: lambda contracts: [Walk(contracts)]}

@@ -14,10 +14,10 @@ use mir.Syntax.{Ty, Body, named, w64, tyInt}
 use mir.Table.{spell}
 use mir.Val.{Val, vint, vptr}
 use base.Logic.{SProp, ent, sep, emp, via, fst∗, snd∗, exE, id⊢}
-use base.Fml.{Lft, GName, Share, ftrue, fat, froom, fdies, flft}
+use base.Fml.{Lft, GName, Share, ftrue, fat, froom, fdies, flft, flent}
 use prog.Memory.{Memory}
 use prog.Routine.{Routine}
-use prog.Wp.{Heap, Out, Env, afterSeq, afterBlock, afterTurn, Calls, Loops, Wp, atReturn, WpFn, Tables}
+use prog.Wp.{Heap, Out, afterSeq, afterBlock, afterTurn, Calls, Loops, Wp, atReturn, WpFn, Tables}
 use ghost.Atoms.{Atoms, sem}
 use contract.Monad.{Fun, fact}
 use contract.Running.{givenOf, tables, tablesOf}
@@ -32,6 +32,7 @@ use denote.Memory.{mem, partAt}
 use denote.Plain.{uint-makes, uint-lawful}
 use denote.Builtin.{usize}
 use denote.Ref.{RefT, now, MutRef}
+use denote.Lend.{lends-ref, ref-back}
 use denote.Signature.{plain}
 use denote.Steps.{only, owned, nothing, facts, heard}
 use denote.Struct.Laws as LL
@@ -42,7 +43,9 @@ use denote.Triple.Call.{calls-at}
 use denote.Triple.Clauses.{ensured, lasts}
 use denote.Triple.Table.{entered, cited}
 use denote.Triple.Walked.{says, Stays, stay-none, walkOf, AllGo, Walks, ends-at, walked, goes-none, walk-meets}
+use borrow.Table.OneValue.{part-out, part-in}
 use Prim.Native.Nat.{_/_}
+use prog.Routine.{Env}
 use types.SemTy.{Body as Lent}
 use base.Fml.{flent}
 use denote.Builtin.{u64}
