@@ -48,19 +48,19 @@ CONTRACTS = [
 
 
 def walks(contracts):
-    walk = lambda name, shown, loop=None, sizes=None: Walk(f"epoch_lent::{name}", contracts, shown, USES, loop, sizes)
+    walk = lambda name, shown, loop=None, sizes=(): Walk(f"epoch_lent::{name}", contracts, shown, USES, loop, sizes)
     some = lambda word, first, count: " ".join(word % i for i in range(first, first + count))
-    settling = Loop(16, 2, table=Changed(TABLE, lambda n: f"tableTo h len {n}", None, "table-begins h len", f"e1 ∙ table-next h len (i .0) {below(16)}"))
+    settling = Loop(16, 2, table=Changed(TABLE, lambda n: f"tableTo h records-len {n}", None, "table-begins h records-len", f"e1 ∙ table-next h records-len (i .0) {below(16)}"))
     return [
         walk("copy_in", [f"copy-is h x2 x3 {some('r%d', 1, 5)} {some('e%d', 1, 5)}"]),
         walk("settled_in", [f"copies-are h x2 {some('r%d', 1, 8)} {some('e%d', 1, 8)} r9 e9"]),
         walk("store_in", ["held-is h (z3 .0) x2 x3 x4 r1 r2 e1 e2 e3"]),
         walk("settle_block_in", [f"block-is h x2 r1 {some('(z%d .0)', 2, 8)} {some('e%d', 1, 9)}"]),
-        walk("settle_in", [f"table-ends h len (i .0) (i .1) {beyond(16)}"], settling, PARTS[4]),
-        walk("chunks_in", [f"chunks-are h len {some('r%d', 1, 8)} {some('e%d', 1, 8)} r9 e9"], sizes=PARTS[3]),
+        walk("settle_in", [f"table-ends h records-len (i .0) (i .1) {beyond(16)}"], settling, [PARTS[4]]),
+        walk("chunks_in", [f"chunks-are h chunks-len {some('r%d', 1, 8)} {some('e%d', 1, 8)} r9 e9"], sizes=[PARTS[3]]),
         walk("change_code_in", [f"code-is h {some('r%d', 1, 4)} {some('e%d', 1, 4)}"]),
         walk("store_chunk_in", ["e2 ∙ ap (λ (c : Chunk). withChunk h x3 c) e1"]),
-        walk("renew_in", [f"renewed-is h x2 r1 r2 r3 {some('(z%d .0)', 4, 9)} len {some('e%d', 1, 12)}"], sizes=PARTS[3]),
+        walk("renew_in", [f"renewed-is h x2 r1 r2 r3 {some('(z%d .0)', 4, 9)} chunks-len {some('e%d', 1, 12)}"], sizes=[PARTS[3]]),
         walk("change_in", ["is-refused h x2 r1 r2 e1 e2 held", "is-changed h x2 r1 r2 e1 e2 failed (z3 .0) (z4 .0) e3 e4"]),
     ]
 

@@ -27,13 +27,13 @@ CONTRACTS = [
 
 
 def walks(contracts):
-    walk = lambda name, shown, loop=None, sizes=None: Walk(f"chunk_fault::{name}", contracts, shown, USES, loop, sizes)
-    emptying = Loop(16, 3, table=Changed(TABLE, lambda n: f"tableTo h len x2 {n}", None, "table-begins h len x2", f"e1 ∙ table-next h len x2 (i .0) {below(16)}"))
-    given = "h len x2 r1 r2 r3 r4 r5 e1 e2 e3 e4 e5"
+    walk = lambda name, shown, loop=None, sizes=(): Walk(f"chunk_fault::{name}", contracts, shown, USES, loop, sizes)
+    emptying = Loop(16, 3, table=Changed(TABLE, lambda n: f"tableTo h records-len x2 {n}", None, "table-begins h records-len x2", f"e1 ∙ table-next h records-len x2 (i .0) {below(16)}"))
+    given = "h chunks-len x2 r1 r2 r3 r4 r5 e1 e2 e3 e4 e5"
     return [
         walk("empty_block_in", ["block-is h (z4 .0) x2 x3 r1 r2 r3 e1 e2 e3 e4"]),
-        walk("empty_in", [f"table-ends h len x2 (i .0) (i .1) {beyond(16)}"], emptying, PARTS[4]),
-        walk("fail_in", [f"is-refused {given} held", f"is-failed {given} failed (z6 .0) (z7 .0) e6 e7"], sizes=PARTS[3]),
+        walk("empty_in", [f"table-ends h records-len x2 (i .0) (i .1) {beyond(16)}"], emptying, [PARTS[4]]),
+        walk("fail_in", [f"is-refused {given} held", f"is-failed {given} failed (z6 .0) (z7 .0) e6 e7"], sizes=[PARTS[3]]),
     ]
 
 

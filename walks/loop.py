@@ -56,7 +56,7 @@ turn = inside (inside (inside (after {self.before} (code.function .body))))
                 walk.emit(f"rewrite ! {walk.cell(local)} (λ (u : {c.row.denotation}). ‵ (fat fullShare {bracket(c.row.mir)} l{local} 0 {c.row.value('u')})) {bracket(c.begins)} refl $")
         if self.table:
             self.turned(walk, self.table.begins)
-        at = f"len {walk.names()}" if walk.sizes else walk.names()
+        at = "".join(f"{part.field}-len " for part in walk.sizes) + walk.names()
         walk.emit(f"first ! $ blocks ! $ loops ! 𝓣 Nearer Nearer-wf (At {at}) (turns {at}) (0, {self.start})")
         self.cells = place.holds_all(self.held(made)).but(now=self.now())
         outer, walk.lines = walk.lines, []
@@ -87,7 +87,7 @@ turn = inside (inside (inside (after {self.before} (code.function .body))))
             value = "(vptr b o)" if i == 1 else self.cells.held[i].v if i in self.cells.held else None
             cells.append(f"‵ (fat fullShare (ty {i}) l{i} 0 {value}) ∷ ‵ (fdies (ty {i}) l{i})" if value else f"‵ (froom (ty {i}) l{i} 0) ∷ ‵ (fdies (ty {i}) l{i})")
         context = [walk.lent(self.now()), "‵ (flft κ q)"] if walk.mut else ["‵ (flft κ q)", walk.lent("h")]
-        size = f" (len : length (h .{walk.sizes.field}) ≡ {walk.sizes.count})" if walk.sizes else ""
+        size = "".join(f" ({part.field}-len : length (h .{part.field}) ≡ {part.count})" for part in walk.sizes)
         lines = "\n".join("  " + line for line in self.lines)
         return f"""
       abbrev Upto : Type 0

@@ -24,17 +24,17 @@ CONTRACTS = [
 
 
 def walks(contracts):
-    on = f"counts-on (h .places) len (i .0) (i .1) {below(64)} r1 e1 r2 e2"
+    on = f"counts-on (h .places) places-len (i .0) (i .1) {below(64)} r1 e1 r2 e2"
     free = Changed(NUMBER, lambda n: f"so-far (h .places) {n}", "(refl, so-far-fits (h .places) (i .0) (i .1))", "counted-none (h .places)", f"{on} .0")
     counting = Loop(64, 3, {2: free}, good="Counting (h .places)", start="counting-starts (h .places)", next=f"{on} .1")
-    seen = "(h .places) len (i .0) (i .1) r1 e1 r2 e2"
+    seen = "(h .places) places-len (i .0) (i .1) r1 e1 r2 e2"
     looking = Loop(64, 2, good="Looking (h .places)", start="looking-starts (h .places)", next=f"looks-on {seen} held", less=f"taken-below {seen} held")
     walk = lambda name, shown, **more: Walk(f"table_places::{name}", contracts, shown, USES, **more)
     return [
         *accessors.of_part(PARTS[5])(contracts),
         walk("remove_in", ["e2 ∙ ap (λ (p : Place). withPlaces h (set (h .places) x2 p)) e1"]),
-        walk("free_in", [f"counted-all (h .places) len (i .0) {beyond(64)}"], loop=counting, sizes=PARTS[5], asked={"counted": f"so-far-below (h .places) (i .0) (i .1) {below(64)}"}),
-        walk("lowest_in", [f"found {seen} failed"], loop=looking, sizes=PARTS[5]),
+        walk("free_in", [f"counted-all (h .places) places-len (i .0) {beyond(64)}"], loop=counting, sizes=[PARTS[5]], asked={"counted": f"so-far-below (h .places) (i .0) (i .1) {below(64)}"}),
+        walk("lowest_in", [f"found {seen} failed"], loop=looking, sizes=[PARTS[5]]),
         walk("send_in", ["sends-none h x2 r1 e1 held", "sends h x2 r1 e1 failed r2 e2 r3 e3 (z4 .0) e4"]),
     ]
 

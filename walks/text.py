@@ -52,7 +52,7 @@ mir.Table: spell
 mir.Raw: raw=rawTy
 mir.Val: Val vint vptr vunit vbool
 base.Logic: SProp ent sep emp via fst∗ snd∗ exE id⊢ guard apply∗
-base.Fml: Lft GName Share ftrue fat froom fdies flft fobs fbor fres fshr-bor
+base.Fml: Lft GName Share ftrue fat froom fdies flft flent fobs fbor fres fshr-bor
 prog.Memory: Memory
 prog.Routine: Routine
 prog.Wp: Heap Out afterSeq afterBlock afterTurn Calls Loops Wp atReturn WpFn Tables
@@ -63,6 +63,7 @@ types.Kit: Given Item ‵ raw given _⊛_ some later ⋆ runs anyQ atRet Sq _$_ 
 types.Run: look look-raw store store-raw init forget stop hop fld from load lit true-lit false-lit unit-lit of-opd bin and-then no-more addr assigns assigns-last first skips jumps blocks branches land returns returns-within enter alloc1 alloc0 params1 pass1 pass0 free1 free0 exec Below again loops
 types.Tokens: lft-new lft-end shr-bor-dup shr-bor-open obor-close
 types.Mut: open-ref close-ref
+types.SemTy: Body=Behind
 sound.WpLaws: FmC fmOf WpFn-mono
 denote.Exit: yes
 denote.RattleType: owns
@@ -72,7 +73,7 @@ denote.Plain: Boolean Nothing uint-vals uint-tells uint-makes uint-lawful bool-v
 denote.Array: Array
 denote.Builtin: usize
 denote.Ref: RefT now MutRef ShrRef ptr-vals mut-tells shr-tells shr-copy
-denote.Lend: LentAgain lends-again comes-back
+denote.Lend: LentAgain lends-again comes-back lends-ref ref-back
 denote.Signature: plain
 denote.Steps: only owned nothing peeks facts heard
 denote.Enum.Laws as EL
@@ -86,7 +87,7 @@ denote.Triple.Table: entered cited
 denote.Triple.Walked: says needs Stays stay-ref stay-none stay-none-ref walkOf AllGo Walks ends-at walked goes-ref goes-none goes-none-ref walk-meets
 borrow.Author.Needs: scaled-fits
 borrow.Table.Elements: at at-mul
-borrow.Table.OneValue: part-out-at part-in-at
+borrow.Table.OneValue: part-out part-in part-out-at part-in-at
 borrow.Struct.Behind: put-at
 borrow.Struct.Items: cut-records
 borrow.Struct.Inner: cut-record

@@ -21,9 +21,9 @@ class Held:
 class Place:
     """Where the walk stands: what the locals hold, the pointers, the table's value, and how the last test came out."""
 
-    def __init__(self, held, pointers=None, now="h", within=False, below=None, rest=None, turn=None):
-        """within: in an arm. below: a part, and that an index is inside or outside of it. rest: the statements after the arm, and how many come before them. turn: in a loop, the statements after it and how many come before them."""
-        self.held, self.pointers, self.now, self.within, self.below, self.rest, self.turn = held, pointers or {}, now, within, below, rest, turn
+    def __init__(self, held, pointers=None, now="h", within=False, below=None, rest=None, turn=None, tests=0):
+        """within: in an arm. below: a part, and that an index is inside or outside of it. rest: the statements after the arm, and how many come before them. turn: in a loop, the statements after it and how many come before them. tests: how many tests were passed."""
+        self.held, self.pointers, self.now, self.within, self.below, self.rest, self.turn, self.tests = held, pointers or {}, now, within, below, rest, turn, tests
 
     def but(self, **changes):
         return Place(**{**self.__dict__, **changes})
@@ -36,13 +36,15 @@ class Place:
 
 
 class Walk:
-    def __init__(self, name, contracts, shown, uses="", loop=None, sizes=None, asked=None):
+    base = 2  # what stands before the locals
+
+    def __init__(self, name, contracts, shown, uses="", loop=None, sizes=(), asked=None):
         """name: crate::function. contracts: by name, its own and those of what it calls.
-        shown: the proof of its promise at each return, in their order. In it h is the table at entry, x2, x3, .. the parameters, r1, e1, r2, e2, .. each call's result and what it said,
-        z1, .. the table that a call left, held and failed how a test came out, len the length of an array that an index is beyond, or of sizes.
-        asked: the proof of a callee's `requires`, by the callee's name."""
+        shown: the proof of its promise at each return, in their order. In it h is the table at entry, x2, x3, .. the parameters, ok its `requires`, r1, e1, r2, e2, .. each call's result and what it said,
+        z1, .. the table that a call left, held and failed how a test came out, held2, failed2, .. of a test within the arm of another, len the length of an array that an index is beyond.
+        sizes: parts whose lengths are learnt at entry: hosts-len, .. . asked: the proof of a callee's `requires`, by the callee's name."""
         self.crate, self.name = name.split("::")
-        self.contracts, self.promise, self.shown, self.uses = contracts, contracts[name].promise, list(shown), uses
+        self.contracts, self.promise, self.asks, self.shown, self.uses = contracts, contracts[name].promise, contracts[name].asks, list(shown), uses
         self.loop, self.sizes, self.asked, self.compared = loop, sizes, asked or {}, {}
         self.id = self.name.replace("_", "-")
         self.program = mir.functions(self.crate)
@@ -55,8 +57,8 @@ class Walk:
 
     # ---- words
 
-    def cell(self, local, base=2):
-        return base + 2 * (self.count - 1 - local)
+    def cell(self, local, base=None):
+        return (self.base if base is None else base) + 2 * (self.count - 1 - local)
 
     def emit(self, line):
         self.lines.append("          " + line)
@@ -64,21 +66,21 @@ class Walk:
     def close(self, number):
         self.lines[-1] += ")" * number
 
-    def read(self, place, local, base=2):
+    def read(self, place, local, base=None):
         """The operand that is a local."""
         if local not in place.held or place.held[local].found:
             return f"(load ! {HERE} (look ! {self.cell(local, base)} refl))"
         held = place.held[local]
         return f"(load ! {HERE} (look ! {self.cell(local, base)} {{q = fullShare}} {{τ = {held.row.mir}}} {{b = l{local}}} {{o = 0}} {{v = {held.v}}} refl))"
 
-    def operand(self, place, node, base=2):
+    def operand(self, place, node, base=None):
         return "(lit ! tt)" if node[0] == "int" else self.read(place, mir.local(node)[0], base)
 
     def value(self, place, node):
         """What an operand holds: a literal, or a local."""
         return Held(node[2], NUMBER.value(node[2]), "(refl, lit< tt)", NUMBER, True) if node[0] == "int" else place.held[mir.local(node)[0]]
 
-    def write(self, place, local, had, base=2):
+    def write(self, place, local, had, base=None):
         """The write of what a local is to hold."""
         held = place.held[local]
         return f"({'store' if had else 'init'} ! {self.cell(local, base)} {{τ = {held.row.mir}}} {{v = {held.v}}} refl ({held.row.typed} {held.x} _ {held.g} .0))"
@@ -158,9 +160,10 @@ class Walk:
         if not held.found:
             self.emit(f"rewrite ! {self.cell(local)} (λ (u : Val). ‵ (fat fullShare tyBool l{local} 0 u)) (ap only (bool-tells {held.x} _ {held.g})) refl $")
             place = place.holds(local, Held(held.x, BOOL.value(held.x), held.g, BOOL))
-        inside = place.but(within=True, rest=(rest, at))
+        inside = place.but(within=True, rest=(rest, at), tests=place.tests + 1)
+        inner = str(inside.tests) if place.tests else ""
         self.emit(f"first ! $ branches ! {self.read(place, local)}")
-        for node, name in ((statement[2], "held"), (statement[3], "failed")):
+        for node, name in ((statement[2], "held" + inner), (statement[3], "failed" + inner)):
             self.emit(f"(λ {name}.")
             opened = self.go(mir.flat(node), inside.but(below=self.tested(place, local, statement, name)), None)
             self.close(opened + 1)
@@ -169,10 +172,11 @@ class Walk:
     def tested(self, place, local, statement, name):
         """What a test of an index against the length of an array tells: that it is below it, or not."""
         for node in mir.flat(statement[2]):
-            if node[0] == "assign" and node[2][0] == "addrOf" and mir.local(node[2][1])[1]:
-                part = PARTS[int(mir.local(node[2][1])[1][1][1])]
+            steps = mir.local(node[2][1])[1] if node[0] == "assign" and node[2][0] == "addrOf" else []
+            if len(steps) == 2:
+                part = PARTS[int(steps[1][1])]
                 if isinstance(part, Part) and (index := self.compared.get(local)):
-                    return part, f"({'reaches' if name == 'held' else 'passes'} {index} _ {part.count} {name} (leb→le _ _ tt))"
+                    return part, f"({'reaches' if name.startswith('held') else 'passes'} {index} _ {part.count} {name} (leb→le _ _ tt))"
         return None
 
     def assignment(self, statement, place, rest, last):
@@ -249,10 +253,10 @@ class Walk:
         else:
             self.emit("move ! (1 ∷ []) $ obor-close ! tt $ drop ! $ feqI ! (List Val) (vptr b o ∷ []) (vptr b o ∷ []) refl $ move ! (0 ∷ 3 ∷ 2 ∷ []) $ fjoin3 ! $ move ! (1 ∷ 0 ∷ []) $")
 
-    def learns(self, now, part):
+    def learns(self, now, part, name="len"):
         """The length of an array that lies there."""
         share, opened = self.opens(now)
-        self.emit(f"use1 W (given (length ({bracket(now)} .{part.field}) ≡ {part.count}) (‵ (partAt {TABLE.row} {share} {bracket(now)} b o))) ({part.field}-sized 𝓤 H A W {share} {bracket(now)} b o) $ learn ! (λ len.")
+        self.emit(f"use1 W (given (length ({bracket(now)} .{part.field}) ≡ {part.count}) (‵ (partAt {TABLE.row} {share} {bracket(now)} b o))) ({part.field}-sized 𝓤 H A W {share} {bracket(now)} b o) $ learn ! (λ {name}.")
         self.shuts(now)
         return opened + 1
 
@@ -314,18 +318,32 @@ class Walk:
 
     # ---- a call
 
-    def call(self, statement, place):
+    def calling(self, statement, place):
+        """A call: the callee, the call's number, its operands, where its result goes; the values given, these with the machine's, and what is known of them."""
         name, args, local = mir.callee(statement), mir.arguments(statement), int(statement[3][1])
         callee = self.called.setdefault(name, Callee(self.contracts[name], self.program[name]))
         self.calls += 1
-        n = self.calls
-        id, R, had, opened, now = callee.id, callee.row, local in place.held, 0, bracket(place.now)
-        values = args[1:] if callee.table else args
-        held = [self.value(place, node) for node in values]
-        xs = [x.x for x in held]
-        pairs = "".join(f" {x.x} {x.v}" for x in held)
+        held = [self.value(place, node) for node in (args[1:] if callee.table else args)]
         known = "".join(f" {x.g}" for x in held) + (f" ({self.asked[callee.name]})" if callee.asks else "")
         self.emit(f"-- _{local} = {callee.crate}::{callee.name}({', '.join(node[2] if node[0] == 'int' else f'_{mir.local(node)[0]}' for node in args)})")
+        return callee, self.calls, args, local, [x.x for x in held], "".join(f" {x.x} {x.v}" for x in held), known
+
+    def operands(self, place, args, base):
+        text = "(no-more !)"
+        for node in reversed(args):
+            text = f"(and-then ! {self.operand(place, node, base)} {text})"
+        return text
+
+    def told(self, callee, n, κs, token, t, xs):
+        """What a call gives back, its result first; the text that begins what is known of it."""
+        R = callee.row
+        ensured = f"(ensured 𝓤 H A {callee.id}.ended ({callee.id}.clauses {IN}) {κs} {nest(t + xs)} tt r)"
+        self.emit(f"use1 W (later (some (λ (r : {R.denotation}). ({token} ⊛ ‵ ({R.row} .own r (w{n} ∷ []))) ⊛ raw {ensured}))) (id⊢ 𝓤 _) $ await ! tt $ pick ! (λ r{n}. split ! $ move ! (1 ∷ []) $")
+        return f"facts ! {R.shows(f'r{n}', f'w{n}')} (λ is{n}."
+
+    def call(self, statement, place):
+        callee, n, args, local, xs, pairs, known = self.calling(statement, place)
+        id, R, had, opened, now = callee.id, callee.row, local in place.held, 0, bracket(place.now)
         if not callee.table:
             κ, κs, t, base = "", "tt", [], 3
             self.emit(f"nothing ! $ use1 W (raw (C-{id} {IN} .pre (to-{id} {AT}{pairs}))) (goes-{id} {AT}{pairs}{known}) $")
@@ -345,15 +363,10 @@ class Walk:
             κs, token = f"({κ}, tt)", f"(‵ (flft {κ} {q}) ⊛ ‵ ftrue)"
             pairs = f" {κ} {q} {t[0]}{pairs}"
             self.emit(f"use2 W (raw (C-{id} {IN} .pre (to-{id} {AT}{pairs}))) (goes-{id} {AT}{pairs}{known}) $")
-        operands = "(no-more !)"
-        for node in reversed(args):
-            operands = f"(and-then ! {self.operand(place, node, base)} {operands})"
-        self.emit(f"calls-at ! fm (C-{id} {IN}) known-{id} (to-{id} {AT}{pairs}) {operands} (λ w{n}.")
-        ensured = f"(ensured 𝓤 H A {id}.ended ({id}.clauses {IN}) {κs} {nest(t + xs)} tt r)"
-        self.emit(f"use1 W (later (some (λ (r : {R.denotation}). ({token} ⊛ ‵ ({R.row} .own r (w{n} ∷ []))) ⊛ raw {ensured}))) (id⊢ 𝓤 _) $ await ! tt $ pick ! (λ r{n}. split ! $ move ! (1 ∷ []) $")
+        self.emit(f"calls-at ! fm (C-{id} {IN}) known-{id} (to-{id} {AT}{pairs}) {self.operands(place, args, base)} (λ w{n}.")
+        facts = self.told(callee, n, κs, token, t, xs)
         opened += 2
         place = place.holds(local, Held(f"r{n}", f"w{n}", f"is{n}", R))
-        facts = f"facts ! {R.shows(f'r{n}', f'w{n}')} (λ is{n}."
         if callee.table == "&mut":
             left = "Table × " + product(["Unit {0}"] * len(xs))
             said = callee.promise(f"r{n}", f"z{n} .0", [now] + xs)
@@ -378,7 +391,7 @@ class Walk:
         return {i: Held(f"x{i}", R.value(f"x{i}") if R.machine else f"m{i}", f"g{i}", R) for i, R in self.rows.items()}
 
     def steps(self):
-        opened = self.learns("h", self.sizes) if self.sizes else 0
+        opened = sum(self.learns("h", part, f"{part.field}-len") for part in self.sizes)
         opened += self.go(mir.flat(self.mir.body), Place(self.parameters()))
         self.close(opened + self.count)
         if self.returned != len(self.shown):
@@ -428,7 +441,7 @@ En {self.names()} = {" ∷ ".join(f"(ty {i}, l{i})" for i in range(self.count))}
         held = self.parameters()
         R, xs = self.result, [x.x for x in held.values()]
         bound = "".join(f" (x{i} : {R_.denotation})" + (f" (m{i} : Val)" if held[i].v == f"m{i}" else "") for i, R_ in self.rows.items())
-        known = "".join(f" (g{i} : Is {x.row.row} {x.x} ({x.v} ∷ []))" for i, x in held.items())
+        known = "".join(f" (g{i} : Is {x.row.row} {x.x} ({x.v} ∷ []))" for i, x in held.items()) + (f" (ok : {self.asks('h', *xs)})" if self.asks else "")
         table, unit = self.mut, R is NOTHING
         args = ([] if unit else ["r", "v", "g"]) + (["z"] if table else []) + ["eq"]
         types = ("" if unit else f"(r : {R.denotation}) (v : Val) → Is {R.row} r (v ∷ []) → ") + ("(z : Table) → " if table else "")
@@ -485,25 +498,32 @@ module _ {BASE} {GIVEN} {RUN} (κ : Lft) (q : Share) (b o : ℕ) (γ : GName) (h
 """
 
     def closing(self):
-        id, me = self.id, self.crate
         reach = {i: f"(a{' .1' * (i - 1)} .0)" for i in self.rows}
         given = " ".join(f"{reach[i]}" + (f" (only ({x.row.vals} {reach[i]}))" if x.v == f"m{i}" else "") for i, x in self.parameters().items())
         are = " ".join(f"(are{' .1' * (i - 1)} .0)" for i in self.rows) or "tt"
         kn = "".join(f" known-{c.id}" for c in self.called.values())
-        triples = "".join(f"Triple 𝓤 (𝓣 .C {c.symbol}) (C-{c.id} {IN}) → " for c in self.called.values())
         vals = nest(["ptr-vals"] + [R.vals for R in self.rows.values()])
         tells = nest([f"{'mut' if self.mut else 'shr'}-tells (named 0) (κs .0) {TABLE.row}"] + [R.tells for R in self.rows.values()])
         goes = nest([f"goes-ref 𝓤 H A W 1 0 tt (plain (λ _. {TABLE.row}))" if self.mut else f"goes-none-ref 𝓤 H A W 1 (0 ∷ []) tt (plain (λ _. {TABLE.row})) yes"]
                     + [f"goes-none 𝓤 H A W 1 (λ _. {R.row}) yes (λ κs x f. refl)" for R in self.rows.values()])
+        begins, ok, ends = (f"needs 𝓤 ({self.asks('(a .0 .now)', *reach.values())}) _ (λ ok. ", " ok", ")") if self.asks else ("via 𝓤 _ (fst∗ 𝓤 _ (emp 𝓤)) ", "", "")
+        walked = f"walk 𝓤 H A W at-mem run (κs .0) (qs .0) (a .0 .ptr .0) (a .0 .ptr .1) (a .0 .name) (a .0 .now) {given + ' ' if given else ''}{are}{ok} 𝓣{kn}"
+        return self.ending(1, vals, tells, f"{begins}({walked}){ends}", goes)
+
+    def ending(self, lifetimes, vals, tells, walked, goes):
+        """From the walk to the function's contract."""
+        id, me = self.id, self.crate
+        kn = "".join(f" known-{c.id}" for c in self.called.values())
+        triples = "".join(f"Triple 𝓤 (𝓣 .C {c.symbol}) (C-{c.id} {IN}) → " for c in self.called.values())
         run = "(WpFn 𝓤 H (𝓣 .C) (𝓣 .Λ) code.function)"
         cited = "".join(f"\n    (cited 𝓤 H (C-{c.id} 𝓤 H (𝓖 .A) (𝓜 .mem) (𝓡 .run)) 𝓜 𝓡 code.env {c.symbol} {c.id}-def.routine code.calls-{c.crate.replace('_', '-')}·{c.called} ({c.id}-thm.met 𝓤 H 𝓜 𝓖 𝓡))" for c in self.called.values())
         return f"""
 module _ {BASE} {GIVEN} {RUN} where
   {id}-walks : (𝓣 : Tables 𝓤 H) → {triples}Walks 𝓤 H A me.ended stayed {run} (me.clauses {IN})
   {id}-walks 𝓣{kn} = walked 𝓤 H A me.ended stayed (me.clauses {IN}) {run} (λ κs. {vals}) (λ κs. {tells})
-      (λ κs qs bounds a _ are. via 𝓤 _ (fst∗ 𝓤 _ (emp 𝓤)) (walk 𝓤 H A W at-mem run (κs .0) (qs .0) (a .0 .ptr .0) (a .0 .ptr .1) (a .0 .name) (a .0 .now) {given + " " if given else ""}{are} 𝓣{kn}))
+      (λ κs qs bounds a _ are. {walked})
 
-  goes : AllGo 𝓤 H A W 1 (me.signature .params) (me.ended .kept) stayed
+  goes : AllGo 𝓤 H A W {lifetimes} (me.signature .params) (me.ended .kept) stayed
   goes = {goes}
 
 {id}-meets : {BASE} {GIVEN} {RUN} (𝓣 : Tables 𝓤 H) → {triples}Meets 𝓤 H A me.signature {run} (me.spec {IN})

@@ -1,3 +1,4 @@
+pub mod LentLaws
 pub mod PartLaws
-pub mod WholeLaws
+pub mod Touches
 pub mod Unique

@@ -38,13 +38,12 @@ use Rattle.network_places.specs.Sending.{onlyReply, noMessages, messagesTo, sen
 use Rattle.network_places.proofs.Laws.{sent-to-each, sent-reply}
 use Rattle.host_attempts.specs.Moves.{finishes}
 use Rattle.host_attempts.proofs.Laws.{start-ruled}
-use Rattle.event_parts.specs.declared.Parts.{Parts}
 use Rattle.event_parts.specs.declared.Acted.{Acted}
-use Rattle.event_operands.specs.Address.{hasA, addressOf, placeAt, hostAt, chunkAt, blockAt}
+use Rattle.event_operands.specs.Address.{hasA, addressOf, placeAt}
 use Rattle.event_operands.proofs.Laws.{of-sort}
 use Rattle.event_parts.specs.Acts.{byHost, byChunk, toChunk, toHost, delivered, acted}
-use Rattle.engine.specs.declared.Touched.{Touched}
-use Rattle.engine.specs.Touches.{slotHere, hostHere, chunkHere, blockHere, partsOf, touched, removedAt, mailed, stored}
+use Rattle.event_lent.specs.Touches.{removedAt}
+use Rattle.engine.proofs.Touches.{slotHere, hostHere, chunkHere, blockHere, partsOf, stored}
 
 -- what is to be shown of an event: what it leaves of the parts is the rule's
 pub record Acts (t : Table) (e : Event) : Type 0 where
@@ -243,7 +242,10 @@ module _ (t : Table) (e : Event) (ok : wellFormed t ≡ true) (inside : ranges (
       walk (λ (n : ℕ). isHost creation n ≡ true) (hasA e Operand.Place) _ _ (λ _. names .0)
       (λ _. of-sort (λ n. isHost creation n ≡ true) creation e Operand.Host inside host-0 (λ n h. h))
 
-  chunk-below : chunkHere t e < chunkLimit
+  pub host-below : hostHere t e < hostLimit
+  host-below = host-place creation (hostHere t e) host-ours (formed t ok .creation)
+
+  pub chunk-below : chunkHere t e < chunkLimit
   chunk-below =
       walk (λ (n : ℕ). n < chunkLimit) (hasA e Operand.Place) _ _ (λ _. names .1)
       (λ _. of-sort (λ n. n < chunkLimit) creation e Operand.Chunk inside (omega arith) (λ n h. chunk-place creation n h (formed t ok .creation)))
@@ -257,44 +259,12 @@ module _ (t : Table) (e : Event) (ok : wellFormed t ≡ true) (inside : ranges (
       go (suc n) q =
           block-place creation (front (hostOf t i) .block) (front-block creation (hostOf t i) (queue-of t (formed t ok) i h) (omega arith)) (formed t ok .creation)
 
-  block-below : blockHere t e < blockLimit
+  pub block-below : blockHere t e < blockLimit
   block-below =
       walk (λ (n : ℕ). n < blockLimit) (hasA e Operand.Place) _ _ (λ _. names .2)
       (λ _. walk (λ (n : ℕ). n < blockLimit) (hasA e Operand.Block) _ _
       (λ _. of-sort (λ n. n < blockLimit) creation e Operand.Block inside (omega arith) (λ n h. block-place creation n h (formed t ok .creation)))
       (λ _. front-below (hostHere t e) host-ours))
-
-  -- what the code gathers: p, i, c and b are the place, the host, the chunk and the block that it found
-  module _ (p : ℕ) (p-is : p ≡ placeAt e) where
-    pub place-inside : p < placeLimit
-    place-inside = rw p-is place-below
-
-    module _ (i c : ℕ) (i-is : i ≡ hostAt e (slotOf (t .places) p)) (c-is : c ≡ chunkAt e (slotOf (t .places) p)) where
-      pub host-inside : i < hostLimit
-      host-inside = rw (i-is, p-is) (host-place creation (hostHere t e) host-ours (formed t ok .creation))
-
-      pub chunk-inside : c < chunkLimit
-      chunk-inside = rw (c-is, p-is) chunk-below
-
-      module _ (b : ℕ) (b-is : b ≡ blockAt e (slotOf (t .places) p) (hostOf t i)) where
-        pub block-inside : b < blockLimit
-        block-inside = rw (b-is, i-is, p-is) block-below
-
-        abbrev gathered : (free : ℕ) → Parts
-        gathered free = record {
-          creation = t .creation;
-          epoch = t .epoch;
-          slot = slotOf (t .places) p;
-          host = hostOf t i;
-          chunk = chunkOf t c;
-          «set» = setOf (t .creation) b;
-          held = recordOf t c b;
-          free = free;
-        }
-
-        pub touched-is : (free : ℕ) → free ≡ freePlaces (t .places) → (d : Acted) → d ≡ acted e (gathered free)
-            → record { host = i; chunk = c; block = b; left = d } ≡ touched t e
-        touched-is free free-is d d-is = rw (d-is, free-is, b-is, c-is, i-is, p-is) refl
 
   -- what is stored back is the rules' step, where the event acts as its rule says
   module _ (x : Acts t e) where
@@ -306,18 +276,3 @@ module _ (t : Table) (e : Event) (ok : wellFormed t ≡ true) (inside : ranges (
 
     pub stored-is : left .code ≡ 0 → done (record { table = stored t e left; outcome = left .outcome }) ≡ step t e
     stored-is z = ap done (x .effect z) ∙ granted-own t e ok inside (sym (x .code) ∙ z)
-
-  -- .. in the code's words: d is where the parts stand and what is left of them, n the network
-  module _ (d : Touched) (d-is : d ≡ touched t e) where
-    pub parts-inside : (d .host < hostLimit) × (d .chunk < chunkLimit) × (d .block < blockLimit)
-    parts-inside = rw d-is (host-place creation (hostHere t e) host-ours (formed t ok .creation), chunk-below, block-below)
-
-    module _ (x : Acts t e) where
-      pub touch-refused : (d .left .code ≡ 0 → ⊥) → refused t (d .left .code) ≡ step t e
-      touch-refused k = rw d-is (refused-is x (rw d-is at k))
-
-      pub touch-granted : d .left .code ≡ 0 → (n : List Place) → n ≡ mailed (t .places) e (d .left .messages) → done (record {
-        table = withPlaces (withRecord (withChunk (withHost t (d .host) (d .left .host)) (d .chunk) (d .left .chunk)) (d .chunk) (d .block) (d .left .held)) n;
-        outcome = d .left .outcome;
-      }) ≡ step t e
-      touch-granted z n n-is = rw (n-is, d-is) (stored-is x (rw d-is at z))

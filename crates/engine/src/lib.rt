@@ -1,22 +1,21 @@
-// The access engine: creation and the single-event step. Only this crate holds the table; what it calls is handed parts.
+// The access engine: creation and the single event, on a lent table or one by value. It works where the table lies; what it calls is
+// lent the table, or handed parts.
 ghost use Prim.Native.Nat.{_<_};
 ghost use mathlib.Core.Path.{_≡_};
-ghost use mathlib.Core.Bool.{true};
+ghost use mathlib.Core.Bool.{true, not};
+ghost use lib.Dec.{eqb};
 ghost use Rattle.rules.specs.Creation.{created};
-ghost use Rattle.rules.specs.Events.{done, refused, withoutWaiting, ranges, step};
+ghost use Rattle.rules.specs.Events.{ranges, step, replyOf};
 ghost use Rattle.rules.specs.Formed.{wellFormed};
-ghost use Rattle.rules.specs.Limits.{chunkLimit};
-ghost use Rattle.engine.specs.Touches.{touched, removedAt, mailed};
-use event_parts::Acted;
-use event_parts::Parts;
+ghost use Rattle.rules.specs.Timestamps.{next};
+ghost use Rattle.engine.specs.Answers.{quietReply, answerOf};
 use rules::Answer;
 use rules::Created;
 use rules::Creation;
 use rules::Epoch;
 use rules::Event;
 use rules::Outcome;
-use rules::Place;
-use rules::Record;
+use rules::Reply;
 use rules::Table;
 
 // "Any other creation is refused with code 1 and gives no store".
@@ -26,191 +25,98 @@ pub fn create(k: Creation) -> Created
     table_creation::create(k)
 }
 
-// "same table, zeros"
-fn refuse(t: Table, code: u64) -> Answer
-    ensures { λ r. ⌜ r ≡ refused t code ⌝ }
+// ---- what is read of an event, and said of it
+
+// A code without an outcome: a refusal's, or that of an event that has none.
+fn quiet(code: u64) -> Reply
+    ensures { λ r. ⌜ r ≡ quietReply code ⌝ }
 {
-    Answer {
-        table: t,
+    Reply {
         code: code,
         outcome: Outcome::None,
     }
 }
 
-// A granted event: "new table, outcome".
-fn grant(t: Table, outcome: Outcome) -> Answer
-    ensures { λ r. ⌜ r ≡ done (record { table = t; outcome = outcome }) ⌝ }
+fn is_outside(k: Creation, e: Event) -> bool
+    ensures { λ r. ⌜ r ≡ not (ranges k e) ⌝ }
 {
+    !event_operands::in_range(k, e)
+}
+
+// "11 fail (chunk)".
+fn is_fail(e: Event) -> bool
+    ensures { λ r. ⌜ r ≡ eqb (e .kind) 11 ⌝ }
+{
+    e.kind == 11
+}
+
+fn chunk_named(e: Event) -> u64
+    ensures { λ r. ⌜ r ≡ e .a ⌝ }
+{
+    e.a
+}
+
+// "15 epoch change".
+fn is_change(e: Event) -> bool
+    ensures { λ r. ⌜ r ≡ eqb (e .kind) 15 ⌝ }
+{
+    e.kind == 15
+}
+
+fn next_of(x: Epoch) -> Epoch
+    requires { ⌜ x .0 < 4294967296 ⌝ }
+    ensures { λ r. ⌜ r ≡ next x ⌝ }
+{
+    Epoch(x.0 + 1)
+}
+
+// ---- the event, where the table lies
+
+// On a well-formed table: ranges first, then the event. Failure and epoch change touch more than one record.
+fn step_formed(t: &mut Table, e: Event) -> Reply
+    requires { ⌜ wellFormed (now t) ≡ true ⌝ }
+    ensures { λ r. ⌜ (r ≡ replyOf (step (now (t .entry)) e)) × (now (t .exit) ≡ step (now (t .entry)) e .table) ⌝ }
+{
+    if is_outside(table_numbers::creation_in(t), e) {
+        return quiet(rules::OUT_OF_RANGE);
+    }
+    if is_fail(e) {
+        return quiet(chunk_fault::fail_in(t, chunk_named(e)));
+    }
+    if is_change(e) {
+        let next = next_of(table_numbers::epoch_in(t));
+        return quiet(epoch_lent::change_in(t, next));
+    }
+    event_lent::act_in(t, e)
+}
+
+// One event, with any numbers, on any table. "Code 8 is looked for first, then ranges (1), then the order in each event".
+pub fn step_in(t: &mut Table, e: Event) -> Reply
+    ensures { λ r. ⌜ (r ≡ replyOf (step (now (t .entry)) e)) × (now (t .exit) ≡ step (now (t .entry)) e .table) ⌝ }
+{
+    if table_sound::sound_in(t) {
+        return step_formed(t, e);
+    }
+    quiet(rules::NOT_FORMED)
+}
+
+// ---- the event, by value
+
+fn answer_of(t: Table, r: Reply) -> Answer
+    ensures { λ a. ⌜ a ≡ answerOf t r ⌝ }
+{
+    let outcome = r.outcome;
     Answer {
         table: t,
-        code: rules::DONE,
+        code: r.code,
         outcome: outcome,
     }
 }
 
-// What an event leaves of the parts that it touches, and where in the table they stand.
-struct Touched {
-    host: u64,
-    chunk: u64,
-    block: u64,
-    left: Acted,
-}
-
-// An event that touches one host, one chunk, one record and the network: they are gathered, and it acts on them.
-fn touch(t: Table, e: Event) -> Touched
-    requires { ⌜ (wellFormed t ≡ true) × (ranges (t .creation) e ≡ true) ⌝ }
-    ensures { λ r. ⌜ r ≡ touched t e ⌝ }
-{
-    let k = t.creation;
-    let epoch = t.epoch;
-    let places = t.places;
-    let free = network_places::free_places(places);
-    let p = event_operands::place_at(e) as usize;
-    let place = places[p];
-    let slot = place.slot;
-    let i = event_operands::host_at(e, slot);
-    let c = event_operands::chunk_at(e, slot);
-    let host = t.hosts[i as usize];
-    let b = event_operands::block_at(e, slot, host);
-    let set = k.sets[b as usize];
-    let chunk = t.chunks[c as usize];
-    let held = t.records[c as usize * rules::BLOCKS + b as usize];
-    let left = event_parts::act(
-        e,
-        Parts {
-            creation: k,
-            epoch: epoch,
-            slot: slot,
-            host: host,
-            chunk: chunk,
-            set: set,
-            held: held,
-            free: free,
-        },
-    );
-    Touched {
-        host: i,
-        chunk: c,
-        block: b,
-        left: left,
-    }
-}
-
-// "4 deliver (place), 5 drop (place) .. The message is removed". Other events remove none: there is nothing beyond the last place.
-fn removed_at(e: Event) -> u64
-    ensures { λ r. ⌜ r ≡ removedAt e ⌝ }
-{
-    if (e.kind == 4) | (e.kind == 5) {
-        return e.a;
-    }
-    rules::PLACES as u64
-}
-
-// The network after an event: its message removed, then the new ones sent.
-fn mail(
-    places: [Place; rules::PLACES],
-    e: Event,
-    messages: [Place; rules::CHUNKS],
-) -> [Place; rules::PLACES]
-    ensures { λ r. ⌜ r ≡ mailed places e messages ⌝ }
-{
-    let left = network_places::remove(places, removed_at(e));
-    network_places::send_all(left, messages)
-}
-
-// "all its waiting entries .. go": those of the chunk's blocks.
-fn without_waiting(records: [Record; rules::RECORDS], chunk: usize) -> [Record; rules::RECORDS]
-    requires { ⌜ chunk < chunkLimit ⌝ }
-    ensures { λ r. ⌜ r ≡ withoutWaiting records chunk ⌝ }
-{
-    let empty = table_zero::waiting();
-    let mut out = records;
-    let mut b: usize = 0;
-    while b < rules::BLOCKS {
-        let j = chunk * rules::BLOCKS + b;
-        let mut r = out[j];
-        r.waiting = empty;
-        out[j] = r;
-        b = b + 1;
-    }
-    out
-}
-
-// "11 fail (chunk)": the chunk and all its records change.
-fn fail(mut t: Table, e: Event) -> Answer
-    requires { ⌜ (wellFormed t ≡ true) × (ranges (t .creation) e ≡ true) × (e .kind ≡ 11) ⌝ }
-    ensures { λ r. ⌜ r ≡ step t e ⌝ }
-{
-    let i = e.a as usize;
-    let old = t.chunks[i];
-    let failed = chunk_alone::fail(old);
-    if failed.code != rules::DONE {
-        return refuse(t, failed.code);
-    }
-    let new = failed.chunk;
-    let records = t.records;
-    let rest = without_waiting(records, i);
-    t.chunks[i] = new;
-    t.records = rest;
-    grant(t, Outcome::None)
-}
-
-// "15 epoch change": every block is settled, every chunk renewed, and the epoch grows by one.
-fn change_epoch(mut t: Table, e: Event) -> Answer
-    requires { ⌜ (wellFormed t ≡ true) × (ranges (t .creation) e ≡ true) × (e .kind ≡ 15) ⌝ }
-    ensures { λ r. ⌜ r ≡ step t e ⌝ }
-{
-    let k = t.creation;
-    let epoch = t.epoch;
-    let chunks = t.chunks;
-    let code = epoch_change::change_code(k, epoch, chunks);
-    if code != rules::DONE {
-        return refuse(t, code);
-    }
-    let next = Epoch(epoch.0 + 1);
-    let records = t.records;
-    let settled = epoch_change::settle_blocks(k, chunks, records);
-    let renewed = epoch_change::renew(k, next, chunks);
-    t.epoch = next;
-    t.chunks = renewed;
-    t.records = settled;
-    grant(t, Outcome::None)
-}
-
-// One event, with any numbers, on any table. "Code 8 is looked for first, then ranges (1), then the order in each event". What an
-// event leaves of the parts that it touches is stored back, and its messages are sent.
+// The same: its own table is lent.
 pub fn step(mut t: Table, e: Event) -> Answer
     ensures { λ r. ⌜ r ≡ step t e ⌝ }
 {
-    if !table_sound::well_formed(t) {
-        return refuse(t, rules::NOT_FORMED);
-    }
-    let k = t.creation;
-    if !event_operands::in_range(k, e) {
-        return refuse(t, rules::OUT_OF_RANGE);
-    }
-    let kind = e.kind;
-    if kind == 11 {
-        return fail(t, e);
-    }
-    if kind == 15 {
-        return change_epoch(t, e);
-    }
-    let d = touch(t, e);
-    let left = d.left;
-    if left.code != rules::DONE {
-        return refuse(t, left.code);
-    }
-    let host = left.host;
-    let chunk = left.chunk;
-    let held = left.held;
-    let outcome = left.outcome;
-    let messages = left.messages;
-    let before = t.places;
-    let places = mail(before, e, messages);
-    t.hosts[d.host as usize] = host;
-    t.chunks[d.chunk as usize] = chunk;
-    t.records[d.chunk as usize * rules::BLOCKS + d.block as usize] = held;
-    t.places = places;
-    grant(t, outcome)
+    let r = step_in(&mut t, e);
+    answer_of(t, r)
 }

@@ -1,11 +1,11 @@
--- The records of all chunks and blocks, stored block by block; the copies of a block, gathered chunk by chunk
+-- The records of all chunks and blocks, stored block by block
 use Prim.Native.Nat.{ℕ, _+_, _<_}
 use mathlib.Core.Path.{_≡_, refl, sym, _∙_}
 use mathlib.Core.Bool.{Bool, true, false, cond, not, _&&_, _||_, false≢true}
 use mathlib.Core.List.{List}
 use native.Mathlib.Decide.{ℕ-discrete}
 use native.Mathlib.Omega.{arith}
-use lib.ListN.{length, getD, set, replicate, length-set}
+use lib.ListN.{length, getD, set, length-set}
 use lib.Dec.{ltb, eqb}
 use lib.Seq.{getD-set-same, getD-set-other}
 use borrow.Author.Tests.{lt-ltb, le-ltb, eq-eqb, ne-eqb}
@@ -14,15 +14,15 @@ use Rattle.rules.specs.declared.Creation.{Creation}
 use Rattle.rules.specs.declared.Record.{Record}
 use Rattle.rules.specs.declared.Chunk.{Chunk}
 use Rattle.rules.specs.declared.Copy.{Copy}
-use Rattle.rules.specs.Events.{copyIn, copiesIn, settledIn, allLost}
+use Rattle.rules.specs.Events.{copiesIn, settledIn, allLost}
 use Rattle.rules.specs.Kinds.{isFailed}
 use Rattle.rules.specs.Limits.{chunkLimit, blockLimit}
 use Rattle.rules.specs.Settlement.{settled}
 use Rattle.rules.specs.Tables.{isBlock, setOf, at, recordsBy}
-use Rattle.rules.specs.Words.{each, every, from, numbers}
+use Rattle.rules.specs.Words.{each, every, numbers}
 use Rattle.rules.specs.Zero.{_among_, noChunk, noRecord, noCopy}
 use Rattle.rules.proofs.Lists.{grid-at, every-those}
-use Rattle.rules.proofs.Loops.{below-next, made, made-next, grid-length, grid-of, grid-same}
+use Rattle.rules.proofs.Loops.{below-next, grid-length, grid-of, grid-same}
 
 -- ---- the records by chunk and block
 
@@ -38,20 +38,6 @@ module _ (f : ℕ → ℕ → Record) where
 
 records-same : (f g : ℕ → ℕ → Record) → ((c b : ℕ) → c < chunkLimit → b < blockLimit → f c b ≡ g c b) → recordsBy f ≡ recordsBy g
 records-same f g h = grid-same chunkLimit blockLimit noRecord f g h
-
--- ---- the copies of one block, gathered chunk by chunk: below chunk i they are, the others are blank
-
-module _ (k : Creation) (chunks : List Chunk) (records : List Record) (b : ℕ) (blank : Copy) where
-  abbrev pub gathered : ℕ → List Copy
-  gathered i = made (copyIn k chunks records b) (λ _. blank) chunkLimit i
-
-  pub gathered-begin : replicate chunkLimit blank ≡ gathered 0
-  unfolding each from
-  gathered-begin = refl
-
-  pub gathered-next : (i : ℕ) → i < chunkLimit → (copies : List Copy) → copies ≡ gathered i
-      → set copies i (copyIn k chunks records b i) ≡ gathered (i + 1)
-  gathered-next i h copies is = rw is (made-next (copyIn k chunks records b) (λ _. blank) chunkLimit i h)
 
 -- ---- one block is stored, chunk by chunk: below chunk i it is
 

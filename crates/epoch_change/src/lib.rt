@@ -1,19 +1,17 @@
-// Event 15, the epoch change, in its parts: its code, every block settled, every chunk renewed.
+// Event 15, the epoch change, in its parts: its code, every chunk renewed.
 ghost use mathlib.Core.Path.{_≡_};
 ghost use mathlib.Core.Bool.{_&&_};
 ghost use lib.ListN.{getD};
 ghost use Rattle.rules.specs.Codes.{codeOf};
-ghost use Rattle.rules.specs.Events.{settledIn, anew, renewed, allLost, epochRefusals};
+ghost use Rattle.rules.specs.Events.{anew, renewed, allLost, epochRefusals};
 ghost use Rattle.rules.specs.Kinds.{isFailed};
 ghost use Rattle.rules.specs.Limits.{chunkLimit, blockLimit};
 ghost use Rattle.rules.specs.Tables.{isBlock, setOf};
 ghost use Rattle.rules.specs.Words.{if_then_else_, each, some, numbers};
 ghost use Rattle.rules.specs.Zero.{noChunk};
 use rules::Chunk;
-use rules::Copy;
 use rules::Creation;
 use rules::Epoch;
-use rules::Record;
 use rules::Set;
 use rules::State;
 
@@ -90,51 +88,6 @@ pub fn change_code(k: Creation, epoch: Epoch, chunks: [Chunk; rules::CHUNKS]) ->
         return 6;
     }
     0
-}
-
-// "Settling takes all copies of one block together": they are gathered, settled and stored back. The inner loops stand
-// here and in no function of their own, since the records are too large to hand over for each block.
-pub fn settle_blocks(
-    k: Creation,
-    chunks: [Chunk; rules::CHUNKS],
-    records: [Record; rules::RECORDS],
-) -> [Record; rules::RECORDS]
-    ensures { λ r. ⌜ r ≡ settledIn k chunks records ⌝ }
-{
-    let zero = table_zero::record();
-    let blank = Copy {
-        member: false,
-        lost: false,
-        held: zero,
-    };
-    let mut out = records;
-    let mut b: usize = 0;
-    while b < rules::BLOCKS {
-        let set = k.sets[b];
-        let mut copies = [blank; rules::CHUNKS];
-        let mut c: usize = 0;
-        while c < rules::CHUNKS {
-            let member = set.chunks[c];
-            let chunk = chunks[c];
-            let held = records[c * rules::BLOCKS + b];
-            copies[c] = Copy {
-                member: member,
-                lost: chunk.lost,
-                held: held,
-            };
-            c = c + 1;
-        }
-        let settled = epoch_settle::settle(copies);
-        let mut d: usize = 0;
-        while d < rules::CHUNKS {
-            let copy = settled[d];
-            let held = copy.held;
-            out[d * rules::BLOCKS + b] = held;
-            d = d + 1;
-        }
-        b = b + 1;
-    }
-    out
 }
 
 // A chunk that the store has begins anew in the next epoch; an unused place stays.

@@ -28,13 +28,13 @@ use rules::Slot;
 use rules::Table;
 
 // Whom an event is about: its place's slot, and the numbers of the host, the chunk, the block, the record and the place that is emptied.
-struct Here {
-    slot: Slot,
-    host: u64,
-    chunk: u64,
-    block: u64,
-    record: u64,
-    place: u64,
+pub struct Here {
+    pub slot: Slot,
+    pub host: u64,
+    pub chunk: u64,
+    pub block: u64,
+    pub record: u64,
+    pub place: u64,
 }
 
 // ---- where the parts stand

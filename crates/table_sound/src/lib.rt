@@ -186,19 +186,6 @@ fn host_at(n: Counts, used: bool, h: Host) -> bool
     is_zero_host(n, h)
 }
 
-fn hosts_formed(n: Counts, hosts: [Host; rules::HOSTS]) -> bool
-    ensures { λ r. ⌜ r ≡ hostsFormed (counted n) hosts ⌝ }
-{
-    let mut ok = true;
-    let mut i: usize = 0;
-    while i < rules::HOSTS {
-        let h = hosts[i];
-        ok = ok & host_at(n, (i as u64) < n.hosts, h);
-        i = i + 1;
-    }
-    ok
-}
-
 // ---- a chunk
 
 // Every block in the chunk's reconciliation set is one of the store's.
@@ -237,19 +224,6 @@ fn chunk_at(n: Counts, epoch: Epoch, used: bool, c: Chunk) -> bool
         return chunk_formed(n, epoch, c);
     }
     is_zero_chunk(c)
-}
-
-fn chunks_formed(n: Counts, epoch: Epoch, chunks: [Chunk; rules::CHUNKS]) -> bool
-    ensures { λ r. ⌜ r ≡ chunksFormed (counted n) epoch chunks ⌝ }
-{
-    let mut ok = true;
-    let mut i: usize = 0;
-    while i < rules::CHUNKS {
-        let c = chunks[i];
-        ok = ok & chunk_at(n, epoch, (i as u64) < n.chunks, c);
-        i = i + 1;
-    }
-    ok
 }
 
 // ---- a record
@@ -368,27 +342,6 @@ fn busy_at(n: Counts, i: u64, x: Record) -> bool
         & waiting_formed(n, w)
 }
 
-// "A chunk has a record for every block, held or not": that of chunk c and block b at c x 16 + b.
-fn records_formed(n: Counts, records: [Record; rules::RECORDS]) -> bool
-    ensures { λ r. ⌜ r ≡ recordsFormed (counted n) records ⌝ }
-{
-    let mut ok = true;
-    let mut i: usize = 0;
-    while i < rules::RECORDS {
-        // Read anew for the test that the count leads to: neither read is a copy.
-        let x = records[i];
-        if is_quiet(x) {
-            let y = records[i];
-            ok = ok & quiet_at(n, i as u64, y);
-        } else {
-            let y = records[i];
-            ok = ok & busy_at(n, i as u64, y);
-        }
-        i = i + 1;
-    }
-    ok
-}
-
 // ---- a message
 
 // "a message's block may be 0 to 15 and a timestamp anything up to 34,359,738,367"
@@ -431,43 +384,7 @@ fn place_formed(n: Counts, p: Place) -> bool
     }
 }
 
-fn places_formed(n: Counts, places: [Place; rules::PLACES]) -> bool
-    ensures { λ r. ⌜ r ≡ placesFormed (counted n) places ⌝ }
-{
-    let mut ok = true;
-    let mut i: usize = 0;
-    while i < rules::PLACES {
-        let p = places[i];
-        ok = ok & place_formed(n, p);
-        i = i + 1;
-    }
-    ok
-}
-
 // ---- the table
-
-// "A table is well formed when every number is within the ranges above, counts are within limits, waiting entries are in
-// ascending timestamp order (equal allowed), all chunks have one epoch, the store's, and unused places are zero."
-pub fn well_formed(t: Table) -> bool
-    ensures { λ r. ⌜ r ≡ wellFormed t ⌝ }
-{
-    let k = t.creation;
-    let n = Counts {
-        hosts: k.hosts,
-        chunks: k.chunks,
-        blocks: k.blocks,
-    };
-    let hosts = t.hosts;
-    let chunks = t.chunks;
-    let records = t.records;
-    let places = t.places;
-    is_creation(k)
-        & (t.epoch.0 <= rules::GREATEST_CLOCK)
-        & hosts_formed(n, hosts)
-        & chunks_formed(n, t.epoch, chunks)
-        & records_formed(n, records)
-        & places_formed(n, places)
-}
 
 // ---- the table where it lies
 

@@ -126,10 +126,10 @@ module _ {M : Type 1} (𝓤 : URA M) (H : Heap 𝓤) (A : Atoms 𝓤) (W : Given
       Nearer-wf : WellFounded Nearer
       Nearer-wf = InvImage·wf (λ (i : Upto). 16 - i .0) (Nat·lt-wfRel .wf)
 
-      module _ (len : length (h .records) ≡ 128) (l0 l1 l2 l3 l4 l5 l6 l7 : ℕ) where
+      module _ (records-len : length (h .records) ≡ 128) (l0 l1 l2 l3 l4 l5 l6 l7 : ℕ) where
         abbrev At : Upto → List (Item 𝓤)
         At i =
-            ‵ (MutRef (named 0) κ TableR.the-row .own (rt γ (tableTo h len x2 (i .0))) (vptr b o ∷ [])) ∷ ‵ (flft κ q)
+            ‵ (MutRef (named 0) κ TableR.the-row .own (rt γ (tableTo h records-len x2 (i .0))) (vptr b o ∷ [])) ∷ ‵ (flft κ q)
             ∷ ‵ (froom (ty 7) l7 0) ∷ ‵ (fdies (ty 7) l7)
             ∷ ‵ (froom (ty 6) l6 0) ∷ ‵ (fdies (ty 6) l6)
             ∷ ‵ (froom (ty 5) l5 0) ∷ ‵ (fdies (ty 5) l5)
@@ -155,17 +155,17 @@ module _ {M : Type 1} (𝓤 : URA M) (H : Heap 𝓤) (A : Atoms 𝓤) (W : Given
             assigns ! (addr ! (from ! (hop ! (look ! 14 refl) (stop !)))) (from ! (stop !)) (init ! 2 refl (tt, tt)) $
             -- _6 = chunk_fault::empty_block_in(_7, _2, _3)
             lft-new ! tt (λ ν1. move ! (1 ∷ 2 ∷ []) $
-            use2 W (later (some (λ (δ : GName). ‵ (MutRef (named 0) (ν1 ∷ []) TableR.the-row .own (rt δ (tableTo h len x2 (i .0))) (vptr b o ∷ [])) ⊛ ‵ (LentAgain TableR.the-row κ (ν1 ∷ []) q γ b o δ (tableTo h len x2 (i .0)))))) (lends-again 𝓤 H A W TableR.the-row (named 0) κ (ν1 ∷ []) q γ b o (named 0) (tableTo h len x2 (i .0))) $
+            use2 W (later (some (λ (δ : GName). ‵ (MutRef (named 0) (ν1 ∷ []) TableR.the-row .own (rt δ (tableTo h records-len x2 (i .0))) (vptr b o ∷ [])) ⊛ ‵ (LentAgain TableR.the-row κ (ν1 ∷ []) q γ b o δ (tableTo h records-len x2 (i .0)))))) (lends-again 𝓤 H A W TableR.the-row (named 0) κ (ν1 ∷ []) q γ b o (named 0) (tableTo h records-len x2 (i .0))) $
             await ! tt $ pick ! (λ δ1. split ! $ move ! (2 ∷ 0 ∷ []) $
-            use2 W (raw (C-empty-block-in 𝓤 H A at-mem run .pre (to-empty-block-in 𝓤 H A W at-mem run (ν1 ∷ []) fullShare (rt δ1 (tableTo h len x2 (i .0))) x2 (vint w64 x2) (i .0) (vint w64 (i .0))))) (goes-empty-block-in 𝓤 H A W at-mem run (ν1 ∷ []) fullShare (rt δ1 (tableTo h len x2 (i .0))) x2 (vint w64 x2) (i .0) (vint w64 (i .0)) g2 (refl, lt-of-le-of-lt (i .1) (lit< tt))) $
-            calls-at ! fm (C-empty-block-in 𝓤 H A at-mem run) known-empty-block-in (to-empty-block-in 𝓤 H A W at-mem run (ν1 ∷ []) fullShare (rt δ1 (tableTo h len x2 (i .0))) x2 (vint w64 x2) (i .0) (vint w64 (i .0))) (and-then ! (load ! (from ! (stop !)) (look ! 2 refl)) (and-then ! (load ! (from ! (stop !)) (look ! 12 {q = fullShare} {τ = tyInt w64} {b = l2} {o = 0} {v = (vint w64 x2)} refl)) (and-then ! (load ! (from ! (stop !)) (look ! 10 {q = fullShare} {τ = tyInt w64} {b = l3} {o = 0} {v = (vint w64 (i .0))} refl)) (no-more !)))) (λ w1.
-            use1 W (later (some (λ (r : Unit {0}). ((‵ (flft (ν1 ∷ []) fullShare) ⊛ ‵ ftrue) ⊛ ‵ (Nothing .own r (w1 ∷ []))) ⊛ raw (ensured 𝓤 H A empty-block-in.ended (empty-block-in.clauses 𝓤 H A at-mem run) ((ν1 ∷ []), tt) ((rt δ1 (tableTo h len x2 (i .0))), (x2, ((i .0), tt))) tt r)))) (id⊢ 𝓤 _) $ await ! tt $ pick ! (λ r1. split ! $ move ! (1 ∷ []) $
-            use1 W (some (λ (z1 : Table × (Unit {0} × (Unit {0} × Unit {0}))). ‵ (lasts empty-block-in.ended ((ν1 ∷ []), tt) ((rt δ1 (tableTo h len x2 (i .0))), (x2, ((i .0), tt))) z1) ⊛ raw (fact 𝓤 (z1 .0 ≡ withEmptied x2 (tableTo h len x2 (i .0)) (i .0))))) (id⊢ 𝓤 _) $ pick ! (λ z1. split ! $ move ! (1 ∷ []) $ heard ! (z1 .0 ≡ withEmptied x2 (tableTo h len x2 (i .0)) (i .0)) (λ e1. fsplit ! $
+            use2 W (raw (C-empty-block-in 𝓤 H A at-mem run .pre (to-empty-block-in 𝓤 H A W at-mem run (ν1 ∷ []) fullShare (rt δ1 (tableTo h records-len x2 (i .0))) x2 (vint w64 x2) (i .0) (vint w64 (i .0))))) (goes-empty-block-in 𝓤 H A W at-mem run (ν1 ∷ []) fullShare (rt δ1 (tableTo h records-len x2 (i .0))) x2 (vint w64 x2) (i .0) (vint w64 (i .0)) g2 (refl, lt-of-le-of-lt (i .1) (lit< tt))) $
+            calls-at ! fm (C-empty-block-in 𝓤 H A at-mem run) known-empty-block-in (to-empty-block-in 𝓤 H A W at-mem run (ν1 ∷ []) fullShare (rt δ1 (tableTo h records-len x2 (i .0))) x2 (vint w64 x2) (i .0) (vint w64 (i .0))) (and-then ! (load ! (from ! (stop !)) (look ! 2 refl)) (and-then ! (load ! (from ! (stop !)) (look ! 12 {q = fullShare} {τ = tyInt w64} {b = l2} {o = 0} {v = (vint w64 x2)} refl)) (and-then ! (load ! (from ! (stop !)) (look ! 10 {q = fullShare} {τ = tyInt w64} {b = l3} {o = 0} {v = (vint w64 (i .0))} refl)) (no-more !)))) (λ w1.
+            use1 W (later (some (λ (r : Unit {0}). ((‵ (flft (ν1 ∷ []) fullShare) ⊛ ‵ ftrue) ⊛ ‵ (Nothing .own r (w1 ∷ []))) ⊛ raw (ensured 𝓤 H A empty-block-in.ended (empty-block-in.clauses 𝓤 H A at-mem run) ((ν1 ∷ []), tt) ((rt δ1 (tableTo h records-len x2 (i .0))), (x2, ((i .0), tt))) tt r)))) (id⊢ 𝓤 _) $ await ! tt $ pick ! (λ r1. split ! $ move ! (1 ∷ []) $
+            use1 W (some (λ (z1 : Table × (Unit {0} × (Unit {0} × Unit {0}))). ‵ (lasts empty-block-in.ended ((ν1 ∷ []), tt) ((rt δ1 (tableTo h records-len x2 (i .0))), (x2, ((i .0), tt))) z1) ⊛ raw (fact 𝓤 (z1 .0 ≡ withEmptied x2 (tableTo h records-len x2 (i .0)) (i .0))))) (id⊢ 𝓤 _) $ pick ! (λ z1. split ! $ move ! (1 ∷ []) $ heard ! (z1 .0 ≡ withEmptied x2 (tableTo h records-len x2 (i .0)) (i .0)) (λ e1. fsplit ! $
             move ! (2 ∷ []) $ split ! $ move ! (1 ∷ []) $ facts ! Nothing (Is Nothing) (shows 𝓤 H A Nothing) r1 (w1 ∷ []) (λ is1.
             land ! (from ! (stop !)) (init ! 6 {τ = tyUnit} {v = w1} refl (nothing-lawful 𝓤 H A W .typed r1 _ is1 .0)) $ split ! $ lft-end ! tt $ move ! (0 ∷ 4 ∷ 2 ∷ []) $
-            use3 W (later (‵ (MutRef (named 0) κ TableR.the-row .own (rt γ (z1 .0)) (vptr b o ∷ [])) ⊛ ‵ (flft κ q))) (comes-back 𝓤 H A W TableR.the-row (named 0) κ (ν1 ∷ []) q γ b o δ1 (tableTo h len x2 (i .0)) (z1 .0)) $ await ! tt $ split ! $ move ! (2 ∷ 3 ∷ []) $ drop ! $ drop ! $
+            use3 W (later (‵ (MutRef (named 0) κ TableR.the-row .own (rt γ (z1 .0)) (vptr b o ∷ [])) ⊛ ‵ (flft κ q))) (comes-back 𝓤 H A W TableR.the-row (named 0) κ (ν1 ∷ []) q γ b o δ1 (tableTo h records-len x2 (i .0)) (z1 .0)) $ await ! tt $ split ! $ move ! (2 ∷ 3 ∷ []) $ drop ! $ drop ! $
             assigns-last ! (bin ! (load ! (from ! (stop !)) (look ! 10 {q = fullShare} {τ = tyInt w64} {b = l3} {o = 0} {v = (vint w64 (i .0))} refl)) (lit ! tt) (record { fits = lt-of-le-of-lt (add-one-le (reaches (i .0) _ 16 held (leb→le _ _ tt))) (lit< tt) })) (from ! (stop !)) (store ! 10 refl (tt, record { fits = lt-of-le-of-lt (add-one-le (reaches (i .0) _ 16 held (leb→le _ _ tt))) (lit< tt) })) $
-            rewrite ! 0 (λ (z : Table). ‵ (MutRef (named 0) κ TableR.the-row .own (rt γ z) (vptr b o ∷ []))) (e1 ∙ table-next h len x2 (i .0) (reaches (i .0) _ 16 held (leb→le _ _ tt))) refl $
+            rewrite ! 0 (λ (z : Table). ‵ (MutRef (named 0) κ TableR.the-row .own (rt γ z) (vptr b o ∷ []))) (e1 ∙ table-next h records-len x2 (i .0) (reaches (i .0) _ 16 held (leb→le _ _ tt))) refl $
             forget ! 2 refl $ forget ! 4 refl $ forget ! 6 refl $ forget ! 8 refl $ again ! Nearer At i (i .0 + 1, add-one-le (reaches (i .0) _ 16 held (leb→le _ _ tt))) (add-one-dec 16 (i .0) (reaches (i .0) _ 16 held (leb→le _ _ tt)))))))))))
             (λ failed.
             jumps ! $
@@ -174,7 +174,7 @@ module _ {M : Type 1} (𝓤 : URA M) (H : Heap 𝓤) (A : Atoms 𝓤) (W : Given
             returns ! (look ! 16 {q = fullShare} {τ = tyUnit} {b = l0} {o = 0} {v = vunit} refl) $
             forget ! 6 refl $ forget ! 8 refl $ forget ! 10 refl $ forget ! 12 refl $ forget ! 14 refl $ forget ! 16 refl $
             move ! (16 ∷ 17 ∷ []) $ free1 ! $ move ! (14 ∷ 15 ∷ []) $ free1 ! $ move ! (12 ∷ 13 ∷ []) $ free1 ! $ move ! (10 ∷ 11 ∷ []) $ free1 ! $ move ! (8 ∷ 9 ∷ []) $ free1 ! $ move ! (6 ∷ 7 ∷ []) $ free1 ! $ move ! (4 ∷ 5 ∷ []) $ free1 ! $ move ! (2 ∷ 3 ∷ []) $ free1 ! $ free0 ! $
-            by ! (exits (tableTo h len x2 (i .0)) (table-ends h len x2 (i .0) (i .1) (passes (i .0) _ 16 failed (leb→le _ _ tt)))))
+            by ! (exits (tableTo h records-len x2 (i .0)) (table-ends h records-len x2 (i .0) (i .1) (passes (i .0) _ 16 failed (leb→le _ _ tt)))))
 
       walk : ent 𝓤 (onEntry 𝓤 H A me.signature (κ, tt) (q, tt) x vs) (WpFn 𝓤 H C Λ code.function (vptr b o ∷ (vint w64 x2) ∷ []) Post)
       walk =
@@ -184,11 +184,11 @@ module _ {M : Type 1} (𝓤 : URA M) (H : Heap 𝓤) (A : Atoms 𝓤) (W : Given
           pass1 ! (init ! 12 refl (tt, tt)) $ pass1 ! (init ! 10 {τ = tyInt w64} {v = (vint w64 x2)} refl (uint-lawful 𝓤 H A W w64 .typed x2 _ g2 .0)) $ pass0 ! $ move ! (16 ∷ 17 ∷ []) $
           -- [t; the token; the locals]
           fsplit3 ! $ drop ! $ open-ref ! tt (mem TableR.the-row) {x = h} {b = b} {o = o} $
-          use1 W (given (length (h .records) ≡ 128) (‵ (partAt TableR.the-row fullShare h b o))) (records-sized 𝓤 H A W fullShare h b o) $ learn ! (λ len.
+          use1 W (given (length (h .records) ≡ 128) (‵ (partAt TableR.the-row fullShare h b o))) (records-sized 𝓤 H A W fullShare h b o) $ learn ! (λ records-len.
           close-ref ! tt (mem TableR.the-row) h {b = b} {o = o} $ feqI ! (List Val) (vptr b o ∷ []) (vptr b o ∷ []) refl $ fjoin3 ! $
           assigns ! (of-opd ! (lit ! tt)) (from ! (stop !)) (init ! 10 refl (tt, record { fits = lit< tt })) $
-          rewrite ! 0 (λ (z : Table). ‵ (MutRef (named 0) κ TableR.the-row .own (rt γ z) (vptr b o ∷ []))) (table-begins h len x2) refl $
-          first ! $ blocks ! $ loops ! 𝓣 Nearer Nearer-wf (At len l0 l1 l2 l3 l4 l5 l6 l7) (turns len l0 l1 l2 l3 l4 l5 l6 l7) (0, zero-le))))))))))
+          rewrite ! 0 (λ (z : Table). ‵ (MutRef (named 0) κ TableR.the-row .own (rt γ z) (vptr b o ∷ []))) (table-begins h records-len x2) refl $
+          first ! $ blocks ! $ loops ! 𝓣 Nearer Nearer-wf (At records-len l0 l1 l2 l3 l4 l5 l6 l7) (turns records-len l0 l1 l2 l3 l4 l5 l6 l7) (0, zero-le))))))))))
 
 module _ {M : Type 1} (𝓤 : URA M) (H : Heap 𝓤) (A : Atoms 𝓤) (W : Given 𝓤 H A) (at-mem : Memory → SProp 𝓤) (run : Routine → Fun 𝓤) where
   empty-in-walks : (𝓣 : Tables 𝓤 H) → Triple 𝓤 (𝓣 .C #chunk_fault·empty-block-in) (C-empty-block-in 𝓤 H A at-mem run) → Walks 𝓤 H A me.ended stayed (WpFn 𝓤 H (𝓣 .C) (𝓣 .Λ) code.function) (me.clauses 𝓤 H A at-mem run)

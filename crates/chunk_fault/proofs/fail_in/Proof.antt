@@ -215,7 +215,7 @@ module _ {M : Type 1} (𝓤 : URA M) (H : Heap 𝓤) (A : Atoms 𝓤) (W : Given
           pass1 ! (init ! 22 refl (tt, tt)) $ pass1 ! (init ! 20 {τ = tyInt w64} {v = (vint w64 x2)} refl (uint-lawful 𝓤 H A W w64 .typed x2 _ g2 .0)) $ pass0 ! $ move ! (26 ∷ 27 ∷ []) $
           -- [t; the token; the locals]
           fsplit3 ! $ drop ! $ open-ref ! tt (mem TableR.the-row) {x = h} {b = b} {o = o} $
-          use1 W (given (length (h .chunks) ≡ 8) (‵ (partAt TableR.the-row fullShare h b o))) (chunks-sized 𝓤 H A W fullShare h b o) $ learn ! (λ len.
+          use1 W (given (length (h .chunks) ≡ 8) (‵ (partAt TableR.the-row fullShare h b o))) (chunks-sized 𝓤 H A W fullShare h b o) $ learn ! (λ chunks-len.
           close-ref ! tt (mem TableR.the-row) h {b = b} {o = o} $ feqI ! (List Val) (vptr b o ∷ []) (vptr b o ∷ []) refl $ fjoin3 ! $
           assigns ! (addr ! (from ! (hop ! (look ! 24 refl) (stop !)))) (from ! (stop !)) (init ! 10 refl (tt, tt)) $
           -- _3 = table_chunks::chunk_in(_8, _2)
@@ -260,7 +260,7 @@ module _ {M : Type 1} (𝓤 : URA M) (H : Heap 𝓤) (A : Atoms 𝓤) (W : Given
           returns-within ! Post refl (look ! 26 {q = fullShare} {τ = tyInt w64} {b = l0} {o = 0} {v = w3} refl) $
           forget ! 8 refl $ forget ! 10 refl $ forget ! 12 refl $ forget ! 14 refl $ forget ! 16 refl $ forget ! 18 refl $ forget ! 20 refl $ forget ! 22 refl $ forget ! 24 refl $ forget ! 26 refl $
           move ! (26 ∷ 27 ∷ []) $ free1 ! $ move ! (24 ∷ 25 ∷ []) $ free1 ! $ move ! (22 ∷ 23 ∷ []) $ free1 ! $ move ! (20 ∷ 21 ∷ []) $ free1 ! $ move ! (18 ∷ 19 ∷ []) $ free1 ! $ move ! (16 ∷ 17 ∷ []) $ free1 ! $ move ! (14 ∷ 15 ∷ []) $ free1 ! $ move ! (12 ∷ 13 ∷ []) $ free1 ! $ move ! (10 ∷ 11 ∷ []) $ free1 ! $ move ! (8 ∷ 9 ∷ []) $ free1 ! $ move ! (6 ∷ 7 ∷ []) $ free1 ! $ move ! (4 ∷ 5 ∷ []) $ free1 ! $ move ! (2 ∷ 3 ∷ []) $ free1 ! $ free0 ! $
-          by ! (exits r3 w3 is3 h (is-refused h len x2 r1 r2 r3 r4 r5 e1 e2 e3 e4 e5 held)))
+          by ! (exits r3 w3 is3 h (is-refused h chunks-len x2 r1 r2 r3 r4 r5 e1 e2 e3 e4 e5 held)))
           (λ failed.
           assigns ! (addr ! (from ! (hop ! (look ! 24 refl) (stop !)))) (from ! (stop !)) (init ! 4 refl (tt, tt)) $
           -- _10 = table_chunks::put_chunk(_11, _2, _6)
@@ -290,7 +290,7 @@ module _ {M : Type 1} (𝓤 : URA M) (H : Heap 𝓤) (A : Atoms 𝓤) (W : Given
           returns-within ! Post refl (look ! 26 {q = fullShare} {τ = tyInt w64} {b = l0} {o = 0} {v = w3} refl) $
           forget ! 2 refl $ forget ! 4 refl $ forget ! 6 refl $ forget ! 8 refl $ forget ! 10 refl $ forget ! 12 refl $ forget ! 14 refl $ forget ! 16 refl $ forget ! 18 refl $ forget ! 20 refl $ forget ! 22 refl $ forget ! 24 refl $ forget ! 26 refl $
           move ! (26 ∷ 27 ∷ []) $ free1 ! $ move ! (24 ∷ 25 ∷ []) $ free1 ! $ move ! (22 ∷ 23 ∷ []) $ free1 ! $ move ! (20 ∷ 21 ∷ []) $ free1 ! $ move ! (18 ∷ 19 ∷ []) $ free1 ! $ move ! (16 ∷ 17 ∷ []) $ free1 ! $ move ! (14 ∷ 15 ∷ []) $ free1 ! $ move ! (12 ∷ 13 ∷ []) $ free1 ! $ move ! (10 ∷ 11 ∷ []) $ free1 ! $ move ! (8 ∷ 9 ∷ []) $ free1 ! $ move ! (6 ∷ 7 ∷ []) $ free1 ! $ move ! (4 ∷ 5 ∷ []) $ free1 ! $ move ! (2 ∷ 3 ∷ []) $ free1 ! $ free0 ! $
-          by ! (exits r3 w3 is3 (z7 .0) (is-failed h len x2 r1 r2 r3 r4 r5 e1 e2 e3 e4 e5 failed (z6 .0) (z7 .0) e6 e7)))))))))))))))))))))))))))))))))))))))))))))))))))))
+          by ! (exits r3 w3 is3 (z7 .0) (is-failed h chunks-len x2 r1 r2 r3 r4 r5 e1 e2 e3 e4 e5 failed (z6 .0) (z7 .0) e6 e7)))))))))))))))))))))))))))))))))))))))))))))))))))))
 
 module _ {M : Type 1} (𝓤 : URA M) (H : Heap 𝓤) (A : Atoms 𝓤) (W : Given 𝓤 H A) (at-mem : Memory → SProp 𝓤) (run : Routine → Fun 𝓤) where
   fail-in-walks : (𝓣 : Tables 𝓤 H) → Triple 𝓤 (𝓣 .C #table_chunks·chunk-in) (C-chunk-in 𝓤 H A at-mem run) → Triple 𝓤 (𝓣 .C #chunk_alone·fail) (C-alone-fail 𝓤 H A at-mem run) → Triple 𝓤 (𝓣 .C #chunk_fault·code-of) (C-code-of 𝓤 H A at-mem run) → Triple 𝓤 (𝓣 .C #chunk_fault·chunk-of) (C-chunk-of 𝓤 H A at-mem run) → Triple 𝓤 (𝓣 .C #chunk_fault·is-refused) (C-is-refused 𝓤 H A at-mem run) → Triple 𝓤 (𝓣 .C #table_chunks·put-chunk) (C-put-chunk 𝓤 H A at-mem run) → Triple 𝓤 (𝓣 .C #chunk_fault·empty-in) (C-empty-in 𝓤 H A at-mem run) → Walks 𝓤 H A me.ended stayed (WpFn 𝓤 H (𝓣 .C) (𝓣 .Λ) code.function) (me.clauses 𝓤 H A at-mem run)

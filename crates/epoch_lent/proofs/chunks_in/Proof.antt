@@ -131,7 +131,7 @@ module _ {M : Type 1} (𝓤 : URA M) (H : Heap 𝓤) (A : Atoms 𝓤) (W : Given
           -- [the token; t; the locals]
           move ! (1 ∷ []) $ fsplit3 ! $ drop ! $ move ! (1 ∷ 2 ∷ []) $ shr-bor-dup ! $ move ! (0 ∷ 2 ∷ []) $
           shr-bor-open ! tt (part-halves 𝓤 H A W TableR.the-row (Is TableR.the-row) (shows 𝓤 H A TableR.the-row) (LL.vals TableR.the-type TableL.the-laws) (LL.tells TableR.the-type TableL.the-laws) (LL.copy TableR.the-type TableL.the-copy 𝓤 H A W) h b o) (λ q′. move ! (1 ∷ []) $
-          use1 W (given (length (h .chunks) ≡ 8) (‵ (partAt TableR.the-row q′ h b o))) (chunks-sized 𝓤 H A W q′ h b o) $ learn ! (λ len.
+          use1 W (given (length (h .chunks) ≡ 8) (‵ (partAt TableR.the-row q′ h b o))) (chunks-sized 𝓤 H A W q′ h b o) $ learn ! (λ chunks-len.
           move ! (1 ∷ []) $ obor-close ! tt $ drop ! $ feqI ! (List Val) (vptr b o ∷ []) (vptr b o ∷ []) refl $ move ! (0 ∷ 3 ∷ 2 ∷ []) $ fjoin3 ! $ move ! (1 ∷ 0 ∷ []) $
           -- _2 = table_chunks::chunk_in(_1, 0)
           move ! (1 ∷ []) $ use1 W (‵ (ShrRef (named 0) κ TableR.the-row .own (rt γ h) (vptr b o ∷ [])) ⊛ ‵ (ShrRef (named 0) κ TableR.the-row .own (rt γ h) (vptr b o ∷ []))) (shr-copy 𝓤 H A W (named 0) κ TableR.the-row .twice (rt γ h) (vptr b o ∷ [])) $ split ! $ move ! (2 ∷ 0 ∷ []) $
@@ -206,7 +206,7 @@ module _ {M : Type 1} (𝓤 : URA M) (H : Heap 𝓤) (A : Atoms 𝓤) (W : Given
           returns ! (look ! 20 {q = fullShare} {τ = ChunksL.mir} {b = l0} {o = 0} {v = w9} refl) $
           forget ! 2 refl $ forget ! 4 refl $ forget ! 6 refl $ forget ! 8 refl $ forget ! 10 refl $ forget ! 12 refl $ forget ! 14 refl $ forget ! 16 refl $ forget ! 18 refl $ forget ! 20 refl $
           move ! (20 ∷ 21 ∷ []) $ free1 ! $ move ! (18 ∷ 19 ∷ []) $ free1 ! $ move ! (16 ∷ 17 ∷ []) $ free1 ! $ move ! (14 ∷ 15 ∷ []) $ free1 ! $ move ! (12 ∷ 13 ∷ []) $ free1 ! $ move ! (10 ∷ 11 ∷ []) $ free1 ! $ move ! (8 ∷ 9 ∷ []) $ free1 ! $ move ! (6 ∷ 7 ∷ []) $ free1 ! $ move ! (4 ∷ 5 ∷ []) $ free1 ! $ move ! (2 ∷ 3 ∷ []) $ free1 ! $ free0 ! $
-          by ! (exits r9 w9 is9 (chunks-are h len r1 r2 r3 r4 r5 r6 r7 r8 e1 e2 e3 e4 e5 e6 e7 e8 r9 e9))))))))))))))))))))))))))))))))))))))))))))))))))
+          by ! (exits r9 w9 is9 (chunks-are h chunks-len r1 r2 r3 r4 r5 r6 r7 r8 e1 e2 e3 e4 e5 e6 e7 e8 r9 e9))))))))))))))))))))))))))))))))))))))))))))))))))
 
 module _ {M : Type 1} (𝓤 : URA M) (H : Heap 𝓤) (A : Atoms 𝓤) (W : Given 𝓤 H A) (at-mem : Memory → SProp 𝓤) (run : Routine → Fun 𝓤) where
   chunks-in-walks : (𝓣 : Tables 𝓤 H) → Triple 𝓤 (𝓣 .C #table_chunks·chunk-in) (C-chunk-in 𝓤 H A at-mem run) → Triple 𝓤 (𝓣 .C #epoch_lent·ranked) (C-lent-ranked 𝓤 H A at-mem run) → Walks 𝓤 H A me.ended stayed (WpFn 𝓤 H (𝓣 .C) (𝓣 .Λ) code.function) (me.clauses 𝓤 H A at-mem run)

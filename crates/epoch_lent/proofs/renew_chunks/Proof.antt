@@ -3,7 +3,6 @@ use mathlib.Core.Path.{ap}
 use mathlib.Core.List.{List}
 use borrow.Author.Needs.{needs}
 use Rattle.rules.specs.declared.Chunk.{Chunk}
-use Rattle.epoch_lent.specs.declared.Chunks.{Chunks}
 use Rattle.epoch_lent.proofs.renew_chunks.Statement.{statement}
 use Rattle.epoch_lent.proofs.renew_chunks.Tie as tie
 

@@ -184,7 +184,7 @@ module _ {M : Type 1} (𝓤 : URA M) (H : Heap 𝓤) (A : Atoms 𝓤) (W : Given
           pass1 ! (init ! 32 refl (tt, tt)) $ pass1 ! (init ! 30 {τ = EpochL.mir} {v = m2} refl (LL.lawful EpochR.the-type EpochL.the-laws 𝓤 H A W .typed x2 _ g2 .0)) $ pass0 ! $ move ! (36 ∷ 37 ∷ []) $
           -- [t; the token; the locals]
           fsplit3 ! $ drop ! $ open-ref ! tt (mem TableR.the-row) {x = h} {b = b} {o = o} $
-          use1 W (given (length (h .chunks) ≡ 8) (‵ (partAt TableR.the-row fullShare h b o))) (chunks-sized 𝓤 H A W fullShare h b o) $ learn ! (λ len.
+          use1 W (given (length (h .chunks) ≡ 8) (‵ (partAt TableR.the-row fullShare h b o))) (chunks-sized 𝓤 H A W fullShare h b o) $ learn ! (λ chunks-len.
           close-ref ! tt (mem TableR.the-row) h {b = b} {o = o} $ feqI ! (List Val) (vptr b o ∷ []) (vptr b o ∷ []) refl $ fjoin3 ! $
           assigns ! (addr ! (from ! (hop ! (look ! 34 refl) (stop !)))) (from ! (stop !)) (init ! 24 refl (tt, tt)) $
           -- _3 = table_numbers::creation_in(_6)
@@ -326,7 +326,7 @@ module _ {M : Type 1} (𝓤 : URA M) (H : Heap 𝓤) (A : Atoms 𝓤) (W : Given
           returns ! (look ! 36 {q = fullShare} {τ = tyUnit} {b = l0} {o = 0} {v = vunit} refl) $
           forget ! 2 refl $ forget ! 4 refl $ forget ! 6 refl $ forget ! 8 refl $ forget ! 10 refl $ forget ! 12 refl $ forget ! 14 refl $ forget ! 16 refl $ forget ! 18 refl $ forget ! 20 refl $ forget ! 22 refl $ forget ! 24 refl $ forget ! 26 refl $ forget ! 28 refl $ forget ! 30 refl $ forget ! 32 refl $ forget ! 34 refl $ forget ! 36 refl $
           move ! (36 ∷ 37 ∷ []) $ free1 ! $ move ! (34 ∷ 35 ∷ []) $ free1 ! $ move ! (32 ∷ 33 ∷ []) $ free1 ! $ move ! (30 ∷ 31 ∷ []) $ free1 ! $ move ! (28 ∷ 29 ∷ []) $ free1 ! $ move ! (26 ∷ 27 ∷ []) $ free1 ! $ move ! (24 ∷ 25 ∷ []) $ free1 ! $ move ! (22 ∷ 23 ∷ []) $ free1 ! $ move ! (20 ∷ 21 ∷ []) $ free1 ! $ move ! (18 ∷ 19 ∷ []) $ free1 ! $ move ! (16 ∷ 17 ∷ []) $ free1 ! $ move ! (14 ∷ 15 ∷ []) $ free1 ! $ move ! (12 ∷ 13 ∷ []) $ free1 ! $ move ! (10 ∷ 11 ∷ []) $ free1 ! $ move ! (8 ∷ 9 ∷ []) $ free1 ! $ move ! (6 ∷ 7 ∷ []) $ free1 ! $ move ! (4 ∷ 5 ∷ []) $ free1 ! $ move ! (2 ∷ 3 ∷ []) $ free1 ! $ free0 ! $
-          by ! (exits (z12 .0) (renewed-is h x2 r1 r2 r3 (z4 .0) (z5 .0) (z6 .0) (z7 .0) (z8 .0) (z9 .0) (z10 .0) (z11 .0) (z12 .0) len e1 e2 e3 e4 e5 e6 e7 e8 e9 e10 e11 e12))))))))))))))))))))))))))))))))))))))))))))))))))))))))))))))))))))))))))))))))))))))))))))))))))))
+          by ! (exits (z12 .0) (renewed-is h x2 r1 r2 r3 (z4 .0) (z5 .0) (z6 .0) (z7 .0) (z8 .0) (z9 .0) (z10 .0) (z11 .0) (z12 .0) chunks-len e1 e2 e3 e4 e5 e6 e7 e8 e9 e10 e11 e12))))))))))))))))))))))))))))))))))))))))))))))))))))))))))))))))))))))))))))))))))))))))))))))))))))
 
 module _ {M : Type 1} (𝓤 : URA M) (H : Heap 𝓤) (A : Atoms 𝓤) (W : Given 𝓤 H A) (at-mem : Memory → SProp 𝓤) (run : Routine → Fun 𝓤) where
   renew-in-walks : (𝓣 : Tables 𝓤 H) → Triple 𝓤 (𝓣 .C #table_numbers·creation-in) (C-creation-in 𝓤 H A at-mem run) → Triple 𝓤 (𝓣 .C #epoch_lent·chunks-in) (C-chunks-in 𝓤 H A at-mem run) → Triple 𝓤 (𝓣 .C #epoch_lent·renew-chunks) (C-renew-chunks 𝓤 H A at-mem run) → Triple 𝓤 (𝓣 .C #epoch_lent·store-chunk-in) (C-store-chunk-in 𝓤 H A at-mem run) → Triple 𝓤 (𝓣 .C #table_numbers·put-epoch) (C-put-epoch 𝓤 H A at-mem run) → Walks 𝓤 H A me.ended stayed (WpFn 𝓤 H (𝓣 .C) (𝓣 .Λ) code.function) (me.clauses 𝓤 H A at-mem run)

@@ -3,7 +3,6 @@ use mathlib.Core.Path.{ap}
 use mathlib.Core.List.{List}
 use borrow.Author.Needs.{needs}
 use Rattle.rules.specs.declared.Copy.{Copy}
-use Rattle.epoch_lent.specs.declared.Copies.{Copies}
 use Rattle.epoch_lent.proofs.settle_copies.Statement.{statement}
 use Rattle.epoch_lent.proofs.settle_copies.Tie as tie
 

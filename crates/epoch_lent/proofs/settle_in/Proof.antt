@@ -124,10 +124,10 @@ module _ {M : Type 1} (𝓤 : URA M) (H : Heap 𝓤) (A : Atoms 𝓤) (W : Given
       Nearer-wf : WellFounded Nearer
       Nearer-wf = InvImage·wf (λ (i : Upto). 16 - i .0) (Nat·lt-wfRel .wf)
 
-      module _ (len : length (h .records) ≡ 128) (l0 l1 l2 l3 l4 l5 l6 : ℕ) where
+      module _ (records-len : length (h .records) ≡ 128) (l0 l1 l2 l3 l4 l5 l6 : ℕ) where
         abbrev At : Upto → List (Item 𝓤)
         At i =
-            ‵ (MutRef (named 0) κ TableR.the-row .own (rt γ (tableTo h len (i .0))) (vptr b o ∷ [])) ∷ ‵ (flft κ q)
+            ‵ (MutRef (named 0) κ TableR.the-row .own (rt γ (tableTo h records-len (i .0))) (vptr b o ∷ [])) ∷ ‵ (flft κ q)
             ∷ ‵ (froom (ty 6) l6 0) ∷ ‵ (fdies (ty 6) l6)
             ∷ ‵ (froom (ty 5) l5 0) ∷ ‵ (fdies (ty 5) l5)
             ∷ ‵ (froom (ty 4) l4 0) ∷ ‵ (fdies (ty 4) l4)
@@ -152,17 +152,17 @@ module _ {M : Type 1} (𝓤 : URA M) (H : Heap 𝓤) (A : Atoms 𝓤) (W : Given
             assigns ! (addr ! (from ! (hop ! (look ! 12 refl) (stop !)))) (from ! (stop !)) (init ! 2 refl (tt, tt)) $
             -- _5 = epoch_lent::settle_block_in(_6, _2)
             lft-new ! tt (λ ν1. move ! (1 ∷ 2 ∷ []) $
-            use2 W (later (some (λ (δ : GName). ‵ (MutRef (named 0) (ν1 ∷ []) TableR.the-row .own (rt δ (tableTo h len (i .0))) (vptr b o ∷ [])) ⊛ ‵ (LentAgain TableR.the-row κ (ν1 ∷ []) q γ b o δ (tableTo h len (i .0)))))) (lends-again 𝓤 H A W TableR.the-row (named 0) κ (ν1 ∷ []) q γ b o (named 0) (tableTo h len (i .0))) $
+            use2 W (later (some (λ (δ : GName). ‵ (MutRef (named 0) (ν1 ∷ []) TableR.the-row .own (rt δ (tableTo h records-len (i .0))) (vptr b o ∷ [])) ⊛ ‵ (LentAgain TableR.the-row κ (ν1 ∷ []) q γ b o δ (tableTo h records-len (i .0)))))) (lends-again 𝓤 H A W TableR.the-row (named 0) κ (ν1 ∷ []) q γ b o (named 0) (tableTo h records-len (i .0))) $
             await ! tt $ pick ! (λ δ1. split ! $ move ! (2 ∷ 0 ∷ []) $
-            use2 W (raw (C-settle-block-in 𝓤 H A at-mem run .pre (to-settle-block-in 𝓤 H A W at-mem run (ν1 ∷ []) fullShare (rt δ1 (tableTo h len (i .0))) (i .0) (vint w64 (i .0))))) (goes-settle-block-in 𝓤 H A W at-mem run (ν1 ∷ []) fullShare (rt δ1 (tableTo h len (i .0))) (i .0) (vint w64 (i .0)) (refl, lt-of-le-of-lt (i .1) (lit< tt))) $
-            calls-at ! fm (C-settle-block-in 𝓤 H A at-mem run) known-settle-block-in (to-settle-block-in 𝓤 H A W at-mem run (ν1 ∷ []) fullShare (rt δ1 (tableTo h len (i .0))) (i .0) (vint w64 (i .0))) (and-then ! (load ! (from ! (stop !)) (look ! 2 refl)) (and-then ! (load ! (from ! (stop !)) (look ! 10 {q = fullShare} {τ = tyInt w64} {b = l2} {o = 0} {v = (vint w64 (i .0))} refl)) (no-more !))) (λ w1.
-            use1 W (later (some (λ (r : Unit {0}). ((‵ (flft (ν1 ∷ []) fullShare) ⊛ ‵ ftrue) ⊛ ‵ (Nothing .own r (w1 ∷ []))) ⊛ raw (ensured 𝓤 H A settle-block-in.ended (settle-block-in.clauses 𝓤 H A at-mem run) ((ν1 ∷ []), tt) ((rt δ1 (tableTo h len (i .0))), ((i .0), tt)) tt r)))) (id⊢ 𝓤 _) $ await ! tt $ pick ! (λ r1. split ! $ move ! (1 ∷ []) $
-            use1 W (some (λ (z1 : Table × (Unit {0} × Unit {0})). ‵ (lasts settle-block-in.ended ((ν1 ∷ []), tt) ((rt δ1 (tableTo h len (i .0))), ((i .0), tt)) z1) ⊛ raw (fact 𝓤 (z1 .0 ≡ withBlock (tableTo h len (i .0)) (i .0))))) (id⊢ 𝓤 _) $ pick ! (λ z1. split ! $ move ! (1 ∷ []) $ heard ! (z1 .0 ≡ withBlock (tableTo h len (i .0)) (i .0)) (λ e1. fsplit ! $
+            use2 W (raw (C-settle-block-in 𝓤 H A at-mem run .pre (to-settle-block-in 𝓤 H A W at-mem run (ν1 ∷ []) fullShare (rt δ1 (tableTo h records-len (i .0))) (i .0) (vint w64 (i .0))))) (goes-settle-block-in 𝓤 H A W at-mem run (ν1 ∷ []) fullShare (rt δ1 (tableTo h records-len (i .0))) (i .0) (vint w64 (i .0)) (refl, lt-of-le-of-lt (i .1) (lit< tt))) $
+            calls-at ! fm (C-settle-block-in 𝓤 H A at-mem run) known-settle-block-in (to-settle-block-in 𝓤 H A W at-mem run (ν1 ∷ []) fullShare (rt δ1 (tableTo h records-len (i .0))) (i .0) (vint w64 (i .0))) (and-then ! (load ! (from ! (stop !)) (look ! 2 refl)) (and-then ! (load ! (from ! (stop !)) (look ! 10 {q = fullShare} {τ = tyInt w64} {b = l2} {o = 0} {v = (vint w64 (i .0))} refl)) (no-more !))) (λ w1.
+            use1 W (later (some (λ (r : Unit {0}). ((‵ (flft (ν1 ∷ []) fullShare) ⊛ ‵ ftrue) ⊛ ‵ (Nothing .own r (w1 ∷ []))) ⊛ raw (ensured 𝓤 H A settle-block-in.ended (settle-block-in.clauses 𝓤 H A at-mem run) ((ν1 ∷ []), tt) ((rt δ1 (tableTo h records-len (i .0))), ((i .0), tt)) tt r)))) (id⊢ 𝓤 _) $ await ! tt $ pick ! (λ r1. split ! $ move ! (1 ∷ []) $
+            use1 W (some (λ (z1 : Table × (Unit {0} × Unit {0})). ‵ (lasts settle-block-in.ended ((ν1 ∷ []), tt) ((rt δ1 (tableTo h records-len (i .0))), ((i .0), tt)) z1) ⊛ raw (fact 𝓤 (z1 .0 ≡ withBlock (tableTo h records-len (i .0)) (i .0))))) (id⊢ 𝓤 _) $ pick ! (λ z1. split ! $ move ! (1 ∷ []) $ heard ! (z1 .0 ≡ withBlock (tableTo h records-len (i .0)) (i .0)) (λ e1. fsplit ! $
             move ! (2 ∷ []) $ split ! $ move ! (1 ∷ []) $ facts ! Nothing (Is Nothing) (shows 𝓤 H A Nothing) r1 (w1 ∷ []) (λ is1.
             land ! (from ! (stop !)) (init ! 6 {τ = tyUnit} {v = w1} refl (nothing-lawful 𝓤 H A W .typed r1 _ is1 .0)) $ split ! $ lft-end ! tt $ move ! (0 ∷ 4 ∷ 2 ∷ []) $
-            use3 W (later (‵ (MutRef (named 0) κ TableR.the-row .own (rt γ (z1 .0)) (vptr b o ∷ [])) ⊛ ‵ (flft κ q))) (comes-back 𝓤 H A W TableR.the-row (named 0) κ (ν1 ∷ []) q γ b o δ1 (tableTo h len (i .0)) (z1 .0)) $ await ! tt $ split ! $ move ! (2 ∷ 3 ∷ []) $ drop ! $ drop ! $
+            use3 W (later (‵ (MutRef (named 0) κ TableR.the-row .own (rt γ (z1 .0)) (vptr b o ∷ [])) ⊛ ‵ (flft κ q))) (comes-back 𝓤 H A W TableR.the-row (named 0) κ (ν1 ∷ []) q γ b o δ1 (tableTo h records-len (i .0)) (z1 .0)) $ await ! tt $ split ! $ move ! (2 ∷ 3 ∷ []) $ drop ! $ drop ! $
             assigns-last ! (bin ! (load ! (from ! (stop !)) (look ! 10 {q = fullShare} {τ = tyInt w64} {b = l2} {o = 0} {v = (vint w64 (i .0))} refl)) (lit ! tt) (record { fits = lt-of-le-of-lt (add-one-le (reaches (i .0) _ 16 held (leb→le _ _ tt))) (lit< tt) })) (from ! (stop !)) (store ! 10 refl (tt, record { fits = lt-of-le-of-lt (add-one-le (reaches (i .0) _ 16 held (leb→le _ _ tt))) (lit< tt) })) $
-            rewrite ! 0 (λ (z : Table). ‵ (MutRef (named 0) κ TableR.the-row .own (rt γ z) (vptr b o ∷ []))) (e1 ∙ table-next h len (i .0) (reaches (i .0) _ 16 held (leb→le _ _ tt))) refl $
+            rewrite ! 0 (λ (z : Table). ‵ (MutRef (named 0) κ TableR.the-row .own (rt γ z) (vptr b o ∷ []))) (e1 ∙ table-next h records-len (i .0) (reaches (i .0) _ 16 held (leb→le _ _ tt))) refl $
             forget ! 2 refl $ forget ! 4 refl $ forget ! 6 refl $ forget ! 8 refl $ again ! Nearer At i (i .0 + 1, add-one-le (reaches (i .0) _ 16 held (leb→le _ _ tt))) (add-one-dec 16 (i .0) (reaches (i .0) _ 16 held (leb→le _ _ tt)))))))))))
             (λ failed.
             jumps ! $
@@ -171,7 +171,7 @@ module _ {M : Type 1} (𝓤 : URA M) (H : Heap 𝓤) (A : Atoms 𝓤) (W : Given
             returns ! (look ! 14 {q = fullShare} {τ = tyUnit} {b = l0} {o = 0} {v = vunit} refl) $
             forget ! 6 refl $ forget ! 8 refl $ forget ! 10 refl $ forget ! 12 refl $ forget ! 14 refl $
             move ! (14 ∷ 15 ∷ []) $ free1 ! $ move ! (12 ∷ 13 ∷ []) $ free1 ! $ move ! (10 ∷ 11 ∷ []) $ free1 ! $ move ! (8 ∷ 9 ∷ []) $ free1 ! $ move ! (6 ∷ 7 ∷ []) $ free1 ! $ move ! (4 ∷ 5 ∷ []) $ free1 ! $ move ! (2 ∷ 3 ∷ []) $ free1 ! $ free0 ! $
-            by ! (exits (tableTo h len (i .0)) (table-ends h len (i .0) (i .1) (passes (i .0) _ 16 failed (leb→le _ _ tt)))))
+            by ! (exits (tableTo h records-len (i .0)) (table-ends h records-len (i .0) (i .1) (passes (i .0) _ 16 failed (leb→le _ _ tt)))))
 
       walk : ent 𝓤 (onEntry 𝓤 H A me.signature (κ, tt) (q, tt) x vs) (WpFn 𝓤 H C Λ code.function (vptr b o ∷ []) Post)
       walk =
@@ -181,11 +181,11 @@ module _ {M : Type 1} (𝓤 : URA M) (H : Heap 𝓤) (A : Atoms 𝓤) (W : Given
           pass1 ! (init ! 10 refl (tt, tt)) $ pass0 ! $ move ! (14 ∷ 15 ∷ []) $
           -- [t; the token; the locals]
           fsplit3 ! $ drop ! $ open-ref ! tt (mem TableR.the-row) {x = h} {b = b} {o = o} $
-          use1 W (given (length (h .records) ≡ 128) (‵ (partAt TableR.the-row fullShare h b o))) (records-sized 𝓤 H A W fullShare h b o) $ learn ! (λ len.
+          use1 W (given (length (h .records) ≡ 128) (‵ (partAt TableR.the-row fullShare h b o))) (records-sized 𝓤 H A W fullShare h b o) $ learn ! (λ records-len.
           close-ref ! tt (mem TableR.the-row) h {b = b} {o = o} $ feqI ! (List Val) (vptr b o ∷ []) (vptr b o ∷ []) refl $ fjoin3 ! $
           assigns ! (of-opd ! (lit ! tt)) (from ! (stop !)) (init ! 10 refl (tt, record { fits = lit< tt })) $
-          rewrite ! 0 (λ (z : Table). ‵ (MutRef (named 0) κ TableR.the-row .own (rt γ z) (vptr b o ∷ []))) (table-begins h len) refl $
-          first ! $ blocks ! $ loops ! 𝓣 Nearer Nearer-wf (At len l0 l1 l2 l3 l4 l5 l6) (turns len l0 l1 l2 l3 l4 l5 l6) (0, zero-le)))))))))
+          rewrite ! 0 (λ (z : Table). ‵ (MutRef (named 0) κ TableR.the-row .own (rt γ z) (vptr b o ∷ []))) (table-begins h records-len) refl $
+          first ! $ blocks ! $ loops ! 𝓣 Nearer Nearer-wf (At records-len l0 l1 l2 l3 l4 l5 l6) (turns records-len l0 l1 l2 l3 l4 l5 l6) (0, zero-le)))))))))
 
 module _ {M : Type 1} (𝓤 : URA M) (H : Heap 𝓤) (A : Atoms 𝓤) (W : Given 𝓤 H A) (at-mem : Memory → SProp 𝓤) (run : Routine → Fun 𝓤) where
   settle-in-walks : (𝓣 : Tables 𝓤 H) → Triple 𝓤 (𝓣 .C #epoch_lent·settle-block-in) (C-settle-block-in 𝓤 H A at-mem run) → Walks 𝓤 H A me.ended stayed (WpFn 𝓤 H (𝓣 .C) (𝓣 .Λ) code.function) (me.clauses 𝓤 H A at-mem run)

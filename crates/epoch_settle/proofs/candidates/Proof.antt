@@ -1,8 +1,8 @@
 -- `epoch_settle::candidates` meets its contract
 use Prim.Native.Nat.{_≤_, _+_, _-_}
-use mathlib.Core.Path.{_≡_, refl, sym, ap, _∙_}
+use mathlib.Core.Path.{_≡_, ap}
 use native.Mathlib.Omega.{arith}
-use lib.ListN.{length, length-map, drop}
+use lib.ListN.{length, drop}
 use borrow.Author.Needs.{needs}
 use Rattle.rules.specs.declared.Copy.{Copy}
 use Rattle.rules.specs.Settlement.{notLost, waiting}

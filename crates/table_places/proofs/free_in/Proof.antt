@@ -147,7 +147,7 @@ module _ {M : Type 1} (𝓤 : URA M) (H : Heap 𝓤) (A : Atoms 𝓤) (W : Given
       Nearer-wf : WellFounded Nearer
       Nearer-wf = InvImage·wf (λ (i : Upto). 64 - i .0) (Nat·lt-wfRel .wf)
 
-      module _ (len : length (h .places) ≡ 64) (l0 l1 l2 l3 l4 l5 l6 : ℕ) where
+      module _ (places-len : length (h .places) ≡ 64) (l0 l1 l2 l3 l4 l5 l6 : ℕ) where
         abbrev At : Upto → List (Item 𝓤)
         At i =
             ‵ (flft κ q) ∷ ‵ (ShrRef (named 0) κ TableR.the-row .own (rt γ h) (vptr b o ∷ []))
@@ -187,8 +187,8 @@ module _ {M : Type 1} (𝓤 : URA M) (H : Heap 𝓤) (A : Atoms 𝓤) (W : Given
             use1 W (raw (fact 𝓤 (r2 ≡ cond (not (isFree r1)) (so-far (h .places) (i .0)) ((so-far (h .places) (i .0)) + 1)))) (said-places-counted 𝓤 H A at-mem run (so-far (h .places) (i .0)) r1 r2) $ heard ! (r2 ≡ cond (not (isFree r1)) (so-far (h .places) (i .0)) ((so-far (h .places) (i .0)) + 1)) (λ e2. split ! $ drop ! $ facts ! usize (Is usize) (shows 𝓤 H A usize) r2 (w2 ∷ []) (λ is2.
             land ! (from ! (stop !)) (store ! 10 {τ = tyInt w64} {v = w2} refl (uint-lawful 𝓤 H A W w64 .typed r2 _ is2 .0)) $
             assigns-last ! (bin ! (load ! (from ! (stop !)) (look ! 8 {q = fullShare} {τ = tyInt w64} {b = l3} {o = 0} {v = (vint w64 (i .0))} refl)) (lit ! tt) (record { fits = lt-of-le-of-lt (add-one-le (reaches (i .0) _ 64 held (leb→le _ _ tt))) (lit< tt) })) (from ! (stop !)) (store ! 8 refl (tt, record { fits = lt-of-le-of-lt (add-one-le (reaches (i .0) _ 64 held (leb→le _ _ tt))) (lit< tt) })) $
-            rewrite ! 10 (λ (u : Val). ‵ (fat fullShare (tyInt w64) l2 0 u)) (ap only (uint-tells w64 r2 _ is2) ∙ ap (vint w64) (counts-on (h .places) len (i .0) (i .1) (reaches (i .0) _ 64 held (leb→le _ _ tt)) r1 e1 r2 e2 .0)) refl $
-            forget ! 2 refl $ forget ! 4 refl $ forget ! 6 refl $ again ! Nearer At i (i .0 + 1, counts-on (h .places) len (i .0) (i .1) (reaches (i .0) _ 64 held (leb→le _ _ tt)) r1 e1 r2 e2 .1) (add-one-dec 64 (i .0) (reaches (i .0) _ 64 held (leb→le _ _ tt))))))))))))
+            rewrite ! 10 (λ (u : Val). ‵ (fat fullShare (tyInt w64) l2 0 u)) (ap only (uint-tells w64 r2 _ is2) ∙ ap (vint w64) (counts-on (h .places) places-len (i .0) (i .1) (reaches (i .0) _ 64 held (leb→le _ _ tt)) r1 e1 r2 e2 .0)) refl $
+            forget ! 2 refl $ forget ! 4 refl $ forget ! 6 refl $ again ! Nearer At i (i .0 + 1, counts-on (h .places) places-len (i .0) (i .1) (reaches (i .0) _ 64 held (leb→le _ _ tt)) r1 e1 r2 e2 .1) (add-one-dec 64 (i .0) (reaches (i .0) _ 64 held (leb→le _ _ tt))))))))))))
             (λ failed.
             jumps ! $
             exec ! C Λ (En l0 l1 l2 l3 l4 l5 l6) (after 3 (code.function .body)) (atRet (En l0 l1 l2 l3 l4 l5 l6) Post) $
@@ -196,7 +196,7 @@ module _ {M : Type 1} (𝓤 : URA M) (H : Heap 𝓤) (A : Atoms 𝓤) (W : Given
             returns ! (look ! 14 {q = fullShare} {τ = tyInt w64} {b = l0} {o = 0} {v = (vint w64 (so-far (h .places) (i .0)))} refl) $
             forget ! 4 refl $ forget ! 6 refl $ forget ! 8 refl $ forget ! 10 refl $ forget ! 12 refl $ forget ! 14 refl $
             move ! (14 ∷ 15 ∷ []) $ free1 ! $ move ! (12 ∷ 13 ∷ []) $ free1 ! $ move ! (10 ∷ 11 ∷ []) $ free1 ! $ move ! (8 ∷ 9 ∷ []) $ free1 ! $ move ! (6 ∷ 7 ∷ []) $ free1 ! $ move ! (4 ∷ 5 ∷ []) $ free1 ! $ move ! (2 ∷ 3 ∷ []) $ free1 ! $ free0 ! $
-            by ! (exits (so-far (h .places) (i .0)) (vint w64 (so-far (h .places) (i .0))) (refl, so-far-fits (h .places) (i .0) (i .1)) (counted-all (h .places) len (i .0) (passes (i .0) _ 64 failed (leb→le _ _ tt)))))
+            by ! (exits (so-far (h .places) (i .0)) (vint w64 (so-far (h .places) (i .0))) (refl, so-far-fits (h .places) (i .0) (i .1)) (counted-all (h .places) places-len (i .0) (passes (i .0) _ 64 failed (leb→le _ _ tt)))))
 
       walk : ent 𝓤 (onEntry 𝓤 H A me.signature (κ, tt) (q, tt) x vs) (WpFn 𝓤 H C Λ code.function (vptr b o ∷ []) Post)
       walk =
@@ -207,12 +207,12 @@ module _ {M : Type 1} (𝓤 : URA M) (H : Heap 𝓤) (A : Atoms 𝓤) (W : Given
           -- [the token; t; the locals]
           move ! (1 ∷ []) $ fsplit3 ! $ drop ! $ move ! (1 ∷ 2 ∷ []) $ shr-bor-dup ! $ move ! (0 ∷ 2 ∷ []) $
           shr-bor-open ! tt (part-halves 𝓤 H A W TableR.the-row (Is TableR.the-row) (shows 𝓤 H A TableR.the-row) (LL.vals TableR.the-type TableL.the-laws) (LL.tells TableR.the-type TableL.the-laws) (LL.copy TableR.the-type TableL.the-copy 𝓤 H A W) h b o) (λ q′. move ! (1 ∷ []) $
-          use1 W (given (length (h .places) ≡ 64) (‵ (partAt TableR.the-row q′ h b o))) (places-sized 𝓤 H A W q′ h b o) $ learn ! (λ len.
+          use1 W (given (length (h .places) ≡ 64) (‵ (partAt TableR.the-row q′ h b o))) (places-sized 𝓤 H A W q′ h b o) $ learn ! (λ places-len.
           move ! (1 ∷ []) $ obor-close ! tt $ drop ! $ feqI ! (List Val) (vptr b o ∷ []) (vptr b o ∷ []) refl $ move ! (0 ∷ 3 ∷ 2 ∷ []) $ fjoin3 ! $ move ! (1 ∷ 0 ∷ []) $
           assigns ! (of-opd ! (lit ! tt)) (from ! (stop !)) (init ! 10 refl (tt, record { fits = lit< tt })) $
           assigns ! (of-opd ! (lit ! tt)) (from ! (stop !)) (init ! 8 refl (tt, record { fits = lit< tt })) $
           rewrite ! 10 (λ (u : ℕ). ‵ (fat fullShare (tyInt w64) l2 0 (vint w64 u))) (counted-none (h .places)) refl $
-          first ! $ blocks ! $ loops ! 𝓣 Nearer Nearer-wf (At len l0 l1 l2 l3 l4 l5 l6) (turns len l0 l1 l2 l3 l4 l5 l6) (0, counting-starts (h .places)))))))))))
+          first ! $ blocks ! $ loops ! 𝓣 Nearer Nearer-wf (At places-len l0 l1 l2 l3 l4 l5 l6) (turns places-len l0 l1 l2 l3 l4 l5 l6) (0, counting-starts (h .places)))))))))))
 
 module _ {M : Type 1} (𝓤 : URA M) (H : Heap 𝓤) (A : Atoms 𝓤) (W : Given 𝓤 H A) (at-mem : Memory → SProp 𝓤) (run : Routine → Fun 𝓤) where
   free-in-walks : (𝓣 : Tables 𝓤 H) → Triple 𝓤 (𝓣 .C #table_places·place-in) (C-place-in 𝓤 H A at-mem run) → Triple 𝓤 (𝓣 .C #table_places·counted) (C-places-counted 𝓤 H A at-mem run) → Walks 𝓤 H A me.ended stayed (WpFn 𝓤 H (𝓣 .C) (𝓣 .Λ) code.function) (me.clauses 𝓤 H A at-mem run)

@@ -147,7 +147,7 @@ module _ {M : Type 1} (𝓤 : URA M) (H : Heap 𝓤) (A : Atoms 𝓤) (W : Given
       Nearer-wf : WellFounded Nearer
       Nearer-wf = InvImage·wf (λ (i : Upto). 64 - i .0) (Nat·lt-wfRel .wf)
 
-      module _ (len : length (h .places) ≡ 64) (l0 l1 l2 l3 l4 : ℕ) where
+      module _ (places-len : length (h .places) ≡ 64) (l0 l1 l2 l3 l4 : ℕ) where
         abbrev At : Upto → List (Item 𝓤)
         At i =
             ‵ (flft κ q) ∷ ‵ (ShrRef (named 0) κ TableR.the-row .own (rt γ h) (vptr b o ∷ []))
@@ -183,8 +183,8 @@ module _ {M : Type 1} (𝓤 : URA M) (H : Heap 𝓤) (A : Atoms 𝓤) (W : Given
             (λ held.
             skips ! $
             exec ! C Λ (En l0 l1 l2 l3 l4) (after 3 turn) (anyQ (Turned i)) $
-            assigns-last ! (bin ! (load ! (from ! (stop !)) (look ! 6 {q = fullShare} {τ = tyInt w64} {b = l2} {o = 0} {v = (vint w64 (i .0))} refl)) (lit ! tt) (record { fits = lt-of-le-of-lt (add-one-le (taken-below (h .places) len (i .0) (i .1) r1 e1 r2 e2 held)) (lit< tt) })) (from ! (stop !)) (store ! 6 refl (tt, record { fits = lt-of-le-of-lt (add-one-le (taken-below (h .places) len (i .0) (i .1) r1 e1 r2 e2 held)) (lit< tt) })) $
-            forget ! 2 refl $ forget ! 4 refl $ again ! Nearer At i (i .0 + 1, looks-on (h .places) len (i .0) (i .1) r1 e1 r2 e2 held) (add-one-dec 64 (i .0) (taken-below (h .places) len (i .0) (i .1) r1 e1 r2 e2 held)))
+            assigns-last ! (bin ! (load ! (from ! (stop !)) (look ! 6 {q = fullShare} {τ = tyInt w64} {b = l2} {o = 0} {v = (vint w64 (i .0))} refl)) (lit ! tt) (record { fits = lt-of-le-of-lt (add-one-le (taken-below (h .places) places-len (i .0) (i .1) r1 e1 r2 e2 held)) (lit< tt) })) (from ! (stop !)) (store ! 6 refl (tt, record { fits = lt-of-le-of-lt (add-one-le (taken-below (h .places) places-len (i .0) (i .1) r1 e1 r2 e2 held)) (lit< tt) })) $
+            forget ! 2 refl $ forget ! 4 refl $ again ! Nearer At i (i .0 + 1, looks-on (h .places) places-len (i .0) (i .1) r1 e1 r2 e2 held) (add-one-dec 64 (i .0) (taken-below (h .places) places-len (i .0) (i .1) r1 e1 r2 e2 held)))
             (λ failed.
             jumps ! $
             exec ! C Λ (En l0 l1 l2 l3 l4) (after 2 (code.function .body)) (atRet (En l0 l1 l2 l3 l4) Post) $
@@ -192,7 +192,7 @@ module _ {M : Type 1} (𝓤 : URA M) (H : Heap 𝓤) (A : Atoms 𝓤) (W : Given
             returns ! (look ! 10 {q = fullShare} {τ = tyInt w64} {b = l0} {o = 0} {v = (vint w64 (i .0))} refl) $
             forget ! 2 refl $ forget ! 4 refl $ forget ! 6 refl $ forget ! 8 refl $ forget ! 10 refl $
             move ! (10 ∷ 11 ∷ []) $ free1 ! $ move ! (8 ∷ 9 ∷ []) $ free1 ! $ move ! (6 ∷ 7 ∷ []) $ free1 ! $ move ! (4 ∷ 5 ∷ []) $ free1 ! $ move ! (2 ∷ 3 ∷ []) $ free1 ! $ free0 ! $
-            by ! (exits (i .0) (vint w64 (i .0)) (refl, lt-of-le-of-lt (i .1 .0) (lit< tt)) (found (h .places) len (i .0) (i .1) r1 e1 r2 e2 failed)))))))))))
+            by ! (exits (i .0) (vint w64 (i .0)) (refl, lt-of-le-of-lt (i .1 .0) (lit< tt)) (found (h .places) places-len (i .0) (i .1) r1 e1 r2 e2 failed)))))))))))
 
       walk : ent 𝓤 (onEntry 𝓤 H A me.signature (κ, tt) (q, tt) x vs) (WpFn 𝓤 H C Λ code.function (vptr b o ∷ []) Post)
       walk =
@@ -203,10 +203,10 @@ module _ {M : Type 1} (𝓤 : URA M) (H : Heap 𝓤) (A : Atoms 𝓤) (W : Given
           -- [the token; t; the locals]
           move ! (1 ∷ []) $ fsplit3 ! $ drop ! $ move ! (1 ∷ 2 ∷ []) $ shr-bor-dup ! $ move ! (0 ∷ 2 ∷ []) $
           shr-bor-open ! tt (part-halves 𝓤 H A W TableR.the-row (Is TableR.the-row) (shows 𝓤 H A TableR.the-row) (LL.vals TableR.the-type TableL.the-laws) (LL.tells TableR.the-type TableL.the-laws) (LL.copy TableR.the-type TableL.the-copy 𝓤 H A W) h b o) (λ q′. move ! (1 ∷ []) $
-          use1 W (given (length (h .places) ≡ 64) (‵ (partAt TableR.the-row q′ h b o))) (places-sized 𝓤 H A W q′ h b o) $ learn ! (λ len.
+          use1 W (given (length (h .places) ≡ 64) (‵ (partAt TableR.the-row q′ h b o))) (places-sized 𝓤 H A W q′ h b o) $ learn ! (λ places-len.
           move ! (1 ∷ []) $ obor-close ! tt $ drop ! $ feqI ! (List Val) (vptr b o ∷ []) (vptr b o ∷ []) refl $ move ! (0 ∷ 3 ∷ 2 ∷ []) $ fjoin3 ! $ move ! (1 ∷ 0 ∷ []) $
           assigns ! (of-opd ! (lit ! tt)) (from ! (stop !)) (init ! 6 refl (tt, record { fits = lit< tt })) $
-          first ! $ blocks ! $ loops ! 𝓣 Nearer Nearer-wf (At len l0 l1 l2 l3 l4) (turns len l0 l1 l2 l3 l4) (0, looking-starts (h .places)))))))))
+          first ! $ blocks ! $ loops ! 𝓣 Nearer Nearer-wf (At places-len l0 l1 l2 l3 l4) (turns places-len l0 l1 l2 l3 l4) (0, looking-starts (h .places)))))))))
 
 module _ {M : Type 1} (𝓤 : URA M) (H : Heap 𝓤) (A : Atoms 𝓤) (W : Given 𝓤 H A) (at-mem : Memory → SProp 𝓤) (run : Routine → Fun 𝓤) where
   lowest-in-walks : (𝓣 : Tables 𝓤 H) → Triple 𝓤 (𝓣 .C #table_places·place-in) (C-place-in 𝓤 H A at-mem run) → Triple 𝓤 (𝓣 .C #table_places·is-taken) (C-is-taken 𝓤 H A at-mem run) → Walks 𝓤 H A me.ended stayed (WpFn 𝓤 H (𝓣 .C) (𝓣 .Λ) code.function) (me.clauses 𝓤 H A at-mem run)

@@ -1,23 +1,18 @@
--- An event that touches one host, one chunk, one record and the network: where they stand, what it leaves of them, and the table
--- after it
+-- An event that touches one host, one chunk, one record and the network, on a well-formed table: where they stand in the rules' words,
+-- and the table after it
 use Prim.Native.Nat.{ℕ}
-use mathlib.Core.Bool.{_||_}
 use mathlib.Core.List.{List}
-use lib.Dec.{eqb}
 use Rattle.rules.specs.declared.Slot.{Slot}
 use Rattle.rules.specs.declared.Place.{Place}
 use Rattle.rules.specs.declared.Table.{Table}
 use Rattle.rules.specs.declared.Event.{Event}
-use Rattle.rules.specs.Limits.{placeLimit}
 use Rattle.rules.specs.Network.{freePlaces, removed}
 use Rattle.rules.specs.Tables.{setOf, hostOf, chunkOf, recordOf, slotOf, withHost, withChunk, withRecord, withPlaces}
-use Rattle.rules.specs.Words.{if_then_else_}
 use Rattle.network_places.specs.Sending.{sentAll}
 use Rattle.event_operands.specs.Address.{placeAt, hostAt, chunkAt, blockAt}
 use Rattle.event_parts.specs.declared.Parts.{Parts}
 use Rattle.event_parts.specs.declared.Acted.{Acted}
-use Rattle.event_parts.specs.Acts.{acted}
-use Rattle.engine.specs.declared.Touched.{Touched}
+use Rattle.event_lent.specs.Touches.{removedAt}
 
 -- whom it is about
 abbrev pub slotHere : Table → Event → Slot
@@ -43,13 +38,6 @@ partsOf t e = record {
   held = recordOf t (chunkHere t e) (blockHere t e);
   free = freePlaces (t .places);
 }
-
-abbrev pub touched : Table → Event → Touched
-touched t e = record { host = hostHere t e; chunk = chunkHere t e; block = blockHere t e; left = acted e (partsOf t e) }
-
--- "4 deliver (place), 5 drop (place) .. The message is removed". Other events remove none: there is nothing beyond the last place
-abbrev pub removedAt : Event → ℕ
-removedAt e = if eqb (e .kind) 4 || eqb (e .kind) 5 then e .a else placeLimit
 
 -- the network after it: its message removed, then the new ones sent
 abbrev pub mailed : List Place → Event → (messages : List Place) → List Place
