@@ -11,7 +11,7 @@ ME, NAME, ID = "replay", "run_in", "run-in"
 EVENT, REPLY = row("rules::Event"), row("rules::Reply")
 CONTRACTS = [gives("replay::mix_reply", lambda total, reply: f"mixedWith {total} ({reply} .code) ({reply} .outcome)")]
 USES = """Prim.Native.Nat: _/_
-prog.Routine: Env
+prog.Wp: Env
 types.SemTy: Body=Lent
 base.Fml: flent
 denote.Builtin: u64

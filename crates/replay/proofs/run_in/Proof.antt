@@ -45,7 +45,7 @@ use denote.Triple.Table.{entered, cited}
 use denote.Triple.Walked.{says, Stays, stay-none, walkOf, AllGo, Walks, ends-at, walked, goes-none, walk-meets}
 use borrow.Table.OneValue.{part-out, part-in}
 use Prim.Native.Nat.{_/_}
-use prog.Routine.{Env}
+use prog.Wp.{Env}
 use types.SemTy.{Body as Lent}
 use base.Fml.{flent}
 use denote.Builtin.{u64}
