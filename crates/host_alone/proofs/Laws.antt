@@ -13,3 +13,6 @@ module _ (rows : List Row) (old new : Host) (code : ℕ) (code-is : code ≡ cod
 
   pub moves : code ≡ 0 → _≡_ {A = Moved} (record { code = 0; host = new }) (record { code = codeOf rows; host = unlessRefused rows old new })
   moves h = rw (← code-is, h) refl
+
+  pub moves-to : (now : Host) → code ≡ 0 → now ≡ new → _≡_ {A = Moved} (record { code = 0; host = now }) (record { code = codeOf rows; host = unlessRefused rows old new })
+  moves-to now h e = rw (← code-is, h, e) refl
