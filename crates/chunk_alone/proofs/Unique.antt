@@ -1,18 +1,18 @@
 -- Each public function's promise determines its answer
 use Rattle.rules.proofs.Unique.{unique, Determined}
-use Rattle.chunk_alone.proofs.fail.Reads as fail-contract
-use Rattle.chunk_alone.proofs.give_lease.Reads as give-lease-contract
-use Rattle.chunk_alone.proofs.recover.Reads as recover-contract
-use Rattle.chunk_alone.proofs.take_lease.Reads as take-lease-contract
+use Rattle.chunk_alone.proofs.fail.Reads as fail_contract
+use Rattle.chunk_alone.proofs.give_lease.Reads as give_lease_contract
+use Rattle.chunk_alone.proofs.recover.Reads as recover_contract
+use Rattle.chunk_alone.proofs.take_lease.Reads as take_lease_contract
 
-fail-unique : Determined fail-contract.Learnt
+fail-unique : Determined fail_contract.Learnt
 fail-unique κs a x y s u = unique
 
-recover-unique : Determined recover-contract.Learnt
-recover-unique κs a x y s u = unique
+recover_unique : Determined recover_contract.Learnt
+recover_unique κs a x y s u = unique
 
-take-lease-unique : Determined take-lease-contract.Learnt
-take-lease-unique κs a x y s u = unique
+take_lease_unique : Determined take_lease_contract.Learnt
+take_lease_unique κs a x y s u = unique
 
-give-lease-unique : Determined give-lease-contract.Learnt
-give-lease-unique κs a x y s u = unique
+give_lease_unique : Determined give_lease_contract.Learnt
+give_lease_unique κs a x y s u = unique

@@ -1,7 +1,7 @@
 // One chunk by itself: it fails, recovers, takes and gives its lease.
 ghost use Rattle.std.specs.Prelude.{◌≡◌, eqb};
-ghost use Rattle.rules.specs.Codes.{code_of, unlessRefused};
-ghost use Rattle.rules.specs.Chunks.{withState, failRefusals, failed, recoverRefusals, recovered, takeLeaseRefusals, leaseTaken, giveLeaseRefusals, leaseGiven};
+ghost use Rattle.rules.specs.Codes.{code_of, unless_refused};
+ghost use Rattle.rules.specs.Chunks.{with_state, fail_refusals, failed, recover_refusals, recovered, take_lease_refusals, lease_taken, give_lease_refusals, lease_given};
 ghost use Rattle.rules.specs.Words.{if◌then◌else◌};
 
 use rules::{Chunk, State};
@@ -15,7 +15,7 @@ pub struct Changed {
 
 // The chunk in another state.
 fn with_state(c: Chunk, state: State) -> Chunk
-    ensures { result ≡ withState c state }
+    ensures { result ≡ with_state c state }
 {
     let epoch = c.epoch;
     let reconcile = c.reconcile;
@@ -45,7 +45,7 @@ fn unless_refused(code: u64, old: Chunk, new: Chunk) -> Changed
 
 // "from normal or nolease".
 fn fail_code(state: State) -> u64
-    ensures { result ≡ code_of (failRefusals state) }
+    ensures { result ≡ code_of (fail_refusals state) }
 {
     match state {
         State::Normal => rules::DONE,
@@ -69,7 +69,7 @@ fn failed(c: Chunk) -> Chunk
 
 // The chunk fails.
 pub fn fail(c: Chunk) -> Changed
-    ensures { result ≡ record { code = code_of (failRefusals c.state); chunk = unlessRefused (failRefusals c.state) c (failed c) } }
+    ensures { result ≡ record { code = code_of (fail_refusals c.state); chunk = unless_refused (fail_refusals c.state) c (failed c) } }
 {
     let state = c.state;
     unless_refused(fail_code(state), c, failed(c))
@@ -77,7 +77,7 @@ pub fn fail(c: Chunk) -> Changed
 
 // "failed to nolease. .. Else 2".
 fn recover_code(state: State) -> u64
-    ensures { result ≡ code_of (recoverRefusals state) }
+    ensures { result ≡ code_of (recover_refusals state) }
 {
     match state {
         State::Normal => rules::NOT_IN_STATE,
@@ -88,7 +88,7 @@ fn recover_code(state: State) -> u64
 
 // "failed to nolease": what it lost stays lost.
 pub fn recover(c: Chunk) -> Changed
-    ensures { result ≡ record { code = code_of (recoverRefusals c.state); chunk = unlessRefused (recoverRefusals c.state) c (recovered c) } }
+    ensures { result ≡ record { code = code_of (recover_refusals c.state); chunk = unless_refused (recover_refusals c.state) c (recovered c) } }
 {
     let state = c.state;
     unless_refused(recover_code(state), c, with_state(c, State::Nolease))
@@ -96,7 +96,7 @@ pub fn recover(c: Chunk) -> Changed
 
 // "normal to nolease. .. Else 2".
 fn take_lease_code(state: State) -> u64
-    ensures { result ≡ code_of (takeLeaseRefusals state) }
+    ensures { result ≡ code_of (take_lease_refusals state) }
 {
     match state {
         State::Normal => rules::DONE,
@@ -107,7 +107,7 @@ fn take_lease_code(state: State) -> u64
 
 // "normal to nolease".
 pub fn take_lease(c: Chunk) -> Changed
-    ensures { result ≡ record { code = code_of (takeLeaseRefusals c.state); chunk = unlessRefused (takeLeaseRefusals c.state) c (leaseTaken c) } }
+    ensures { result ≡ record { code = code_of (take_lease_refusals c.state); chunk = unless_refused (take_lease_refusals c.state) c (lease_taken c) } }
 {
     let state = c.state;
     unless_refused(take_lease_code(state), c, with_state(c, State::Nolease))
@@ -115,7 +115,7 @@ pub fn take_lease(c: Chunk) -> Changed
 
 // "nolease to normal, if not lost. Else 2".
 fn give_lease_code(state: State, lost: bool) -> u64
-    ensures { result ≡ code_of (giveLeaseRefusals state lost) }
+    ensures { result ≡ code_of (give_lease_refusals state lost) }
 {
     match state {
         State::Normal => rules::NOT_IN_STATE,
@@ -130,7 +130,7 @@ fn give_lease_code(state: State, lost: bool) -> u64
 
 // "nolease to normal".
 pub fn give_lease(c: Chunk) -> Changed
-    ensures { result ≡ record { code = code_of (giveLeaseRefusals c.state c.lost); chunk = unlessRefused (giveLeaseRefusals c.state c.lost) c (leaseGiven c) } }
+    ensures { result ≡ record { code = code_of (give_lease_refusals c.state c.lost); chunk = unless_refused (give_lease_refusals c.state c.lost) c (lease_given c) } }
 {
     let state = c.state;
     unless_refused(

@@ -12,9 +12,9 @@ use Rattle.rules.specs.declared.Header.{Header}
 use Rattle.rules.specs.declared.Message.{Message}
 use Rattle.rules.specs.declared.Refusal.{Refusal}
 use Rattle.rules.specs.declared.Sort.{Sort}
-use Rattle.rules.specs.Chunks.{withWaiting, answering, refusing, silent, isOutOfOrder, waits, arrived, decides, entry_of, atChunk, arrives}
-use Rattle.rules.specs.Kinds.{isRead, isNormal}
-use Rattle.rules.specs.Messages.{headerOf, sortOf}
+use Rattle.rules.specs.Chunks.{with_waiting, answering, refusing, silent, is_out_of_order, waits, arrived, decides, entry_of, at_chunk, arrives}
+use Rattle.rules.specs.Kinds.{is_read, is_normal}
+use Rattle.rules.specs.Messages.{header_of, sort_of}
 use Rattle.rules.specs.Waiting.{inserted, marked}
 
 -- ---- "Read or prewrite at a chunk, in this order"
@@ -30,11 +30,11 @@ module _ (blocks : ℕ) (c : Chunk) (r : Record) (header : Header) (epoch : Epoc
     outside h = rw (eq-eqb _ _ known, le-ltb _ _ h) refl
 
     module _ (inside : header.block < blocks) where
-      pub disorder : isOutOfOrder kind header.timestamp r ≡ true → refusing c r header Refusal.OutOfOrder ≡ arrived blocks c r header epoch kind
+      pub disorder : is_out_of_order kind header.timestamp r ≡ true → refusing c r header Refusal.OutOfOrder ≡ arrived blocks c r header epoch kind
       unfolding arrived
       disorder h = rw (eq-eqb _ _ known, lt-ltb _ _ inside, h) refl
 
-      module _ (order : isOutOfOrder kind header.timestamp r ≡ false) where
+      module _ (order : is_out_of_order kind header.timestamp r ≡ false) where
         pub full : 8 ≤ r.waiting.count → refusing c r header Refusal.Busy ≡ arrived blocks c r header epoch kind
         unfolding arrived
         full h = rw (eq-eqb _ _ known, lt-ltb _ _ inside, order, le-leb _ _ h) refl
@@ -44,11 +44,11 @@ module _ (blocks : ℕ) (c : Chunk) (r : Record) (header : Header) (epoch : Epoc
         room h = rw (eq-eqb _ _ known, lt-ltb _ _ inside, order, lt-leb _ _ h) refl
 
 module _ (c : Chunk) (r : Record) (header : Header) (epoch : Epoch) (kind : Kind) (w : Waiting) (put : w ≡ inserted r.waiting (entry_of header epoch kind)) where
-  pub read-waits : isRead kind ≡ true → silent c (withWaiting r w) ≡ waits c r header epoch kind
+  pub read-waits : is_read kind ≡ true → silent c (with_waiting r w) ≡ waits c r header epoch kind
   read-waits h = rw (h, put) refl
 
-  pub prewrite-waits : isRead kind ≡ false → answering c (withWaiting r w) header Sort.PrewriteReply ≡ waits c r header epoch kind
-  prewrite-waits h = rw (h, put) refl
+  pub prewrite_waits : is_read kind ≡ false → answering c (with_waiting r w) header Sort.PrewriteReply ≡ waits c r header epoch kind
+  prewrite_waits h = rw (h, put) refl
 
 -- ---- "Commit and abort"
 
@@ -57,15 +57,15 @@ module _ (blocks : ℕ) (c : Chunk) (r : Record) (header : Header) (commit : Boo
   unfolding decides
   nothing-decided h = rw (le-ltb _ _ h) refl
 
-  pub one-decided : (w : Waiting) → header.block < blocks → w ≡ marked commit header.timestamp r.waiting → silent c (withWaiting r w) ≡ decides blocks c r header commit
+  pub one-decided : (w : Waiting) → header.block < blocks → w ≡ marked commit header.timestamp r.waiting → silent c (with_waiting r w) ≡ decides blocks c r header commit
   unfolding decides
   one-decided w h e = rw (lt-ltb _ _ h, e) refl
 
 -- ---- a message at a chunk, by its state
 
 module _ (blocks : ℕ) (c : Chunk) (r : Record) (m : Message) where
-  pub noticed : isNormal c.state ≡ true → atChunk blocks c r (headerOf m) (sortOf m) ≡ arrives blocks c r m
+  pub noticed : is_normal c.state ≡ true → at_chunk blocks c r (header_of m) (sort_of m) ≡ arrives blocks c r m
   noticed h = rw h refl
 
-  pub unnoticed : isNormal c.state ≡ false → silent c r ≡ arrives blocks c r m
+  pub unnoticed : is_normal c.state ≡ false → silent c r ≡ arrives blocks c r m
   unnoticed h = rw h refl

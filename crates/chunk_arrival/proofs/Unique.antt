@@ -1,6 +1,6 @@
 -- The public promise determines its answer
 use Rattle.rules.proofs.Unique.{unique, Determined}
-use Rattle.chunk_arrival.proofs.arrive.Reads as arrive-contract
+use Rattle.chunk_arrival.proofs.arrive.Reads as arrive_contract
 
-arrive-unique : Determined arrive-contract.Learnt
-arrive-unique κs a x y s u = unique
+arrive_unique : Determined arrive_contract.Learnt
+arrive_unique κs a x y s u = unique

@@ -1,7 +1,7 @@
 // A message arrives at a chunk: what it makes of the chunk and its record of the block, and the reply.
 ghost use Rattle.std.specs.Prelude.{◌≡◌};
-ghost use Rattle.rules.specs.Chunks.{answering, refusing, silent, isOutOfOrder, waits, arrived, decides, atChunk, arrives};
-ghost use Rattle.rules.specs.Messages.{headerOf, sortOf};
+ghost use Rattle.rules.specs.Chunks.{answering, refusing, silent, is_out_of_order, waits, arrived, decides, at_chunk, arrives};
+ghost use Rattle.rules.specs.Messages.{header_of, sort_of};
 
 use rules::{
     Arrived, Chunk, Entry, Epoch, Header, Kind, Message, Record, Refusal, Slot, Sort, Timestamp,
@@ -39,7 +39,7 @@ fn silent(c: Chunk, r: Record) -> Arrived
 
 // "timestamp below last write (a prewrite: or below last read), out of order".
 fn is_out_of_order(k: Kind, t: Timestamp, r: Record) -> bool
-    ensures { result ≡ isOutOfOrder k t r }
+    ensures { result ≡ is_out_of_order k t r }
 {
     (t.0 < r.write.0) | (!table_kinds::is_read(k) & (t.0 < r.read.0))
 }
@@ -110,7 +110,7 @@ fn commit_or_abort(blocks: u64, c: Chunk, r: Record, header: Header, commit: boo
 
 // A message at a chunk that takes notice. (Replies go to hosts.)
 fn at_chunk(blocks: u64, c: Chunk, r: Record, m: Message) -> Arrived
-    ensures { result ≡ atChunk blocks c r (headerOf m) (sortOf m) }
+    ensures { result ≡ at_chunk blocks c r (header_of m) (sort_of m) }
 {
     let header = network_messages::header_of(m);
     match m {

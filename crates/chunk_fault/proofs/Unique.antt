@@ -12,26 +12,26 @@ use denote.Triple.Entry.{Args}
 use denote.Triple.Clauses.{AtExit}
 use Rattle.rules.specs.declared.Table.{Table}
 use Rattle.rules.specs.Codes.{code_of}
-use Rattle.rules.specs.Chunks.{failRefusals}
-use Rattle.rules.specs.Events.{failRule}
+use Rattle.rules.specs.Chunks.{fail_refusals}
+use Rattle.rules.specs.Events.{fail_rule}
 use Rattle.rules.specs.Tables.{chunk_of}
 use Rattle.rules.proofs.Unique.{unique}
-use Rattle.chunk_fault.specs.Steps.{failedTo}
-use Rattle.chunk_fault.specs.contracts.fail_in as fail-in-contract
+use Rattle.chunk_fault.specs.Steps.{failed_to}
+use Rattle.chunk_fault.specs.contracts.fail_in as fail_in_contract
 
 -- what a caller learns: its two equations
 abbrev Learnt : Table → (chunk : ℕ) → (out : ℕ) (left : Table) → Type 0
-Learnt t chunk out left = (out ≡ code_of (failRefusals (chunk_of t chunk).state)) × (left ≡ failedTo chunk t)
+Learnt t chunk out left = (out ≡ code_of (fail_refusals (chunk_of t chunk).state)) × (left ≡ failed_to chunk t)
 
 -- they are all that its contract states
-fail-in-states : {M : Type 1} {𝓤 : Ura M} (𝓛 : Logic 𝓤) (at_mem : Memory → SProp 𝓤) (run : Routine → Fun 𝓤)
-    (κs : Lfts 1) (a : Args fail-in-contract.signature κs) (out : ℕ) (end : AtExit fail-in-contract.ended κs)
-    → (fail-in-contract.clauses 𝓛 at_mem run κs a).ensures tt out end ≡ fact 𝓤 (Learnt a.0.now a.1.0 out end.0.now)
-fail-in-states 𝓛 at_mem run κs a out end = refl
+fail_in_states : {M : Type 1} {𝓤 : Ura M} (𝓛 : Logic 𝓤) (at_mem : Memory → SProp 𝓤) (run : Routine → Fun 𝓤)
+    (κs : Lfts 1) (a : Args fail_in_contract.signature κs) (out : ℕ) (end : AtExit fail_in_contract.ended κs)
+    → (fail_in_contract.clauses 𝓛 at_mem run κs a).ensures tt out end ≡ fact 𝓤 (Learnt a.0.now a.1.0 out end.0.now)
+fail_in_states 𝓛 at_mem run κs a out end = refl
 
-fail-in-unique : (t : Table) (chunk : ℕ) (x y : ℕ) (left right : Table) → Learnt t chunk x left → Learnt t chunk y right → (x ≡ y) × (left ≡ right)
-fail-in-unique t chunk x y left right p q = (unique p.0 q.0, unique p.1 q.1)
+fail_in_unique : (t : Table) (chunk : ℕ) (x y : ℕ) (left right : Table) → Learnt t chunk x left → Learnt t chunk y right → (x ≡ y) × (left ≡ right)
+fail_in_unique t chunk x y left right p q = (unique p.0 q.0, unique p.1 q.1)
 
 -- where it is granted this is what rules' step leaves
-fail-in-effect : (t : Table) (chunk : ℕ) → code_of (failRefusals (chunk_of t chunk).state) ≡ 0 → failedTo chunk t ≡ (failRule t chunk 0 0).effect.table
-fail-in-effect t chunk h = rw h refl
+fail_in_effect : (t : Table) (chunk : ℕ) → code_of (fail_refusals (chunk_of t chunk).state) ≡ 0 → failed_to chunk t ≡ (fail_rule t chunk 0 0).effect.table
+fail_in_effect t chunk h = rw h refl

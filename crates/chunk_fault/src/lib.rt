@@ -1,10 +1,10 @@
 // Event 11 of a lent table where it lies: the chunk fails, and what waits in it goes, block by block.
 ghost use Rattle.std.specs.Prelude.{◌≡◌, not, eqb};
-ghost use Rattle.rules.specs.Chunks.{failRefusals, emptied};
+ghost use Rattle.rules.specs.Chunks.{fail_refusals, emptied};
 ghost use Rattle.rules.specs.Codes.{code_of};
-ghost use Rattle.rules.specs.Events.{withoutWaiting};
-ghost use Rattle.rules.specs.Tables.{chunk_of, withRecords};
-ghost use Rattle.chunk_fault.specs.Steps.{withEmptied, failedTo};
+ghost use Rattle.rules.specs.Events.{without_waiting};
+ghost use Rattle.rules.specs.Tables.{chunk_of, with_records};
+ghost use Rattle.chunk_fault.specs.Steps.{with_emptied, failed_to};
 
 use chunk_alone::Changed;
 use rules::{Chunk, Record, Table};
@@ -37,7 +37,7 @@ fn is_refused(code: u64) -> bool
 }
 
 fn empty_block_in(t: &mut Table, chunk: u64, b: u64)
-    ensures { t.new ≡ withEmptied chunk t.old b }
+    ensures { t.new ≡ with_emptied chunk t.old b }
 {
     let i = table_records::record_number(chunk, b);
     let held = table_records::record_in(&*t, i);
@@ -46,7 +46,7 @@ fn empty_block_in(t: &mut Table, chunk: u64, b: u64)
 }
 
 fn empty_in(t: &mut Table, chunk: u64)
-    ensures { t.new ≡ withRecords t.old (withoutWaiting t.old.records chunk) }
+    ensures { t.new ≡ with_records t.old (without_waiting t.old.records chunk) }
 {
     let mut b: u64 = 0;
     while b < rules::BLOCKS as u64 {
@@ -57,7 +57,7 @@ fn empty_in(t: &mut Table, chunk: u64)
 
 // Its code; where it is refused the table stays as found.
 pub fn fail_in(t: &mut Table, chunk: u64) -> u64
-    ensures { (result ≡ code_of (failRefusals (chunk_of t.old chunk).state)) × (t.new ≡ failedTo chunk t.old) }
+    ensures { (result ≡ code_of (fail_refusals (chunk_of t.old chunk).state)) × (t.new ≡ failed_to chunk t.old) }
 {
     let old = table_chunks::chunk_in(&*t, chunk);
     let x = chunk_alone::fail(old);

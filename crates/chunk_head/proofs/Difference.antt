@@ -14,9 +14,9 @@ use mir.Facts.{to_z_pos, to_z-of_z}
 
 -- ---- where the numbers fit an i64
 
-mag-diff : (a b m : ℕ) → a < m → b < m → mag (pos a -ℤ pos b) < m
-mag-diff a zero m h k = omega arith
-mag-diff a (suc b) m h k = go (ltb a (suc b))
+mag_diff : (a b m : ℕ) → a < m → b < m → mag (pos a -ℤ pos b) < m
+mag_diff a zero m h k = omega arith
+mag_diff a (suc b) m h k = go (ltb a (suc b))
   where
     go : (t : Bool) → mag (cond t (negsuc (suc b - suc a)) (pos (a - suc b))) < m
     go true = omega arith
@@ -24,11 +24,11 @@ mag-diff a (suc b) m h k = go (ltb a (suc b))
 
 module _ (a b c : ℕ) (ha : a < 2 ^ 63) (hb : b < 2 ^ 63) (hc : c < 2 ^ 63) where
   -- what the machine's subtraction asks, and what its comparison gives
-  pub difference-fits : SFits w64 (to_z w64 a -ℤ to_z w64 b)
-  difference-fits = rw (to_z_pos w64 {n = a} ha, to_z_pos w64 {n = b} hb) (sfits_of (mag-diff a b (2 ^ 63) ha hb))
+  pub difference_fits : SFits w64 (to_z w64 a -ℤ to_z w64 b)
+  difference_fits = rw (to_z_pos w64 {n = a} ha, to_z_pos w64 {n = b} hb) (sfits_of (mag_diff a b (2 ^ 63) ha hb))
 
-  pub difference-above : lt_z (to_z w64 c) (to_z w64 (of_z w64 (to_z w64 a -ℤ to_z w64 b))) ≡ lt_z (pos c) (pos a -ℤ pos b)
-  difference-above = rw (to_z-of_z difference-fits, to_z_pos w64 {n = a} ha, to_z_pos w64 {n = b} hb, to_z_pos w64 {n = c} hc) refl
+  pub difference_above : lt_z (to_z w64 c) (to_z w64 (of_z w64 (to_z w64 a -ℤ to_z w64 b))) ≡ lt_z (pos c) (pos a -ℤ pos b)
+  difference_above = rw (to_z-of_z difference_fits, to_z_pos w64 {n = a} ha, to_z_pos w64 {n = b} hb, to_z_pos w64 {n = c} hc) refl
 
 -- ---- for any numbers
 

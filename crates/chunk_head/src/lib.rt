@@ -2,10 +2,10 @@
 ghost use Rattle.std.specs.Prelude.{◌<◌, ◌^◌, ◌≡◌, pos, ◌-ℤ◌};
 ghost use Rattle.std.specs.Int.Signed.{lt_z};
 ghost use Rattle.rules.specs.declared.Kind.{Kind};
-ghost use Rattle.rules.specs.Codes.{code_of, unlessRefused};
-ghost use Rattle.rules.specs.Kinds.{isUndecided};
+ghost use Rattle.rules.specs.Codes.{code_of, unless_refused};
+ghost use Rattle.rules.specs.Kinds.{is_undecided};
 ghost use Rattle.rules.specs.Timestamps.{later};
-ghost use Rattle.rules.specs.Chunks.{withValue, withWrite, silent, runRefusals, runs, ran, isOverdue, overdueRefusals, overdue};
+ghost use Rattle.rules.specs.Chunks.{with_value, with_write, silent, run_refusals, runs, ran, is_overdue, overdue_refusals, overdue};
 
 use chunk_alone::Changed;
 use rules::{
@@ -24,7 +24,7 @@ const GREATEST_SIGNED: u64 = 9223372036854775807;
 
 // A write that nobody has decided yet.
 fn is_undecided(k: Kind) -> bool
-    ensures { result ≡ isUndecided k }
+    ensures { result ≡ is_undecided k }
 {
     match k {
         Kind::Read => false,
@@ -38,7 +38,7 @@ fn is_undecided(k: Kind) -> bool
 
 // "normal, head exists and isn't undecided (2); room if the head is a read (5)".
 fn run_code(state: State, w: Waiting, free: u64) -> u64
-    ensures { result ≡ code_of (runRefusals state w free) }
+    ensures { result ≡ code_of (run_refusals state w free) }
 {
     if !table_kinds::is_normal(state) {
         return rules::NOT_IN_STATE;
@@ -110,7 +110,7 @@ fn silent(c: Chunk, r: Record) -> Arrived
 
 // "Committed: value set, last write raised to its timestamp".
 fn run_committed(c: Chunk, r: Record, t: Timestamp, v: u64) -> Arrived
-    ensures { result ≡ silent c (withWrite (withValue r v) (later r.write t)) }
+    ensures { result ≡ silent c (with_write (with_value r v) (later r.write t)) }
 {
     let write = later(r.write, t);
     let mut out = r;
@@ -140,7 +140,7 @@ fn run_head(chunk: u64, block: u64, c: Chunk, r: Record) -> Arrived
 
 // The head of a waiting list runs, or is refused.
 pub fn run(chunk: u64, block: u64, c: Chunk, r: Record, free: u64) -> Ran
-    ensures { result ≡ record { code = code_of (runRefusals c.state r.waiting free); left = unlessRefused (runRefusals c.state r.waiting free) (silent c r) (ran chunk block c r) } }
+    ensures { result ≡ record { code = code_of (run_refusals c.state r.waiting free); left = unless_refused (run_refusals c.state r.waiting free) (silent c r) (ran chunk block c r) } }
 {
     let state = c.state;
     let w = r.waiting;
@@ -173,7 +173,7 @@ fn signed_above(now: u64, clock: u64, age: u64) -> bool
 // "now minus the head's clock above the age limit". Now and the age limit of a store have 32 bits; the promise is for every number,
 // so those that no i64 holds are compared unsigned.
 fn is_overdue(now: u64, t: Timestamp, age: u64) -> bool
-    ensures { result ≡ isOverdue now t age }
+    ensures { result ≡ is_overdue now t age }
 {
     let clock = t.0 / rules::CLOCK_FACTOR;
     if (now <= GREATEST_SIGNED) & (age <= GREATEST_SIGNED) {
@@ -187,7 +187,7 @@ fn is_overdue(now: u64, t: Timestamp, age: u64) -> bool
 
 // "normal, head undecided, and now minus the head's clock above the age limit, else 2".
 fn overdue_code(state: State, w: Waiting, now: u64, age: u64) -> u64
-    ensures { result ≡ code_of (overdueRefusals state w now age) }
+    ensures { result ≡ code_of (overdue_refusals state w now age) }
 {
     if !table_kinds::is_normal(state) {
         return rules::NOT_IN_STATE;
@@ -218,7 +218,7 @@ fn join_set(c: Chunk, block: u64) -> Chunk
 
 // A block is overdue.
 pub fn overdue(c: Chunk, block: u64, w: Waiting, now: u64, age: u64) -> Changed
-    ensures { result ≡ record { code = code_of (overdueRefusals c.state w now age); chunk = unlessRefused (overdueRefusals c.state w now age) c (overdue c block) } }
+    ensures { result ≡ record { code = code_of (overdue_refusals c.state w now age); chunk = unless_refused (overdue_refusals c.state w now age) c (overdue c block) } }
 {
     let state = c.state;
     let code = overdue_code(state, w, now, age);

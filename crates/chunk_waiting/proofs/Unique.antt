@@ -1,22 +1,22 @@
 -- Each public function's promise determines its answer
 use Rattle.rules.proofs.Unique.{unique, Determined}
-use Rattle.chunk_waiting.proofs.find.Reads as find-contract
-use Rattle.chunk_waiting.proofs.head.Reads as head-contract
-use Rattle.chunk_waiting.proofs.insert.Reads as insert-contract
-use Rattle.chunk_waiting.proofs.mark.Reads as mark-contract
-use Rattle.chunk_waiting.proofs.remove_head.Reads as remove-head-contract
+use Rattle.chunk_waiting.proofs.find.Reads as find_contract
+use Rattle.chunk_waiting.proofs.head.Reads as head_contract
+use Rattle.chunk_waiting.proofs.insert.Reads as insert_contract
+use Rattle.chunk_waiting.proofs.mark.Reads as mark_contract
+use Rattle.chunk_waiting.proofs.remove_head.Reads as remove_head_contract
 
-find-unique : Determined find-contract.Learnt
-find-unique κs a x y s u = unique
+find_unique : Determined find_contract.Learnt
+find_unique κs a x y s u = unique
 
-head-unique : Determined head-contract.Learnt
+head-unique : Determined head_contract.Learnt
 head-unique κs a x y s u = unique
 
-insert-unique : Determined insert-contract.Learnt
+insert-unique : Determined insert_contract.Learnt
 insert-unique κs a x y s u = unique
 
-remove-head-unique : Determined remove-head-contract.Learnt
-remove-head-unique κs a x y s u = unique
+remove_head_unique : Determined remove_head_contract.Learnt
+remove_head_unique κs a x y s u = unique
 
-mark-unique : Determined mark-contract.Learnt
+mark-unique : Determined mark_contract.Learnt
 mark-unique κs a x y s u = unique

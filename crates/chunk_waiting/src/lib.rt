@@ -1,15 +1,15 @@
 // The waiting list of a block in a chunk. Each function is total: a count above 8 stands for 8 entries, and what lies in unused places
 // does not survive.
 ghost use Rattle.std.specs.Prelude.{◌≤◌, ◌≡◌, length};
-ghost use Rattle.rules.specs.Limits.{waitingLimit};
-ghost use Rattle.rules.specs.Waiting.{inOrder, holding, inserted, head, headRemoved, firstWith, decidedKind, decided, marked};
+ghost use Rattle.rules.specs.Limits.{waiting_limit};
+ghost use Rattle.rules.specs.Waiting.{in_order, holding, inserted, head, head_removed, first_with, decided_kind, decided, marked};
 ghost use Rattle.rules.proofs.Order.{behind};
 
 use rules::{Entry, Kind, Timestamp, Waiting};
 
 // How many wait.
 fn used(w: Waiting) -> u64
-    ensures { (result ≡ length (inOrder w)) × (result ≤ waitingLimit) }
+    ensures { (result ≡ length (in_order w)) × (result ≤ waiting_limit) }
 {
     if w.count < rules::WAITING as u64 {
         return w.count;
@@ -19,7 +19,7 @@ fn used(w: Waiting) -> u64
 
 // The same entries, with the unused places zero.
 fn tidy(w: Waiting) -> Waiting
-    ensures { (result ≡ holding (inOrder w)) × (result.count ≤ waitingLimit) }
+    ensures { (result ≡ holding (in_order w)) × (result.count ≤ waiting_limit) }
 {
     let n = used(w);
     let mut out = w;
@@ -34,7 +34,7 @@ fn tidy(w: Waiting) -> Waiting
 
 // "the first entry in waiting order with that timestamp": its index, or the count when absent.
 pub fn find(w: Waiting, t: Timestamp) -> u64
-    ensures { result ≡ firstWith t (inOrder w) }
+    ensures { result ≡ first_with t (in_order w) }
 {
     let n = used(w);
     let mut i: u64 = 0;
@@ -53,7 +53,7 @@ pub fn find(w: Waiting, t: Timestamp) -> u64
 
 // The place "after its equals": that of the first entry with a greater timestamp, or the count.
 fn behind(w: Waiting, e: Entry) -> u64
-    ensures { result ≡ behind e (inOrder w) }
+    ensures { result ≡ behind e (in_order w) }
 {
     let n = used(w);
     let mut p: u64 = 0;
@@ -98,7 +98,7 @@ pub fn insert(w: Waiting, e: Entry) -> Waiting
 
 // "The head is removed": what stands behind it goes one place forward.
 pub fn remove_head(w: Waiting) -> Waiting
-    ensures { result ≡ headRemoved w }
+    ensures { result ≡ head_removed w }
 {
     let mut out = tidy(w);
     if out.count == 0 {
@@ -117,7 +117,7 @@ pub fn remove_head(w: Waiting) -> Waiting
 
 // "if it is an undecided write, which becomes committed or aborted".
 fn decide_kind(k: Kind, commit: bool) -> Kind
-    ensures { result ≡ decidedKind commit k }
+    ensures { result ≡ decided_kind commit k }
 {
     match k {
         Kind::Read => Kind::Read,

@@ -6,5 +6,5 @@ use Rattle.rules.specs.Words.{if◌then◌else◌}
 use Rattle.text_meanings.specs.declared.Asked.{Asked}
 
 -- "A bad event line .. writes `1 0 0 0 0` and is passed over"
-abbrev pub answerTo : Table → Asked → Answer
-answerTo t asked = if asked.good then step t asked.event else refused t 1
+abbrev pub answer_to : Table → Asked → Answer
+answer_to t asked = if asked.good then step t asked.event else refused t 1

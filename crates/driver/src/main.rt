@@ -3,8 +3,8 @@
 // writes, and that it is safe and ends. Memory does not grow with the input: of a line that is too long no more is kept than shows it.
 ghost use Rattle.std.specs.Prelude.{◌+◌, ◌≤◌, ◌≡◌, length};
 ghost use Rattle.std.proofs.Math.Seq.{paste};
-ghost use Rattle.text_lines.specs.Texts.{textLimit};
-ghost use Rattle.driver.specs.Answers.{answerTo};
+ghost use Rattle.text_lines.specs.Texts.{text_limit};
+ghost use Rattle.driver.specs.Answers.{answer_to};
 
 use rules::{Answer, Outcome, Table};
 use text_lines::Text;
@@ -80,7 +80,7 @@ fn next_line(block: &mut [u8], unread: Unread) -> Next
 
 // "A bad event line .. writes `1 0 0 0 0` and is passed over"
 fn answer_to(t: Table, asked: Asked) -> Answer
-    ensures { result ≡ answerTo t asked }
+    ensures { result ≡ answer_to t asked }
 {
     if asked.good {
         let e = asked.event;
@@ -95,8 +95,8 @@ fn answer_to(t: Table, asked: Asked) -> Answer
 
 // Room for one line more in the output that is gathered: where it lacks, what is there is written.
 fn room(out: &[u8], used: usize) -> usize
-    requires { (used ≤ length out.now) × (textLimit ≤ length out.now) }
-    ensures { result + textLimit ≤ length out.now }
+    requires { (used ≤ length out.now) × (text_limit ≤ length out.now) }
+    ensures { result + text_limit ≤ length out.now }
 {
     if text_lines::ROOM <= out.len() - used {
         return used;
@@ -107,7 +107,7 @@ fn room(out: &[u8], used: usize) -> usize
 
 // The line goes behind the output that is gathered.
 fn put(out: &mut [u8], used: usize, t: Text) -> usize
-    requires { (used + textLimit ≤ length out.old) × (t.count ≤ textLimit) }
+    requires { (used + text_limit ≤ length out.old) × (t.count ≤ text_limit) }
     ensures { (out.new ≡ paste out.old used t.bytes t.count) × (result ≡ used + t.count) }
 {
     let n = t.count;
@@ -121,7 +121,7 @@ fn put(out: &mut [u8], used: usize, t: Text) -> usize
 
 // "It writes a line an event". How much output is gathered then.
 fn answer(out: &mut [u8], used: usize, code: u64, o: Outcome) -> usize
-    requires { (used ≤ length out.old) × (textLimit ≤ length out.old) }
+    requires { (used ≤ length out.old) × (text_limit ≤ length out.old) }
     ensures { result ≤ length out.new }
 {
     let at = room(out, used);
@@ -130,7 +130,7 @@ fn answer(out: &mut [u8], used: usize, code: u64, o: Outcome) -> usize
 
 // "an event a line": each is answered, in its order.
 fn run(table: Table, unread: Unread, block: &mut [u8], out: &mut [u8])
-    requires { (unread.end ≤ length block.old) × (textLimit ≤ length out.old) }
+    requires { (unread.end ≤ length block.old) × (text_limit ≤ length out.old) }
 {
     let mut t = table;
     let mut u = unread;

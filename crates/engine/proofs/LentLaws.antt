@@ -13,105 +13,105 @@ use Rattle.rules.specs.declared.Table.{Table}
 use Rattle.rules.specs.declared.Event.{Event}
 use Rattle.rules.specs.declared.Answer.{Answer}
 use Rattle.rules.specs.declared.Reply.{Reply}
-use Rattle.rules.specs.Chunks.{failRefusals, failed}
+use Rattle.rules.specs.Chunks.{fail_refusals, failed}
 use Rattle.rules.specs.Codes.{code_of}
-use Rattle.rules.specs.Events.{quietly, done, refused, withoutWaiting, epochRefusals, kind_of, ranges, ruleOf, step, replyOf}
-use Rattle.rules.specs.Formed.{wellFormed}
-use Rattle.rules.specs.Limits.{chunkLimit, blockLimit, greatestClock}
-use Rattle.rules.specs.Tables.{hostOf, chunk_of, at, recordOf, withChunk, withRecords}
+use Rattle.rules.specs.Events.{quietly, done, refused, without_waiting, epoch_refusals, kind_of, ranges, rule_of, step, reply_of}
+use Rattle.rules.specs.Formed.{well_formed}
+use Rattle.rules.specs.Limits.{chunk_limit, block_limit, greatest_clock}
+use Rattle.rules.specs.Tables.{host_of, chunk_of, at, record_of, with_chunk, with_records}
 use Rattle.rules.specs.Timestamps.{next}
 use Rattle.rules.specs.Words.{place}
-use Rattle.rules.specs.Zero.{zeroRecord, zeroChunk, zeroHost, noHost, no_chunk, noRecord}
-use Rattle.rules.proofs.Events.{ill-formed, out_of_range, refused-own, granted-own}
+use Rattle.rules.specs.Zero.{zero_record, zero_chunk, zero_host, no_host, no_chunk, no_record}
+use Rattle.rules.proofs.Events.{ill_formed, out_of_range, refused-own, granted-own}
 use Rattle.rules.proofs.Formed.{formed}
-use Rattle.chunk_fault.specs.Steps.{failedTo}
-use Rattle.epoch_lent.specs.Steps.{changed, changedTo}
+use Rattle.chunk_fault.specs.Steps.{failed_to}
+use Rattle.epoch_lent.specs.Steps.{changed, changed_to}
 use Rattle.event_parts.specs.declared.Acted.{Acted}
 use Rattle.event_parts.specs.Acts.{acted}
 use Rattle.event_lent.specs.declared.Here.{Here}
-use Rattle.event_lent.specs.Touches.{removedAt, hereIn, parts_in, keeping, storing, actedOn}
-use Rattle.engine.specs.Answers.{quietReply, answer_of}
-use Rattle.engine.proofs.Touches.{slotHere, hostHere, chunkHere, blockHere, parts_of, stored}
-use Rattle.engine.proofs.PartLaws.{Acts, acts, host-below, chunk-below, block-below, refused-is, stored_is}
+use Rattle.event_lent.specs.Touches.{removed_at, here_in, parts_in, keeping, storing, acted_on}
+use Rattle.engine.specs.Answers.{quiet_reply, answer_of}
+use Rattle.engine.proofs.Touches.{slot_here, host_here, chunk_here, block_here, parts_of, stored}
+use Rattle.engine.proofs.PartLaws.{Acts, acts, host-below, chunk-below, block-below, refused_is, stored_is}
 
 -- ---- an answer, as the reply and the table that is left
 
 abbrev Steps : Table → Event → Reply → Table → Type 0
-Steps t e r z = (r ≡ replyOf (step t e)) × (z ≡ (step t e).table)
+Steps t e r z = (r ≡ reply_of (step t e)) × (z ≡ (step t e).table)
 
-steps : (t : Table) (e : Event) (a : Answer) → a ≡ step t e → (r : Reply) → r ≡ replyOf a → (z : Table) → z ≡ a.table → Steps t e r z
-steps t e a a-is r r-is z z-is = (r-is ∙ ap replyOf a-is, z-is ∙ ap (λ (x : Answer). x.table) a-is)
+steps : (t : Table) (e : Event) (a : Answer) → a ≡ step t e → (r : Reply) → r ≡ reply_of a → (z : Table) → z ≡ a.table → Steps t e r z
+steps t e a a_is r r_is z z_is = (r_is ∙ ap reply_of a_is, z_is ∙ ap (λ (x : Answer). x.table) a_is)
 
 pub stepped : (t : Table) (e : Event) (r : Reply) (z : Table) → Steps t e r z → (a : Answer) → a ≡ answer_of z r → a ≡ step t e
-stepped t e r z s a a-is = rw (a-is, s.0, s.1) refl
+stepped t e r z s a a_is = rw (a_is, s.0, s.1) refl
 
 -- ---- how tests came out
 
-was-true : (y x : Bool) → y ≡ x → T y → x ≡ true
-was-true true x y-is did = sym y-is
-was-true false x y-is did = absurd did
+was_true : (y x : Bool) → y ≡ x → T y → x ≡ true
+was_true true x y_is did = sym y_is
+was_true false x y_is did = absurd did
 
-was-false : (y x : Bool) → y ≡ x → T (not y) → x ≡ false
-was-false false x y-is did = sym y-is
-was-false true x y-is did = absurd did
+was_false : (y x : Bool) → y ≡ x → T (not y) → x ≡ false
+was_false false x y_is did = sym y_is
+was_false true x y_is did = absurd did
 
-not-false : (x : Bool) → not x ≡ false → x ≡ true
-not-false true h = refl
-not-false false h = sym h
+not_false : (x : Bool) → not x ≡ false → x ≡ true
+not_false true h = refl
+not_false false h = sym h
 
-not-true : (x : Bool) → not x ≡ true → x ≡ false
-not-true false h = refl
-not-true true h = sym h
+not_true : (x : Bool) → not x ≡ true → x ≡ false
+not_true false h = refl
+not_true true h = sym h
 
 -- ---- code 8, and the ranges
 
-pub formed-so : (t : Table) (y : Bool) → y ≡ wellFormed t → T y → wellFormed t ≡ true
-formed-so t y y-is did = was-true y (wellFormed t) y-is did
+pub formed_so : (t : Table) (y : Bool) → y ≡ well_formed t → T y → well_formed t ≡ true
+formed_so t y y_is did = was_true y (well_formed t) y_is did
 
-pub malformed-way : (t : Table) (e : Event) (y : Bool) → y ≡ wellFormed t → T (not y) → (r : Reply) → r ≡ quietReply 8 → Steps t e r t
-malformed-way t e y y-is did r r-is = steps t e (refused t 8) (ill-formed t e (was-false y (wellFormed t) y-is did)) r r-is t refl
+pub malformed_way : (t : Table) (e : Event) (y : Bool) → y ≡ well_formed t → T (not y) → (r : Reply) → r ≡ quiet_reply 8 → Steps t e r t
+malformed_way t e y y_is did r r_is = steps t e (refused t 8) (ill_formed t e (was_false y (well_formed t) y_is did)) r r_is t refl
 
-module _ (t : Table) (e : Event) (ok : wellFormed t ≡ true) (k : Creation) (k-is : k ≡ t.creation) (y : Bool) (y-is : y ≡ not (ranges k e)) where
-  pub outside-way : T y → (r : Reply) → r ≡ quietReply 1 → Steps t e r t
-  outside-way did r r-is =
-      let far : ranges t.creation e ≡ false = rw k-is at (not-true (ranges k e) (was-true y _ y-is did)) in
-      steps t e (refused t 1) (out_of_range t e ok far) r r-is t refl
+module _ (t : Table) (e : Event) (ok : well_formed t ≡ true) (k : Creation) (k_is : k ≡ t.creation) (y : Bool) (y_is : y ≡ not (ranges k e)) where
+  pub outside_way : T y → (r : Reply) → r ≡ quiet_reply 1 → Steps t e r t
+  outside_way did r r_is =
+      let far : ranges t.creation e ≡ false = rw k_is at (not_true (ranges k e) (was_true y _ y_is did)) in
+      steps t e (refused t 1) (out_of_range t e ok far) r r_is t refl
 
   module _ (did : T (not y)) where
     inside : ranges t.creation e ≡ true
-    inside = rw k-is at (not-false (ranges k e) (was-false y _ y-is did))
+    inside = rw k_is at (not_false (ranges k e) (was_false y _ y_is did))
 
     -- ---- an event without an outcome: its rule's code, and where it is granted its rule's table
-    by-rule : (code : ℕ) → code ≡ code_of (ruleOf t e).refusals → (new : Table) → quietly new ≡ (ruleOf t e).effect → (z : Table) → z ≡ cond (eqb code 0) new t
-        → (r : Reply) → r ≡ quietReply code → Steps t e r z
-    by-rule code code_is new New-is z z-is r r-is = go (eqb code 0) refl
+    by-rule : (code : ℕ) → code ≡ code_of (rule_of t e).refusals → (new : Table) → quietly new ≡ (rule_of t e).effect → (z : Table) → z ≡ cond (eqb code 0) new t
+        → (r : Reply) → r ≡ quiet_reply code → Steps t e r z
+    by-rule code code_is new new_is z z_is r r_is = go (eqb code 0) refl
       where
         go : (g : Bool) → eqb code 0 ≡ g → Steps t e r z
         go true h =
             let none = eqb-true code 0 h in
-            steps t e (done (quietly new)) (ap done New-is ∙ granted-own t e ok inside (sym code_is ∙ none)) r (rw none at r-is) z (rw h at z-is)
-        go false h = steps t e (refused t code) (refused-own t e ok inside code code_is (eqb-false code 0 h)) r r-is z (rw h at z-is)
+            steps t e (done (quietly new)) (ap done new_is ∙ granted-own t e ok inside (sym code_is ∙ none)) r (rw none at r_is) z (rw h at z_is)
+        go false h = steps t e (refused t code) (refused-own t e ok inside code code_is (eqb-false code 0 h)) r r_is z (rw h at z_is)
 
-    module _ (f : Bool) (f-is : f ≡ eqb e.kind 11) where
-      pub fail-way : T f → (c : ℕ) → c ≡ e.a → (code : ℕ) (z : Table) → (code ≡ code_of (failRefusals (chunk_of t c).state)) × (z ≡ failedTo c t)
-          → (r : Reply) → r ≡ quietReply code → Steps t e r z
-      unfolding ruleOf kind_of place
-      fail-way h c c-is code z done-so r r-is =
-          let kind = eqb-true e.kind 11 (was-true f _ f-is h) in
-          let new : Table = withRecords (withChunk t c (failed (chunk_of t c))) (withoutWaiting t.records c) in
-          by-rule code (rw (kind, sym c-is) done-so.0) new (rw (kind, sym c-is) refl) z (rw (sym done-so.0) at done-so.1) r r-is
+    module _ (f : Bool) (f_is : f ≡ eqb e.kind 11) where
+      pub fail_way : T f → (c : ℕ) → c ≡ e.a → (code : ℕ) (z : Table) → (code ≡ code_of (fail_refusals (chunk_of t c).state)) × (z ≡ failed_to c t)
+          → (r : Reply) → r ≡ quiet_reply code → Steps t e r z
+      unfolding rule_of kind_of place
+      fail_way h c c_is code z done_so r r_is =
+          let kind = eqb-true e.kind 11 (was_true f _ f_is h) in
+          let new : Table = with_records (with_chunk t c (failed (chunk_of t c))) (without_waiting t.records c) in
+          by-rule code (rw (kind, sym c_is) done_so.0) new (rw (kind, sym c_is) refl) z (rw (sym done_so.0) at done_so.1) r r_is
 
-    module _ (g : Bool) (g-is : g ≡ eqb e.kind 15) where
-      pub change-way : T g → (old : Epoch) → old ≡ t.epoch → (new : Epoch) → new ≡ next old
-          → (code : ℕ) (z : Table) → (code ≡ code_of (epochRefusals t.creation t.epoch t.chunks)) × (z ≡ changedTo new t)
-          → (r : Reply) → r ≡ quietReply code → Steps t e r z
-      unfolding ruleOf kind_of place
-      change-way h old old-is new New-is code z done-so r r-is =
-          let kind = eqb-true e.kind 15 (was-true g _ g-is h) in
-          by-rule code (rw kind done-so.0) (changed new t) (rw (kind, New-is, old-is) refl) z (rw (sym done-so.0) at done-so.1) r r-is
+    module _ (g : Bool) (g_is : g ≡ eqb e.kind 15) where
+      pub change_way : T g → (old : Epoch) → old ≡ t.epoch → (new : Epoch) → new ≡ next old
+          → (code : ℕ) (z : Table) → (code ≡ code_of (epoch_refusals t.creation t.epoch t.chunks)) × (z ≡ changed_to new t)
+          → (r : Reply) → r ≡ quiet_reply code → Steps t e r z
+      unfolding rule_of kind_of place
+      change_way h old old_is new new_is code z done_so r r_is =
+          let kind = eqb-true e.kind 15 (was_true g _ g_is h) in
+          by-rule code (rw kind done_so.0) (changed new t) (rw (kind, new_is, old_is) refl) z (rw (sym done_so.0) at done_so.1) r r_is
 
-pub epoch-fits : (t : Table) → wellFormed t ≡ true → (x : Epoch) → x ≡ t.epoch → x.0 < 4294967296
-epoch-fits t ok x x-is = let h = leb-true t.epoch.0 greatestClock (formed t ok).epoch in rw x-is (omega arith)
+pub epoch-fits : (t : Table) → well_formed t ≡ true → (x : Epoch) → x ≡ t.epoch → x.0 < 4294967296
+epoch-fits t ok x x_is = let h = leb-true t.epoch.0 greatest_clock (formed t ok).epoch in rw x_is (omega arith)
 
 -- ---- an event on the parts that it touches
 
@@ -120,42 +120,42 @@ default_none d e [] i h = absurd (omega arith)
 default_none d e (x ∷ l) zero h = refl
 default_none d e (x ∷ l) (suc i) h = default_none d e l i (omega arith)
 
-module _ (t : Table) (e : Event) (ok : wellFormed t ≡ true) (near : ranges t.creation e ≡ true)
+module _ (t : Table) (e : Event) (ok : well_formed t ≡ true) (near : ranges t.creation e ≡ true)
     (hosts : length t.hosts ≡ 8) (chunks : length t.chunks ≡ 8) (records : length t.records ≡ 128) (places : length t.places ≡ 64) where
   abbrev i : ℕ
-  i = hostHere t e
+  i = host_here t e
 
   abbrev c : ℕ
-  c = chunkHere t e
+  c = chunk_here t e
 
   abbrev b : ℕ
-  b = blockHere t e
+  b = block_here t e
 
-  host-here : get_or t.hosts i zeroHost ≡ hostOf t i
-  host-here = default_none zeroHost noHost t.hosts i (rw hosts (host-below t e ok near))
+  host-here : get_or t.hosts i zero_host ≡ host_of t i
+  host-here = default_none zero_host no_host t.hosts i (rw hosts (host-below t e ok near))
 
-  abbrev chunk_in : c < chunkLimit
+  abbrev chunk_in : c < chunk_limit
   chunk_in = chunk-below t e ok near
 
-  abbrev block_in : b < blockLimit
+  abbrev block_in : b < block_limit
   block_in = block-below t e ok near
 
-  chunk-here : get_or t.chunks c zeroChunk ≡ chunk_of t c
-  chunk-here = default_none zeroChunk no_chunk t.chunks c (rw chunks chunk_in)
+  chunk-here : get_or t.chunks c zero_chunk ≡ chunk_of t c
+  chunk-here = default_none zero_chunk no_chunk t.chunks c (rw chunks chunk_in)
 
-  record-here : get_or t.records (at c b) zeroRecord ≡ recordOf t c b
-  record-here = default_none zeroRecord noRecord t.records (at c b) (let x = chunk_in in let y = block_in in rw records (omega arith))
+  record_here : get_or t.records (at c b) zero_record ≡ record_of t c b
+  record_here = default_none zero_record no_record t.records (at c b) (let x = chunk_in in let y = block_in in rw records (omega arith))
 
   abbrev here : Here
-  here = record { slot = slotHere t e; host = i; chunk = c; block = b; «record» = at c b; place = removedAt e }
+  here = record { slot = slot_here t e; host = i; chunk = c; block = b; «record» = at c b; place = removed_at e }
 
-  here-is : hereIn t e ≡ here
-  unfolding hereIn
-  here-is = rw (host-here, lt-ltb c chunkLimit chunk_in, lt-ltb b blockLimit block_in) refl
+  here_is : here_in t e ≡ here
+  unfolding here_in
+  here_is = rw (host-here, lt-ltb c chunk_limit chunk_in, lt-ltb b block_limit block_in) refl
 
   parts_are : parts_in t here ≡ parts_of t e
   unfolding parts_in
-  parts_are = rw (host-here, chunk-here, record-here, lt-ltb b blockLimit block_in) refl
+  parts_are = rw (host-here, chunk-here, record_here, lt-ltb b block_limit block_in) refl
 
   stores : (a : Acted) → storing t here a ≡ stored t e a
   unfolding storing keeping
@@ -164,25 +164,25 @@ module _ (t : Table) (e : Event) (ok : wellFormed t ≡ true) (near : ranges t.c
   abbrev left : Acted
   left = acted e (parts_of t e)
 
-  answers : cond (eqb left.code 0) (done (record { table = stored t e left; outcome = left.outcome })) (refused t left.code) ≡ actedOn t e
-  unfolding actedOn storing keeping
-  answers = rw (here-is, parts_are) refl
+  answers : cond (eqb left.code 0) (done (record { table = stored t e left; outcome = left.outcome })) (refused t left.code) ≡ acted_on t e
+  unfolding acted_on storing keeping
+  answers = rw (here_is, parts_are) refl
 
-  pub acted-on-is : (e.kind ≡ 11 → ⊥) → (e.kind ≡ 15 → ⊥) → actedOn t e ≡ step t e
-  acted-on-is n11 n15 = sym answers ∙ go (eqb left.code 0) refl
+  pub acted_on_is : (e.kind ≡ 11 → ⊥) → (e.kind ≡ 15 → ⊥) → acted_on t e ≡ step t e
+  acted_on_is n11 n15 = sym answers ∙ go (eqb left.code 0) refl
     where
       x : Acts t e
       x = acts t e places ok near n11 n15
 
       go : (g : Bool) → eqb left.code 0 ≡ g → cond g (done (record { table = stored t e left; outcome = left.outcome })) (refused t left.code) ≡ step t e
       go true h = stored_is t e ok near x (eqb-true left.code 0 h)
-      go false h = refused-is t e ok near x (eqb-false left.code 0 h)
+      go false h = refused_is t e ok near x (eqb-false left.code 0 h)
 
-pub act-way : (t : Table) (e : Event) (ok : wellFormed t ≡ true) (k : Creation) (k-is : k ≡ t.creation) (y : Bool) (y-is : y ≡ not (ranges k e)) → T (not y)
+pub act_way : (t : Table) (e : Event) (ok : well_formed t ≡ true) (k : Creation) (k_is : k ≡ t.creation) (y : Bool) (y_is : y ≡ not (ranges k e)) → T (not y)
     → length t.hosts ≡ 8 → length t.chunks ≡ 8 → length t.records ≡ 128 → length t.places ≡ 64
     → (f : Bool) → f ≡ eqb e.kind 11 → T (not f) → (g : Bool) → g ≡ eqb e.kind 15 → T (not g)
-    → (r : Reply) (z : Table) → (r ≡ replyOf (actedOn t e)) × (z ≡ (actedOn t e).table) → Steps t e r z
-act-way t e ok k k-is y y-is did hosts chunks records places f f-is other g g-is others r z done-so =
-    steps t e (actedOn t e)
-    (acted-on-is t e ok (inside t e ok k k-is y y-is did) hosts chunks records places (eqb-false e.kind 11 (was-false f _ f-is other)) (eqb-false e.kind 15 (was-false g _ g-is others)))
-    r done-so.0 z done-so.1
+    → (r : Reply) (z : Table) → (r ≡ reply_of (acted_on t e)) × (z ≡ (acted_on t e).table) → Steps t e r z
+act_way t e ok k k_is y y_is did hosts chunks records places f f_is other g g_is others r z done_so =
+    steps t e (acted_on t e)
+    (acted_on_is t e ok (inside t e ok k k_is y y_is did) hosts chunks records places (eqb-false e.kind 11 (was_false f _ f_is other)) (eqb-false e.kind 15 (was_false g _ g_is others)))
+    r done_so.0 z done_so.1

@@ -13,34 +13,34 @@ use Rattle.rules.specs.declared.Table.{Table}
 use Rattle.rules.specs.declared.Event.{Event}
 use Rattle.rules.specs.declared.Answer.{Answer}
 use Rattle.rules.specs.declared.Reply.{Reply}
-use Rattle.rules.specs.Events.{step, replyOf}
+use Rattle.rules.specs.Events.{step, reply_of}
 use Rattle.rules.proofs.Unique.{unique, Determined}
-use Rattle.engine.proofs.create.Reads as create-contract
-use Rattle.engine.specs.contracts.step as step-contract
-use Rattle.engine.specs.contracts.step_in as step-in-contract
+use Rattle.engine.proofs.create.Reads as create_contract
+use Rattle.engine.specs.contracts.step as step_contract
+use Rattle.engine.specs.contracts.step_in as step_in_contract
 
-create-unique : Determined create-contract.Learnt
-create-unique κs a x y s u = unique
+create_unique : Determined create_contract.Learnt
+create_unique κs a x y s u = unique
 
 -- what a caller of the others learns
 abbrev Answered : Table → Event → (out : Answer) → Type 0
 Answered t e out = out ≡ step t e
 
 abbrev Learnt : Table → Event → (out : Reply) (left : Table) → Type 0
-Learnt t e out left = (out ≡ replyOf (step t e)) × (left ≡ (step t e).table)
+Learnt t e out left = (out ≡ reply_of (step t e)) × (left ≡ (step t e).table)
 
 module _ {M : Type 1} {𝓤 : Ura M} (𝓛 : Logic 𝓤) (at_mem : Memory → SProp 𝓤) (run : Routine → Fun 𝓤) where
   -- it is all that the contract states
-  step-states : (κs : Lfts 0) (a : Args step-contract.signature κs) (out : Answer) (end : AtExit step-contract.ended κs)
-      → (step-contract.clauses 𝓛 at_mem run κs a).ensures tt out end ≡ fact 𝓤 (Answered a.0 a.1.0 out)
-  step-states κs a out end = refl
+  step_states : (κs : Lfts 0) (a : Args step_contract.signature κs) (out : Answer) (end : AtExit step_contract.ended κs)
+      → (step_contract.clauses 𝓛 at_mem run κs a).ensures tt out end ≡ fact 𝓤 (Answered a.0 a.1.0 out)
+  step_states κs a out end = refl
 
-  step-in-states : (κs : Lfts 1) (a : Args step-in-contract.signature κs) (out : Reply) (end : AtExit step-in-contract.ended κs)
-      → (step-in-contract.clauses 𝓛 at_mem run κs a).ensures tt out end ≡ fact 𝓤 (Learnt a.0.now a.1.0 out end.0.now)
-  step-in-states κs a out end = refl
+  step_in_states : (κs : Lfts 1) (a : Args step_in_contract.signature κs) (out : Reply) (end : AtExit step_in_contract.ended κs)
+      → (step_in_contract.clauses 𝓛 at_mem run κs a).ensures tt out end ≡ fact 𝓤 (Learnt a.0.now a.1.0 out end.0.now)
+  step_in_states κs a out end = refl
 
 step-unique : (t : Table) (e : Event) (x y : Answer) → Answered t e x → Answered t e y → x ≡ y
 step-unique t e x y = unique
 
-step-in-unique : (t : Table) (e : Event) (x y : Reply) (left right : Table) → Learnt t e x left → Learnt t e y right → (x ≡ y) × (left ≡ right)
-step-in-unique t e x y left right p q = (unique p.0 q.0, unique p.1 q.1)
+step_in_unique : (t : Table) (e : Event) (x y : Reply) (left right : Table) → Learnt t e x left → Learnt t e y right → (x ≡ y) × (left ≡ right)
+step_in_unique t e x y left right p q = (unique p.0 q.0, unique p.1 q.1)

@@ -6,8 +6,8 @@ use Rattle.rules.specs.declared.Answer.{Answer}
 use Rattle.rules.specs.declared.Reply.{Reply}
 
 -- a code, and nothing to tell
-abbrev pub quietReply : (code : ℕ) → Reply
-quietReply n = record { code = n; outcome = Outcome.None }
+abbrev pub quiet_reply : (code : ℕ) → Reply
+quiet_reply n = record { code = n; outcome = Outcome.None }
 
 abbrev pub answer_of : Table → Reply → Answer
 answer_of t r = record { table = t; code = r.code; outcome = r.outcome }

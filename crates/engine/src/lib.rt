@@ -2,10 +2,10 @@
 // lent the table, or handed parts.
 ghost use Rattle.std.specs.Prelude.{◌<◌, ◌≡◌, true, not, eqb};
 ghost use Rattle.rules.specs.Creation.{created};
-ghost use Rattle.rules.specs.Events.{ranges, step, replyOf};
-ghost use Rattle.rules.specs.Formed.{wellFormed};
+ghost use Rattle.rules.specs.Events.{ranges, step, reply_of};
+ghost use Rattle.rules.specs.Formed.{well_formed};
 ghost use Rattle.rules.specs.Timestamps.{next};
-ghost use Rattle.engine.specs.Answers.{quietReply, answer_of};
+ghost use Rattle.engine.specs.Answers.{quiet_reply, answer_of};
 
 use rules::{Answer, Created, Creation, Epoch, Event, Outcome, Reply, Table};
 
@@ -16,11 +16,11 @@ pub fn create(k: Creation) -> Created
     table_creation::create(k)
 }
 
-// ---- what is read of an event, and said of it
+// ---- what is read of an event, and Said of it
 
 // A code without an outcome: a refusal's, or that of an event that has none.
 fn quiet(code: u64) -> Reply
-    ensures { result ≡ quietReply code }
+    ensures { result ≡ quiet_reply code }
 {
     Reply {
         code: code,
@@ -63,10 +63,10 @@ fn next_of(x: Epoch) -> Epoch
 
 // ---- the event, where the table lies
 
-// On a well-formed table: ranges first, then the event. Failure and epoch change touch more than one record.
+// On a well_formed_lem table: ranges first, then the event. Failure and epoch change touch more than one record.
 fn step_formed(t: &mut Table, e: Event) -> Reply
-    requires { wellFormed t.old ≡ true }
-    ensures { (result ≡ replyOf (step t.old e)) × (t.new ≡ (step t.old e).table) }
+    requires { well_formed t.old ≡ true }
+    ensures { (result ≡ reply_of (step t.old e)) × (t.new ≡ (step t.old e).table) }
 {
     if is_outside(table_numbers::creation_in(t), e) {
         return quiet(rules::OUT_OF_RANGE);
@@ -83,7 +83,7 @@ fn step_formed(t: &mut Table, e: Event) -> Reply
 
 // One event, with any numbers, on any table. "Code 8 is looked for first, then ranges (1), then the order in each event".
 pub fn step_in(t: &mut Table, e: Event) -> Reply
-    ensures { (result ≡ replyOf (step t.old e)) × (t.new ≡ (step t.old e).table) }
+    ensures { (result ≡ reply_of (step t.old e)) × (t.new ≡ (step t.old e).table) }
 {
     if table_sound::sound_in(t) {
         return step_formed(t, e);

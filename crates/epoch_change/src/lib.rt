@@ -1,17 +1,17 @@
 // Event 15, the epoch change, in its parts: its code, every chunk renewed.
 ghost use Rattle.std.specs.Prelude.{◌≡◌, ◌&&◌, get_or};
 ghost use Rattle.rules.specs.Codes.{code_of};
-ghost use Rattle.rules.specs.Events.{anew, renewed, allLost, epochRefusals};
-ghost use Rattle.rules.specs.Kinds.{isFailed};
-ghost use Rattle.rules.specs.Limits.{chunkLimit, blockLimit};
-ghost use Rattle.rules.specs.Tables.{isBlock, setOf};
+ghost use Rattle.rules.specs.Events.{anew, renewed, all_lost, epoch_refusals};
+ghost use Rattle.rules.specs.Kinds.{is_failed};
+ghost use Rattle.rules.specs.Limits.{chunk_limit, block_limit};
+ghost use Rattle.rules.specs.Tables.{is_block, set_of};
 ghost use Rattle.rules.specs.Words.{if◌then◌else◌, each, some, numbers};
 ghost use Rattle.rules.specs.Zero.{no_chunk};
 
 use rules::{Chunk, Creation, Epoch, Set, State};
 
 fn is_failed(state: State) -> bool
-    ensures { result ≡ isFailed state }
+    ensures { result ≡ is_failed state }
 {
     match state {
         State::Normal => false,
@@ -22,7 +22,7 @@ fn is_failed(state: State) -> bool
 
 // "no chunk failed"; an unused place is normal.
 fn any_failed(chunks: [Chunk; rules::CHUNKS]) -> bool
-    ensures { result ≡ some (λ c. isFailed (get_or chunks c no_chunk).state) (numbers chunkLimit) }
+    ensures { result ≡ some (λ c. is_failed (get_or chunks c no_chunk).state) (numbers chunk_limit) }
 {
     let mut c: usize = 0;
     while c < rules::CHUNKS {
@@ -38,7 +38,7 @@ fn any_failed(chunks: [Chunk; rules::CHUNKS]) -> bool
 
 // "every chunk of its set is lost".
 fn all_lost(set: Set, chunks: [Chunk; rules::CHUNKS]) -> bool
-    ensures { result ≡ allLost «set» chunks }
+    ensures { result ≡ all_lost «set» chunks }
 {
     let mut c: usize = 0;
     while c < rules::CHUNKS {
@@ -54,7 +54,7 @@ fn all_lost(set: Set, chunks: [Chunk; rules::CHUNKS]) -> bool
 
 // "for some block every chunk of its set is lost"; a block that the store lacks has no set to lose.
 fn any_all_lost(k: Creation, chunks: [Chunk; rules::CHUNKS]) -> bool
-    ensures { result ≡ some (λ b. isBlock k b && allLost (setOf k b) chunks) (numbers blockLimit) }
+    ensures { result ≡ some (λ b. is_block k b && all_lost (set_of k b) chunks) (numbers block_limit) }
 {
     let mut b: usize = 0;
     while b < rules::BLOCKS {
@@ -69,7 +69,7 @@ fn any_all_lost(k: Creation, chunks: [Chunk; rules::CHUNKS]) -> bool
 
 // "15 epoch change: no chunk failed (2), then 7, then 6".
 pub fn change_code(k: Creation, epoch: Epoch, chunks: [Chunk; rules::CHUNKS]) -> u64
-    ensures { result ≡ code_of (epochRefusals k epoch chunks) }
+    ensures { result ≡ code_of (epoch_refusals k epoch chunks) }
 {
     let failed = any_failed(chunks);
     let last = epoch.0 == rules::GREATEST_CLOCK;
@@ -102,7 +102,7 @@ fn begin_anew(used: bool, next: Epoch, old: Chunk) -> Chunk
 
 // "reconciliation sets and lost marks cleared, the epoch grows by one in every chunk, and every chunk is normal".
 pub fn renew(k: Creation, next: Epoch, chunks: [Chunk; rules::CHUNKS]) -> [Chunk; rules::CHUNKS]
-    ensures { result ≡ each (renewed k next chunks) (numbers chunkLimit) }
+    ensures { result ≡ each (renewed k next chunks) (numbers chunk_limit) }
 {
     let mut out = chunks;
     let mut c: usize = 0;

@@ -7,46 +7,46 @@ use Rattle.rules.specs.declared.Copy.{Copy}
 use Rattle.rules.specs.declared.Table.{Table}
 use Rattle.rules.specs.declared.Epoch.{Epoch}
 use Rattle.rules.specs.Codes.{code_of}
-use Rattle.rules.specs.Events.{settledIn, renewed, epochRefusals}
-use Rattle.rules.specs.Limits.{chunkLimit}
+use Rattle.rules.specs.Events.{settled_in, renewed, epoch_refusals}
+use Rattle.rules.specs.Limits.{chunk_limit}
 use Rattle.rules.specs.Settlement.{settled}
-use Rattle.rules.specs.Tables.{setOf, withRecords, withChunk, withChunks, withEpoch}
+use Rattle.rules.specs.Tables.{set_of, with_records, with_chunk, with_chunks, with_epoch}
 use Rattle.rules.specs.Words.{if◌then◌else◌, each, fold, numbers}
-use Rattle.rules.specs.Zero.{◌among◌, zeroChunk, zeroRecord, noCopy}
-use Rattle.table_records.specs.Numbers.{recordNumber}
+use Rattle.rules.specs.Zero.{◌among◌, zero_chunk, zero_record, no_copy}
+use Rattle.table_records.specs.Numbers.{record_number}
 
-abbrev pub copyOf : Creation → Chunk → Record → (chunk block : ℕ) → Copy
-copyOf k chunk held c b = record { member = c among setOf k b; lost = chunk.lost; held = held }
+abbrev pub copy_of : Creation → Chunk → Record → (chunk block : ℕ) → Copy
+copy_of k chunk held c b = record { member = c among set_of k b; lost = chunk.lost; held = held }
 
 abbrev pub copy_at : Table → (block chunk : ℕ) → Copy
-copy_at t b c = copyOf t.creation (get_or t.chunks c zeroChunk) (get_or t.records (recordNumber c b) zeroRecord) c b
+copy_at t b c = copy_of t.creation (get_or t.chunks c zero_chunk) (get_or t.records (record_number c b) zero_record) c b
 
-abbrev pub copiesAt : Table → (block : ℕ) → List Copy
-copiesAt t b = each (copy_at t b) (numbers chunkLimit)
+abbrev pub copies_at : Table → (block : ℕ) → List Copy
+copies_at t b = each (copy_at t b) (numbers chunk_limit)
 
-abbrev pub heldAt : List Copy → (chunk : ℕ) → Record
-heldAt copies c = if ltb c chunkLimit then (get_or copies c noCopy).held else zeroRecord
+abbrev pub held_at : List Copy → (chunk : ℕ) → Record
+held_at copies c = if ltb c chunk_limit then (get_or copies c no_copy).held else zero_record
 
 -- the table with what chunk c holds of block b
-abbrev pub withHeld : List Copy → (block : ℕ) → Table → (chunk : ℕ) → Table
-withHeld copies b t c = withRecords t (set t.records (recordNumber c b) (heldAt copies c))
+abbrev pub with_held : List Copy → (block : ℕ) → Table → (chunk : ℕ) → Table
+with_held copies b t c = with_records t (set t.records (record_number c b) (held_at copies c))
 
 -- the table with block b settled
-unfoldable pub withBlock : Table → (block : ℕ) → Table
-withBlock t b = fold (withHeld (settled (copiesAt t b)) b) t (numbers chunkLimit)
+unfoldable pub with_block : Table → (block : ℕ) → Table
+with_block t b = fold (with_held (settled (copies_at t b)) b) t (numbers chunk_limit)
 
 -- ---- the chunks
 
-abbrev pub chunkAt : List Chunk → (chunk : ℕ) → Chunk
-chunkAt chunks c = get_or chunks c zeroChunk
+abbrev pub chunk_at : List Chunk → (chunk : ℕ) → Chunk
+chunk_at chunks c = get_or chunks c zero_chunk
 
-abbrev pub withChunkAt : List Chunk → Table → (chunk : ℕ) → Table
-withChunkAt chunks t c = withChunk t c (chunkAt chunks c)
+abbrev pub with_chunk_at : List Chunk → Table → (chunk : ℕ) → Table
+with_chunk_at chunks t c = with_chunk t c (chunk_at chunks c)
 
--- ---- the event: what rules' epochRule leaves, where the epoch that begins is next
+-- ---- the event: what rules' epoch_rule leaves, where the epoch that begins is next
 abbrev pub changed : (next : Epoch) → Table → Table
 changed next t =
-    withEpoch (withChunks (withRecords t (settledIn t.creation t.chunks t.records)) (each (renewed t.creation next t.chunks) (numbers chunkLimit))) next
+    with_epoch (with_chunks (with_records t (settled_in t.creation t.chunks t.records)) (each (renewed t.creation next t.chunks) (numbers chunk_limit))) next
 
-abbrev pub changedTo : (next : Epoch) → Table → Table
-changedTo next t = if eqb (code_of (epochRefusals t.creation t.epoch t.chunks)) 0 then changed next t else t
+abbrev pub changed_to : (next : Epoch) → Table → Table
+changed_to next t = if eqb (code_of (epoch_refusals t.creation t.epoch t.chunks)) 0 then changed next t else t

@@ -3,13 +3,13 @@
 // (walks/); what they call is by value.
 ghost use Rattle.std.specs.Prelude.{◌≡◌, not, [], ◌∷◌, eqb};
 ghost use Rattle.rules.specs.Codes.{code_of};
-ghost use Rattle.rules.specs.Events.{settledIn, renewed, epochRefusals};
-ghost use Rattle.rules.specs.Limits.{chunkLimit};
+ghost use Rattle.rules.specs.Events.{settled_in, renewed, epoch_refusals};
+ghost use Rattle.rules.specs.Limits.{chunk_limit};
 ghost use Rattle.rules.specs.Settlement.{settled};
-ghost use Rattle.rules.specs.Tables.{setOf, withRecords, withChunks, withEpoch};
+ghost use Rattle.rules.specs.Tables.{set_of, with_records, with_chunks, with_epoch};
 ghost use Rattle.rules.specs.Words.{each, numbers};
 ghost use Rattle.rules.specs.Zero.{◌among◌};
-ghost use Rattle.epoch_lent.specs.Steps.{copyOf, copy_at, copiesAt, heldAt, withHeld, withBlock, chunkAt, withChunkAt, changedTo};
+ghost use Rattle.epoch_lent.specs.Steps.{copy_of, copy_at, copies_at, held_at, with_held, with_block, chunk_at, with_chunk_at, changed_to};
 
 use rules::{Chunk, Copy, Creation, Epoch, Record, Table};
 
@@ -21,7 +21,7 @@ struct Copies {
 
 // The chunk has a copy of the block.
 fn holds(k: Creation, c: u64, b: u64) -> bool
-    ensures { result ≡ (c among setOf k b) }
+    ensures { result ≡ (c among set_of k b) }
 {
     let i = b as usize;
     if i < rules::BLOCKS {
@@ -32,7 +32,7 @@ fn holds(k: Creation, c: u64, b: u64) -> bool
 }
 
 fn copy_of(k: Creation, chunk: Chunk, held: Record, c: u64, b: u64) -> Copy
-    ensures { result ≡ copyOf k chunk held c b }
+    ensures { result ≡ copy_of k chunk held c b }
 {
     Copy {
         member: holds(k, c, b),
@@ -60,7 +60,7 @@ fn settle_copies(
 
 // What chunk c holds; zero where there is no such chunk.
 fn held_at(x: Copies, c: u64) -> Record
-    ensures { result ≡ heldAt x.copies c }
+    ensures { result ≡ held_at x.copies c }
 {
     let i = c as usize;
     if i < rules::CHUNKS {
@@ -82,7 +82,7 @@ fn copy_in(t: &Table, c: u64, b: u64) -> Copy
 
 // The copies of a block, gathered and settled.
 fn settled_in(t: &Table, b: u64) -> Copies
-    ensures { result ≡ record { copies = settled (copiesAt t.now b) } }
+    ensures { result ≡ record { copies = settled (copies_at t.now b) } }
 {
     let c0 = copy_in(t, 0, b);
     let c1 = copy_in(t, 1, b);
@@ -97,7 +97,7 @@ fn settled_in(t: &Table, b: u64) -> Copies
 
 // What chunk c holds of block b is stored.
 fn store_in(t: &mut Table, x: Copies, c: u64, b: u64)
-    ensures { t.new ≡ withHeld x.copies b t.old c }
+    ensures { t.new ≡ with_held x.copies b t.old c }
 {
     let i = table_records::record_number(c, b);
     let held = held_at(x, c);
@@ -105,7 +105,7 @@ fn store_in(t: &mut Table, x: Copies, c: u64, b: u64)
 }
 
 fn settle_block_in(t: &mut Table, b: u64)
-    ensures { t.new ≡ withBlock t.old b }
+    ensures { t.new ≡ with_block t.old b }
 {
     let x = settled_in(&*t, b);
     store_in(&mut *t, x, 0, b);
@@ -120,7 +120,7 @@ fn settle_block_in(t: &mut Table, b: u64)
 
 // "Settling takes all copies of one block together", block by block.
 fn settle_in(t: &mut Table)
-    ensures { t.new ≡ withRecords t.old (settledIn t.old.creation t.old.chunks t.old.records) }
+    ensures { t.new ≡ with_records t.old (settled_in t.old.creation t.old.chunks t.old.records) }
 {
     let mut b: u64 = 0;
     while b < rules::BLOCKS as u64 {
@@ -153,14 +153,14 @@ fn ranked(
 }
 
 fn code_of(k: Creation, epoch: Epoch, x: Chunks) -> u64
-    ensures { result ≡ code_of (epochRefusals k epoch x.chunks) }
+    ensures { result ≡ code_of (epoch_refusals k epoch x.chunks) }
 {
     let chunks = x.chunks;
     epoch_change::change_code(k, epoch, chunks)
 }
 
 fn renew_chunks(k: Creation, next: Epoch, x: Chunks) -> Chunks
-    ensures { result ≡ record { chunks = each (renewed k next x.chunks) (numbers chunkLimit) } }
+    ensures { result ≡ record { chunks = each (renewed k next x.chunks) (numbers chunk_limit) } }
 {
     let chunks = x.chunks;
     let out = epoch_change::renew(k, next, chunks);
@@ -169,7 +169,7 @@ fn renew_chunks(k: Creation, next: Epoch, x: Chunks) -> Chunks
 
 // Chunk c; zero where there is none.
 fn chunk_at(x: Chunks, c: u64) -> Chunk
-    ensures { result ≡ chunkAt x.chunks c }
+    ensures { result ≡ chunk_at x.chunks c }
 {
     let i = c as usize;
     if i < rules::CHUNKS {
@@ -199,7 +199,7 @@ fn chunks_in(t: &Table) -> Chunks
 }
 
 fn change_code_in(t: &Table) -> u64
-    ensures { result ≡ code_of (epochRefusals t.now.creation t.now.epoch t.now.chunks) }
+    ensures { result ≡ code_of (epoch_refusals t.now.creation t.now.epoch t.now.chunks) }
 {
     let k = table_numbers::creation_in(t);
     let epoch = table_numbers::epoch_in(t);
@@ -208,7 +208,7 @@ fn change_code_in(t: &Table) -> u64
 }
 
 fn store_chunk_in(t: &mut Table, x: Chunks, c: u64)
-    ensures { t.new ≡ withChunkAt x.chunks t.old c }
+    ensures { t.new ≡ with_chunk_at x.chunks t.old c }
 {
     let chunk = chunk_at(x, c);
     table_chunks::put_chunk(&mut *t, c, chunk);
@@ -216,7 +216,7 @@ fn store_chunk_in(t: &mut Table, x: Chunks, c: u64)
 
 // "the epoch grows by one in every chunk, and every chunk is normal".
 fn renew_in(t: &mut Table, next: Epoch)
-    ensures { t.new ≡ withEpoch (withChunks t.old (each (renewed t.old.creation next t.old.chunks) (numbers chunkLimit))) next }
+    ensures { t.new ≡ with_epoch (with_chunks t.old (each (renewed t.old.creation next t.old.chunks) (numbers chunk_limit))) next }
 {
     let k = table_numbers::creation_in(&*t);
     let old = chunks_in(&*t);
@@ -236,7 +236,7 @@ fn renew_in(t: &mut Table, next: Epoch)
 
 // Its code; where it is refused the table stays as found. next is the epoch that begins.
 pub fn change_in(t: &mut Table, next: Epoch) -> u64
-    ensures { (result ≡ code_of (epochRefusals t.old.creation t.old.epoch t.old.chunks)) × (t.new ≡ changedTo next t.old) }
+    ensures { (result ≡ code_of (epoch_refusals t.old.creation t.old.epoch t.old.chunks)) × (t.new ≡ changed_to next t.old) }
 {
     let code = change_code_in(&*t);
     let refused = is_refused(code);

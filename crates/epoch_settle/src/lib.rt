@@ -1,12 +1,12 @@
 // Settlement of one block: "Settling takes all copies of one block together".
 ghost use Rattle.std.specs.Prelude.{◌≡◌, ◌&&◌};
 ghost use Rattle.rules.specs.Kinds.{value_of};
-ghost use Rattle.rules.specs.Settlement.{waiting, writeWith, abortedWith, notLost, agreed, settled};
+ghost use Rattle.rules.specs.Settlement.{waiting, write_with, aborted_with, not_lost, agreed, settled};
 ghost use Rattle.rules.specs.Timestamps.{later};
-ghost use Rattle.rules.specs.Waiting.{inOrder};
+ghost use Rattle.rules.specs.Waiting.{in_order};
 ghost use Rattle.rules.specs.Words.{if◌then◌else◌, some, none, first, fold};
-ghost use Rattle.rules.specs.Zero.{zeroEntry, noCopy};
-ghost use Rattle.epoch_settle.specs.Steps.{agrees, withEntry, common};
+ghost use Rattle.rules.specs.Zero.{zero_entry, no_copy};
+ghost use Rattle.epoch_settle.specs.Steps.{agrees, with_entry, common};
 
 use rules::{Copy, Entry, Timestamp, Waiting};
 
@@ -42,14 +42,14 @@ fn later_in(m: Timestamp, member: bool, t: u64) -> Timestamp
 // ---- what waits in one chunk
 
 fn write_with(t: Timestamp, e: Entry) -> bool
-    ensures { result ≡ writeWith t e }
+    ensures { result ≡ write_with t e }
 {
     let k = e.kind;
     (e.timestamp.0 == t.0) & !table_kinds::is_read(k)
 }
 
 fn aborted_with(t: Timestamp, e: Entry) -> bool
-    ensures { result ≡ abortedWith t e }
+    ensures { result ≡ aborted_with t e }
 {
     let k = e.kind;
     (e.timestamp.0 == t.0) & table_kinds::is_aborted(k)
@@ -57,7 +57,7 @@ fn aborted_with(t: Timestamp, e: Entry) -> bool
 
 // A write with t waits, and no aborted one.
 fn keeps(q: Waiting, t: Timestamp) -> bool
-    ensures { result ≡ some (writeWith t) (inOrder q) && none (abortedWith t) (inOrder q) }
+    ensures { result ≡ some (write_with t) (in_order q) && none (aborted_with t) (in_order q) }
 {
     let mut held = false;
     let mut aborted = false;
@@ -74,7 +74,7 @@ fn keeps(q: Waiting, t: Timestamp) -> bool
 
 // The value of the first write with t: from the last one, the first one stays.
 fn value_with(q: Waiting, t: Timestamp) -> u64
-    ensures { result ≡ value_of (first zeroEntry (writeWith t) (inOrder q)).kind }
+    ensures { result ≡ value_of (first zero_entry (write_with t) (in_order q)).kind }
 {
     let mut v: u64 = 0;
     let mut i = rules::WAITING;
@@ -118,7 +118,7 @@ fn agreed(copies: [Copy; rules::CHUNKS], t: Timestamp) -> bool
 // What waits in the lowest chunk of the set that is not lost. A committed write waits in every chunk not lost, so these are all
 // that can be committed.
 fn candidates(copies: [Copy; rules::CHUNKS]) -> Waiting
-    ensures { inOrder result ≡ waiting (first noCopy notLost copies) }
+    ensures { in_order result ≡ waiting (first no_copy not_lost copies) }
 {
     let mut i: usize = 0;
     while i < rules::CHUNKS {
@@ -134,7 +134,7 @@ fn candidates(copies: [Copy; rules::CHUNKS]) -> Waiting
 
 // The entry's timestamp, where it is later than m and committed, else m.
 fn with_entry(copies: [Copy; rules::CHUNKS], waits: bool, m: Timestamp, e: Entry) -> Timestamp
-    ensures { result ≡ if waits then withEntry copies m e else m }
+    ensures { result ≡ if waits then with_entry copies m e else m }
 {
     let k = e.kind;
     let t = e.timestamp;
@@ -150,7 +150,7 @@ fn with_entry(copies: [Copy; rules::CHUNKS], waits: bool, m: Timestamp, e: Entry
 
 // The latest committed of the entries q, else w: from the last one, behind which few have to be looked at.
 fn latest(copies: [Copy; rules::CHUNKS], w: Timestamp, q: Waiting) -> Timestamp
-    ensures { result ≡ fold (withEntry copies) w (inOrder q) }
+    ensures { result ≡ fold (with_entry copies) w (in_order q) }
 {
     let mut m = w;
     let mut i = rules::WAITING;

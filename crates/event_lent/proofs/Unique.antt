@@ -12,20 +12,20 @@ use denote.Triple.Clauses.{AtExit}
 use Rattle.rules.specs.declared.Table.{Table}
 use Rattle.rules.specs.declared.Event.{Event}
 use Rattle.rules.specs.declared.Reply.{Reply}
-use Rattle.rules.specs.Events.{replyOf}
+use Rattle.rules.specs.Events.{reply_of}
 use Rattle.rules.proofs.Unique.{unique}
-use Rattle.event_lent.specs.Touches.{actedOn}
-use Rattle.event_lent.specs.contracts.act_in as act-in-contract
+use Rattle.event_lent.specs.Touches.{acted_on}
+use Rattle.event_lent.specs.contracts.act_in as act_in_contract
 
 -- what a caller learns: two equations
 abbrev Learnt : Table → Event → (out : Reply) (left : Table) → Type 0
-Learnt t e out left = (out ≡ replyOf (actedOn t e)) × (left ≡ (actedOn t e).table)
+Learnt t e out left = (out ≡ reply_of (acted_on t e)) × (left ≡ (acted_on t e).table)
 
 -- they are all that the contract states
-act-in-states : {M : Type 1} {𝓤 : Ura M} (𝓛 : Logic 𝓤) (at_mem : Memory → SProp 𝓤) (run : Routine → Fun 𝓤)
-    (κs : Lfts 1) (a : Args act-in-contract.signature κs) (out : Reply) (end : AtExit act-in-contract.ended κs)
-    → (act-in-contract.clauses 𝓛 at_mem run κs a).ensures tt out end ≡ fact 𝓤 (Learnt a.0.now a.1.0 out end.0.now)
-act-in-states 𝓛 at_mem run κs a out end = refl
+act_in_states : {M : Type 1} {𝓤 : Ura M} (𝓛 : Logic 𝓤) (at_mem : Memory → SProp 𝓤) (run : Routine → Fun 𝓤)
+    (κs : Lfts 1) (a : Args act_in_contract.signature κs) (out : Reply) (end : AtExit act_in_contract.ended κs)
+    → (act_in_contract.clauses 𝓛 at_mem run κs a).ensures tt out end ≡ fact 𝓤 (Learnt a.0.now a.1.0 out end.0.now)
+act_in_states 𝓛 at_mem run κs a out end = refl
 
-act-in-unique : (t : Table) (e : Event) (x y : Reply) (left right : Table) → Learnt t e x left → Learnt t e y right → (x ≡ y) × (left ≡ right)
-act-in-unique t e x y left right p q = (unique p.0 q.0, unique p.1 q.1)
+act_in_unique : (t : Table) (e : Event) (x y : Reply) (left right : Table) → Learnt t e x left → Learnt t e y right → (x ≡ y) × (left ≡ right)
+act_in_unique t e x y left right p q = (unique p.0 q.0, unique p.1 q.1)

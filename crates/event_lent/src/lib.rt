@@ -1,14 +1,14 @@
 // One event that touches one host, one chunk, one record and the network, on a lent table: they are read where they lie, the event
 // acts on them by value, and what it leaves is stored back. On any table: beyond an array's end there is zero, and nothing is stored.
 ghost use Rattle.std.specs.Prelude.{not, ◌≡◌, eqb, get_or, length};
-ghost use Rattle.rules.specs.Events.{replyOf};
-ghost use Rattle.rules.specs.Limits.{chunkLimit};
+ghost use Rattle.rules.specs.Events.{reply_of};
+ghost use Rattle.rules.specs.Limits.{chunk_limit};
 ghost use Rattle.rules.specs.Network.{replied};
-ghost use Rattle.rules.specs.Tables.{withPlaces};
-ghost use Rattle.rules.specs.Zero.{zeroPlace};
+ghost use Rattle.rules.specs.Tables.{with_places};
+ghost use Rattle.rules.specs.Zero.{zero_place};
 ghost use Rattle.event_parts.specs.Acts.{acted};
-ghost use Rattle.network_places.specs.Sending.{sentAll};
-ghost use Rattle.event_lent.specs.Touches.{setIn, removedAt, hereBy, hereIn, partsBy, parts_in, keeping, refusalOf, grantOf, actedOn};
+ghost use Rattle.network_places.specs.Sending.{sent_all};
+ghost use Rattle.event_lent.specs.Touches.{set_in, removed_at, here_by, here_in, parts_by, parts_in, keeping, refusal_of, grant_of, acted_on};
 
 use event_parts::{Acted, Parts};
 use rules::{Chunk, Creation, Epoch, Event, Host, Outcome, Place, Record, Reply, Set, Slot, Table};
@@ -34,7 +34,7 @@ fn slot_of(p: Place) -> Slot
 
 // The chunks that hold a block; none, where there is no such block.
 fn set_of(k: Creation, block: u64) -> Set
-    ensures { result ≡ setIn k block }
+    ensures { result ≡ set_in k block }
 {
     let b = block as usize;
     if b < rules::BLOCKS {
@@ -45,7 +45,7 @@ fn set_of(k: Creation, block: u64) -> Set
 
 // "4 deliver (place), 5 drop (place)": the message goes. Any other event removes none: that is, the one beyond the last place.
 fn removed_at(e: Event) -> u64
-    ensures { result ≡ removedAt e }
+    ensures { result ≡ removed_at e }
 {
     if (e.kind == 4) | (e.kind == 5) {
         return e.a;
@@ -55,7 +55,7 @@ fn removed_at(e: Event) -> u64
 
 // An event that names no block is about the block of the host's front operation.
 fn here_by(e: Event, s: Slot, host: u64, h: Host) -> Here
-    ensures { result ≡ hereBy e s host h }
+    ensures { result ≡ here_by e s host h }
 {
     let c = event_operands::chunk_at(e, s);
     let b = event_operands::block_at(e, s, h);
@@ -70,7 +70,7 @@ fn here_by(e: Event, s: Slot, host: u64, h: Host) -> Here
 }
 
 fn here_in(t: &Table, e: Event) -> Here
-    ensures { result ≡ hereIn t.now e }
+    ensures { result ≡ here_in t.now e }
 {
     let slot = slot_of(table_places::place_in(t, event_operands::place_at(e)));
     let i = event_operands::host_at(e, slot);
@@ -112,7 +112,7 @@ fn parts_by(
     held: Record,
     free: u64,
 ) -> Parts
-    ensures { result ≡ partsBy k epoch x host chunk held free }
+    ensures { result ≡ parts_by k epoch x host chunk held free }
 {
     let slot = x.slot;
     let set = set_of(k, x.block);
@@ -162,7 +162,7 @@ fn held_left(a: Acted) -> Record
 
 // New message k: there is one a chunk.
 fn message(a: Acted, k: u64) -> Slot
-    ensures { (result ≡ (get_or a.messages k zeroPlace).slot) × (length a.messages ≡ chunkLimit) }
+    ensures { (result ≡ (get_or a.messages k zero_place).slot) × (length a.messages ≡ chunk_limit) }
 {
     let i = k as usize;
     if i < rules::CHUNKS {
@@ -185,14 +185,14 @@ fn keep_in(t: &mut Table, x: Here, a: Acted)
 
 // New message k goes to the network, if there is one.
 fn send_one(t: &mut Table, a: Acted, k: u64)
-    ensures { (t.new ≡ withPlaces t.old (replied t.old.places (get_or a.messages k zeroPlace).slot)) × (length a.messages ≡ chunkLimit) }
+    ensures { (t.new ≡ with_places t.old (replied t.old.places (get_or a.messages k zero_place).slot)) × (length a.messages ≡ chunk_limit) }
 {
     table_places::send_in(t, message(a, k));
 }
 
 // "New messages go to the lowest free places, by ascending chunk".
 fn send_each(t: &mut Table, a: Acted)
-    ensures { t.new ≡ withPlaces t.old (sentAll t.old.places a.messages) }
+    ensures { t.new ≡ with_places t.old (sent_all t.old.places a.messages) }
 {
     send_one(t, a, 0);
     send_one(t, a, 1);
@@ -214,7 +214,7 @@ fn is_refused(a: Acted) -> bool
 
 // "same table, zeros"
 fn refusal(a: Acted) -> Reply
-    ensures { result ≡ refusalOf a }
+    ensures { result ≡ refusal_of a }
 {
     Reply {
         code: a.code,
@@ -224,7 +224,7 @@ fn refusal(a: Acted) -> Reply
 
 // "new table, outcome"
 fn grant(a: Acted) -> Reply
-    ensures { result ≡ grantOf a }
+    ensures { result ≡ grant_of a }
 {
     let o = a.outcome;
     Reply {
@@ -235,7 +235,7 @@ fn grant(a: Acted) -> Reply
 
 // The event, where the table lies. A refused one leaves it as it is.
 pub fn act_in(t: &mut Table, e: Event) -> Reply
-    ensures { (result ≡ replyOf (actedOn t.old e)) × (t.new ≡ (actedOn t.old e).table) }
+    ensures { (result ≡ reply_of (acted_on t.old e)) × (t.new ≡ (acted_on t.old e).table) }
 {
     let x = here_in(t, e);
     let a = left_in(t, e, x);

@@ -9,27 +9,27 @@ use Rattle.rules.specs.declared.Creation.{Creation}
 use Rattle.rules.specs.declared.Event.{Event}
 use Rattle.rules.specs.declared.Operand.{Operand}
 use Rattle.rules.specs.declared.Operands.{Operands}
-use Rattle.rules.specs.Events.{EventKind, eventKinds, unknownKind, kind_of, ranges}
-use Rattle.rules.specs.Operands.{in_range, isOwn, own_of}
+use Rattle.rules.specs.Events.{EventKind, event_kinds, unknown_kind, kind_of, ranges}
+use Rattle.rules.specs.Operands.{in_range, is_own, own_of}
 use Rattle.rules.specs.Words.{those}
 use Rattle.rules.proofs.Lists.{Others, three, walk, under-other}
-use Rattle.event_operands.specs.Address.{sortNumber, ◌isA◌, operandsOf, the}
+use Rattle.event_operands.specs.Address.{sort_number, ◌isA◌, operands_of, the}
 
 -- no event has another number
-pub no_kind : (kind : ℕ) → Others (Unit {0}) kind eventKinds → unknownKind.operands ≡ (kind_of kind).operands
+pub no_kind : (kind : ℕ) → Others (Unit {0}) kind event_kinds → unknown_kind.operands ≡ (kind_of kind).operands
 unfolding kind_of
-no_kind kind o = ap (λ (k : EventKind). k.operands) (sym (under-other unknownKind kind (Unit {0}) eventKinds o))
+no_kind kind o = ap (λ (k : EventKind). k.operands) (sym (under-other unknown_kind kind (Unit {0}) event_kinds o))
 
 -- two sorts with one number are one
 pub same-sort : (o sort : Operand) → o is_a sort ≡ true → o ≡ sort
-same-sort o sort h = sym (back o) ∙ ap sortUnder (eqb-true (sortNumber o) (sortNumber sort) h) ∙ back sort
+same-sort o sort h = sym (back o) ∙ ap sort_under (eqb-true (sort_number o) (sort_number sort) h) ∙ back sort
   where
-    sortUnder : ℕ → Operand
-    sortUnder n =
+    sort_under : ℕ → Operand
+    sort_under n =
         get_or (Operand.Unknown ∷ Operand.Unused ∷ Operand.Host ∷ Operand.Chunk ∷ Operand.Block ∷ Operand.Place ∷ Operand.Clock ∷ Operand.Now ∷ Operand.Value ∷ []) n
         Operand.Unknown
 
-    back : (o : Operand) → sortUnder (sortNumber o) ≡ o
+    back : (o : Operand) → sort_under (sort_number o) ≡ o
     back Operand.Unknown = refl
     back Operand.Unused = refl
     back Operand.Host = refl
@@ -41,19 +41,19 @@ same-sort o sort h = sym (back o) ∙ ap sortUnder (eqb-true (sortNumber o) (sor
     back Operand.Value = refl
 
 -- what holds of 0, and of every number in the range of a sort, holds of an event's operand of that sort
-pub of-sort : (P : ℕ → Type 0) (k : Creation) (e : Event) (sort : Operand) → ranges k e ≡ true → P 0 → ((n : ℕ) → in_range k sort n ≡ true → P n) → P (the sort e)
+pub of_sort : (P : ℕ → Type 0) (k : Creation) (e : Event) (sort : Operand) → ranges k e ≡ true → P 0 → ((n : ℕ) → in_range k sort n ≡ true → P n) → P (the sort e)
 unfolding ranges
-of-sort P k e sort inside none some =
-    let o = operandsOf e in
+of_sort P k e sort inside none some =
+    let o = operands_of e in
     let r = three (in_range k o.0 e.a) (in_range k o.1 e.b) (in_range k o.2 e.c) inside in
     walk P (o.0 is_a sort) _ _ (λ h. some e.a (rw (same-sort o.0 sort h) at r.0))
     (λ _. walk P (o.1 is_a sort) _ _ (λ h. some e.b (rw (same-sort o.1 sort h) at r.1))
     (λ _. walk P (o.2 is_a sort) _ _ (λ h. some e.c (rw (same-sort o.2 sort h) at r.2)) (λ _. none)))
 
 -- each operand that is the kind's own counts one
-pub own-all : (o : Operands) → cond (isOwn o.0) 1 0 + cond (isOwn o.1) 1 0 + cond (isOwn o.2) 1 0 ≡ length (own_of o)
+pub own-all : (o : Operands) → cond (is_own o.0) 1 0 + cond (is_own o.1) 1 0 + cond (is_own o.2) 1 0 ≡ length (own_of o)
 unfolding those
-own-all o = go (isOwn o.0) (isOwn o.1) (isOwn o.2)
+own-all o = go (is_own o.0) (is_own o.1) (is_own o.2)
   where
     go : (a b c : Bool) → cond a 1 0 + cond b 1 0 + cond c 1 0
         ≡ length (cond a (o.0 ∷ cond b (o.1 ∷ cond c (o.2 ∷ []) []) (cond c (o.2 ∷ []) [])) (cond b (o.1 ∷ cond c (o.2 ∷ []) []) (cond c (o.2 ∷ []) [])))

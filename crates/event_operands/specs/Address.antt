@@ -9,38 +9,38 @@ use Rattle.rules.specs.declared.Operands.{Operands}
 use Rattle.rules.specs.Events.{kind_of}
 use Rattle.rules.specs.Hosts.{front}
 use Rattle.rules.specs.Timestamps.{never}
-use Rattle.rules.specs.Messages.{headerOf, headed}
+use Rattle.rules.specs.Messages.{header_of, headed}
 use Rattle.rules.specs.Words.{if◌then◌else◌}
 
 -- ---- the sorts of operands, told apart by a number each
 
-abbrev pub sortNumber : Operand → ℕ
-sortNumber Operand.Unknown = 0
-sortNumber Operand.Unused = 1
-sortNumber Operand.Host = 2
-sortNumber Operand.Chunk = 3
-sortNumber Operand.Block = 4
-sortNumber Operand.Place = 5
-sortNumber Operand.Clock = 6
-sortNumber Operand.Now = 7
-sortNumber Operand.Value = 8
+abbrev pub sort_number : Operand → ℕ
+sort_number Operand.Unknown = 0
+sort_number Operand.Unused = 1
+sort_number Operand.Host = 2
+sort_number Operand.Chunk = 3
+sort_number Operand.Block = 4
+sort_number Operand.Place = 5
+sort_number Operand.Clock = 6
+sort_number Operand.Now = 7
+sort_number Operand.Value = 8
 
 infix 40 ◌isA◌
 abbrev pub ◌isA◌ : Operand → Operand → Bool
-o is_a sort = eqb (sortNumber o) (sortNumber sort)
+o is_a sort = eqb (sort_number o) (sort_number sort)
 
 -- ---- the operand of a sort
 
-abbrev pub operandsOf : Event → Operands
-operandsOf e = (kind_of e.kind).operands
+abbrev pub operands_of : Event → Operands
+operands_of e = (kind_of e.kind).operands
 
-abbrev pub hasA : Event → (sort : Operand) → Bool
-hasA e sort = let o = operandsOf e in o.0 is_a sort || o.1 is_a sort || o.2 is_a sort
+abbrev pub has_a : Event → (sort : Operand) → Bool
+has_a e sort = let o = operands_of e in o.0 is_a sort || o.1 is_a sort || o.2 is_a sort
 
 -- 0 where the event has none
 abbrev pub the : (sort : Operand) → Event → ℕ
 the sort e =
-    let o = operandsOf e in
+    let o = operands_of e in
     if o.0 is_a sort then e.a else
     if o.1 is_a sort then e.b else
     if o.2 is_a sort then e.c else
@@ -51,20 +51,20 @@ the sort e =
 -- an empty place (it is refused) names nobody, that is zeros
 abbrev pub address_of : Slot → Header
 address_of Slot.Empty = headed 0 0 0 never
-address_of (Slot.Full m) = headerOf m
+address_of (Slot.Full m) = header_of m
 
-abbrev pub placeAt : Event → ℕ
-placeAt e = the Operand.Place e
+abbrev pub place_at : Event → ℕ
+place_at e = the Operand.Place e
 
-abbrev pub hostAt : Event → Slot → ℕ
-hostAt e s = if hasA e Operand.Place then (address_of s).host else the Operand.Host e
+abbrev pub host_at : Event → Slot → ℕ
+host_at e s = if has_a e Operand.Place then (address_of s).host else the Operand.Host e
 
-abbrev pub chunkAt : Event → Slot → ℕ
-chunkAt e s = if hasA e Operand.Place then (address_of s).chunk else the Operand.Chunk e
+abbrev pub chunk_at : Event → Slot → ℕ
+chunk_at e s = if has_a e Operand.Place then (address_of s).chunk else the Operand.Chunk e
 
 -- an event that names no block is about the block of the host's front operation
 abbrev pub block_at : Event → Slot → Host → ℕ
 block_at e s h =
-    if hasA e Operand.Place then (address_of s).block else
-    if hasA e Operand.Block then the Operand.Block e else
+    if has_a e Operand.Place then (address_of s).block else
+    if has_a e Operand.Block then the Operand.Block e else
     (front h).block

@@ -1,9 +1,9 @@
 // An event's operands: are they in their ranges, how many has it, and which place, host, chunk and block is it about?
 ghost use Rattle.std.specs.Prelude.{◌≤◌, ◌≡◌, length};
 ghost use Rattle.rules.specs.Events.{kind_of, ranges};
-ghost use Rattle.rules.specs.Operands.{in_range, isOwn, own_of};
+ghost use Rattle.rules.specs.Operands.{in_range, is_own, own_of};
 ghost use Rattle.rules.specs.Words.{if◌then◌else◌};
-ghost use Rattle.event_operands.specs.Address.{sortNumber, ◌isA◌, hasA, the, address_of, placeAt, hostAt, chunkAt, block_at};
+ghost use Rattle.event_operands.specs.Address.{sort_number, ◌isA◌, has_a, the, address_of, place_at, host_at, chunk_at, block_at};
 
 use rules::{Creation, Event, Header, Host, Operand, Operands, Slot, Timestamp};
 
@@ -65,7 +65,7 @@ pub fn in_range(k: Creation, e: Event) -> bool
 
 // 1 where the operand is the event's own.
 fn own(o: Operand) -> u64
-    ensures { (result ≡ (if isOwn o then 1 else 0)) × (result ≤ 1) }
+    ensures { (result ≡ (if is_own o then 1 else 0)) × (result ≤ 1) }
 {
     match o {
         Operand::Unknown => 0,
@@ -94,7 +94,7 @@ pub fn count(kind: u64) -> u64
 // ---- the operand of a sort
 
 fn sort_number(o: Operand) -> u64
-    ensures { result ≡ sortNumber o }
+    ensures { result ≡ sort_number o }
 {
     match o {
         Operand::Unknown => 0,
@@ -116,7 +116,7 @@ fn is_a(o: Operand, sort: Operand) -> bool
 }
 
 fn has_a(e: Event, sort: Operand) -> bool
-    ensures { result ≡ hasA e sort }
+    ensures { result ≡ has_a e sort }
 {
     let o = operands_of(e.kind);
     let a = o.0;
@@ -163,13 +163,13 @@ fn address(s: Slot) -> Header
 }
 
 pub fn place_at(e: Event) -> u64
-    ensures { result ≡ placeAt e }
+    ensures { result ≡ place_at e }
 {
     the(Operand::Place, e)
 }
 
 pub fn host_at(e: Event, s: Slot) -> u64
-    ensures { result ≡ hostAt e s }
+    ensures { result ≡ host_at e s }
 {
     if has_a(e, Operand::Place) {
         let to = address(s);
@@ -179,7 +179,7 @@ pub fn host_at(e: Event, s: Slot) -> u64
 }
 
 pub fn chunk_at(e: Event, s: Slot) -> u64
-    ensures { result ≡ chunkAt e s }
+    ensures { result ≡ chunk_at e s }
 {
     if has_a(e, Operand::Place) {
         let to = address(s);

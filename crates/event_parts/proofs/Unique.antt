@@ -1,6 +1,6 @@
 -- Each public function's promise determines its answer
 use Rattle.rules.proofs.Unique.{unique, Determined}
-use Rattle.event_parts.proofs.act.Reads as act-contract
+use Rattle.event_parts.proofs.act.Reads as act_contract
 
-act-unique : Determined act-contract.Learnt
+act-unique : Determined act_contract.Learnt
 act-unique κs a x y s u = unique

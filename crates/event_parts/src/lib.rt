@@ -1,7 +1,7 @@
 // One event on the parts of the table that it touches: a host, a chunk, a record, and the network as its place's slot, how many
 // places are free, and new messages. Failure and epoch change touch more.
 ghost use Rattle.std.specs.Prelude.{◌≡◌};
-ghost use Rattle.event_parts.specs.Acts.{unchanged, byHost, byMessages, byChunk, byMail, toChunk, toHost, delivered, acted};
+ghost use Rattle.event_parts.specs.Acts.{unchanged, by_host, by_messages, by_chunk, by_mail, to_chunk, to_host, delivered, acted};
 
 use chunk_alone::Changed;
 use host_alone::Moved;
@@ -66,7 +66,7 @@ fn unchanged(p: Parts, code: u64) -> Acted
 
 // The host alone changes.
 fn by_host(p: Parts, m: Moved) -> Acted
-    ensures { result ≡ byHost p m }
+    ensures { result ≡ by_host p m }
 {
     let host = m.host;
     let mut out = unchanged(p, m.code);
@@ -76,7 +76,7 @@ fn by_host(p: Parts, m: Moved) -> Acted
 
 // The host changes and sends, and there may be an outcome.
 fn by_messages(p: Parts, s: Sent) -> Acted
-    ensures { result ≡ byMessages p s }
+    ensures { result ≡ by_messages p s }
 {
     let host = s.host;
     let messages = s.messages;
@@ -95,7 +95,7 @@ fn by_messages(p: Parts, s: Sent) -> Acted
 
 // The chunk alone changes.
 fn by_chunk(p: Parts, c: Changed) -> Acted
-    ensures { result ≡ byChunk p c }
+    ensures { result ≡ by_chunk p c }
 {
     let chunk = c.chunk;
     let mut out = unchanged(p, c.code);
@@ -105,7 +105,7 @@ fn by_chunk(p: Parts, c: Changed) -> Acted
 
 // What a message or a run reaches changes, and there may be a reply.
 fn by_mail(code: u64, d: Delivered) -> Acted
-    ensures { result ≡ byMail code d }
+    ensures { result ≡ by_mail code d }
 {
     let host = d.host;
     let chunk = d.chunk;
@@ -126,7 +126,7 @@ fn by_mail(code: u64, d: Delivered) -> Acted
 
 // The chunk, with its record: the host stays as it is.
 fn to_chunk(h: Host, a: Arrived) -> Delivered
-    ensures { result ≡ toChunk h a }
+    ensures { result ≡ to_chunk h a }
 {
     let chunk = a.chunk;
     let held = a.held;
@@ -141,7 +141,7 @@ fn to_chunk(h: Host, a: Arrived) -> Delivered
 
 // The host, or nobody where it is as it was.
 fn to_host(h: Host, c: Chunk, r: Record) -> Delivered
-    ensures { result ≡ toHost h c r }
+    ensures { result ≡ to_host h c r }
 {
     Delivered {
         host: h,

@@ -1,7 +1,7 @@
 // One host by itself: operations come in, it times out, refreshes its map, stops.
 ghost use Rattle.std.specs.Prelude.{◌≡◌};
-ghost use Rattle.rules.specs.Codes.{code_of, unlessRefused};
-ghost use Rattle.rules.specs.Hosts.{intakeRefusals, appended, timeoutRefusals, timedOut, workingRefusals, refreshed, stopped};
+ghost use Rattle.rules.specs.Codes.{code_of, unless_refused};
+ghost use Rattle.rules.specs.Hosts.{intake_refusals, appended, timeout_refusals, timed_out, working_refusals, refreshed, stopped};
 
 use rules::{Epoch, Host, Operation};
 
@@ -16,7 +16,7 @@ pub struct Moved {
 
 // "Stopped: 2. Full: 4".
 fn intake_code(h: Host) -> u64
-    ensures { result ≡ code_of (intakeRefusals h) }
+    ensures { result ≡ code_of (intake_refusals h) }
 {
     if !h.working {
         return rules::NOT_IN_STATE;
@@ -29,7 +29,7 @@ fn intake_code(h: Host) -> u64
 
 // "1 read (host, block); 2 write (host, block, value) .. Else appended".
 pub fn intake(h: Host, o: Operation) -> Moved
-    ensures { result ≡ record { code = code_of (intakeRefusals h); host = unlessRefused (intakeRefusals h) h (appended h o) } }
+    ensures { result ≡ record { code = code_of (intake_refusals h); host = unless_refused (intake_refusals h) h (appended h o) } }
 {
     let code = intake_code(h);
     if code != rules::DONE {
@@ -52,7 +52,7 @@ pub fn intake(h: Host, o: Operation) -> Moved
 
 // "needs working, something outstanding (2)".
 fn timeout_code(h: Host) -> u64
-    ensures { result ≡ code_of (timeoutRefusals h) }
+    ensures { result ≡ code_of (timeout_refusals h) }
 {
     if !h.working {
         return rules::NOT_IN_STATE;
@@ -65,7 +65,7 @@ fn timeout_code(h: Host) -> u64
 
 // "Okay false, nothing outstanding".
 pub fn time_out(h: Host) -> Moved
-    ensures { result ≡ record { code = code_of (timeoutRefusals h); host = unlessRefused (timeoutRefusals h) h (timedOut h) } }
+    ensures { result ≡ record { code = code_of (timeout_refusals h); host = unless_refused (timeout_refusals h) h (timed_out h) } }
 {
     let code = timeout_code(h);
     if code != rules::DONE {
@@ -88,7 +88,7 @@ pub fn time_out(h: Host) -> Moved
 
 // "8 refresh (host): working (2)"; "10 stop (host), once".
 fn working_code(h: Host) -> u64
-    ensures { result ≡ code_of (workingRefusals h) }
+    ensures { result ≡ code_of (working_refusals h) }
 {
     if !h.working {
         return rules::NOT_IN_STATE; // stopped: no refresh, and no second stop
@@ -98,7 +98,7 @@ fn working_code(h: Host) -> u64
 
 // "Epoch known becomes the store's, map current".
 pub fn refresh(h: Host, epoch: Epoch) -> Moved
-    ensures { result ≡ record { code = code_of (workingRefusals h); host = unlessRefused (workingRefusals h) h (refreshed h epoch) } }
+    ensures { result ≡ record { code = code_of (working_refusals h); host = unless_refused (working_refusals h) h (refreshed h epoch) } }
 {
     let code = working_code(h);
     if code != rules::DONE {
@@ -118,7 +118,7 @@ pub fn refresh(h: Host, epoch: Epoch) -> Moved
 
 // "its other fields stay".
 pub fn stop(h: Host) -> Moved
-    ensures { result ≡ record { code = code_of (workingRefusals h); host = unlessRefused (workingRefusals h) h (stopped h) } }
+    ensures { result ≡ record { code = code_of (working_refusals h); host = unless_refused (working_refusals h) h (stopped h) } }
 {
     let code = working_code(h);
     if code != rules::DONE {

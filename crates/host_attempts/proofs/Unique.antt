@@ -1,10 +1,10 @@
 -- Each public function's promise determines its answer
 use Rattle.rules.proofs.Unique.{unique, Determined}
-use Rattle.host_attempts.proofs.finish.Reads as finish-contract
-use Rattle.host_attempts.proofs.start.Reads as start-contract
+use Rattle.host_attempts.proofs.finish.Reads as finish_contract
+use Rattle.host_attempts.proofs.start.Reads as start_contract
 
-start-unique : Determined start-contract.Learnt
-start-unique κs a x y s u = unique
+start_unique : Determined start_contract.Learnt
+start_unique κs a x y s u = unique
 
-finish-unique : Determined finish-contract.Learnt
-finish-unique κs a x y s u = unique
+finish_unique : Determined finish_contract.Learnt
+finish_unique κs a x y s u = unique

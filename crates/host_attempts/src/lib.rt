@@ -1,10 +1,10 @@
 // An attempt of a host's front operation: it starts with a timestamp that the clock keeper drew, and it finishes.
 ghost use Rattle.std.specs.Prelude.{◌≡◌, ◌&&◌, ◌||◌, not, eqb, ltb};
 ghost use Rattle.rules.specs.Codes.{code_of};
-ghost use Rattle.rules.specs.Hosts.{hasCurrent, only, openingTo, started};
-ghost use Rattle.rules.specs.Hosts.{finishRefusals, closingTo, doneAs, failedAs, finishOutcome, finished};
-ghost use Rattle.rules.specs.Kinds.{isReading};
-ghost use Rattle.rules.specs.Network.{howMany};
+ghost use Rattle.rules.specs.Hosts.{has_current, only, opening_to, started};
+ghost use Rattle.rules.specs.Hosts.{finish_refusals, closing_to, done_as, failed_as, finish_outcome, finished};
+ghost use Rattle.rules.specs.Kinds.{is_reading};
+ghost use Rattle.rules.specs.Network.{how_many};
 ghost use Rattle.rules.specs.Zero.{◌among◌};
 ghost use Rattle.host_attempts.specs.Moves.{refused, starts, finishes};
 
@@ -22,14 +22,14 @@ pub struct Sent {
 
 // "With one, the current timestamp is above 0".
 fn has_current(h: Host) -> bool
-    ensures { result ≡ hasCurrent h }
+    ensures { result ≡ has_current h }
 {
     0 < h.attempt.timestamp.0
 }
 
 // ".. room (5)": there are fewer free places than messages.
 fn lacks_room(free: u64, to: Set) -> bool
-    ensures { result ≡ ltb free (howMany to) }
+    ensures { result ≡ ltb free (how_many to) }
 {
     free < table_sets::how_many(to)
 }
@@ -51,7 +51,7 @@ fn refuse(code: u64, h: Host) -> Sent
 
 // "Needs working, no current operation, one waiting, map current": the host lacks one of these.
 fn unready(h: Host) -> bool
-    ensures { result ≡ (not h.working || hasCurrent h || eqb h.queue.count 0 || not h.mapped) }
+    ensures { result ≡ (not h.working || has_current h || eqb h.queue.count 0 || not h.mapped) }
 {
     !h.working | has_current(h) | (h.queue.count == 0) | !h.mapped
 }
@@ -70,7 +70,7 @@ fn only(chunk: u64) -> Set
 
 // "a read's copy must be in the set"; "a write passes over it".
 fn lacks_copy(action: Action, copy: u64, holders: Set) -> bool
-    ensures { result ≡ (isReading action && not (copy among holders)) }
+    ensures { result ≡ (is_reading action && not (copy among holders)) }
 {
     match action {
         Action::Read => !table_sets::among(copy, holders),
@@ -80,7 +80,7 @@ fn lacks_copy(action: Action, copy: u64, holders: Set) -> bool
 
 // "A read sends one read to the copy; a write sends a prewrite to each chunk of the set".
 fn opening_to(action: Action, copy: u64, holders: Set) -> Set
-    ensures { result ≡ openingTo action copy holders }
+    ensures { result ≡ opening_to action copy holders }
 {
     match action {
         Action::Read => only(copy),
@@ -148,7 +148,7 @@ pub fn start(number: u64, clock: u64, copy: u64, holders: Set, h: Host, free: u6
 
 // "Needs working, a current operation, nothing outstanding (2); room for a write's messages (5)".
 fn finish_code(h: Host, free: u64, to: Set) -> u64
-    ensures { result ≡ code_of (finishRefusals h free (howMany to)) }
+    ensures { result ≡ code_of (finish_refusals h free (how_many to)) }
 {
     if !h.working {
         return rules::NOT_IN_STATE;
@@ -167,7 +167,7 @@ fn finish_code(h: Host, free: u64, to: Set) -> u64
 
 // A write's messages go to each chunk of the set; a read has none.
 fn closing_to(action: Action, holders: Set) -> Set
-    ensures { result ≡ closingTo action holders }
+    ensures { result ≡ closing_to action holders }
 {
     match action {
         Action::Read => table_zero::set(),
@@ -177,7 +177,7 @@ fn closing_to(action: Action, holders: Set) -> Set
 
 // "Okay write: .. write done .. Okay read: read done".
 fn done_as(host: u64, o: Operation, res: u64) -> Outcome
-    ensures { result ≡ doneAs host o o.action res }
+    ensures { result ≡ done_as host o o.action res }
 {
     let action = o.action;
     match action {
@@ -195,7 +195,7 @@ fn done_as(host: u64, o: Operation, res: u64) -> Outcome
 
 // ".. otherwise it has failed".
 fn failed_as(host: u64, o: Operation) -> Outcome
-    ensures { result ≡ failedAs host o o.action }
+    ensures { result ≡ failed_as host o o.action }
 {
     let action = o.action;
     match action {
@@ -212,7 +212,7 @@ fn failed_as(host: u64, o: Operation) -> Outcome
 
 // "with restart the operation goes back to the front, otherwise it has failed".
 fn finish_outcome(host: u64, h: Host) -> Outcome
-    ensures { result ≡ finishOutcome host h }
+    ensures { result ≡ finish_outcome host h }
 {
     let o = host_operations::front(h);
     if h.attempt.okay {

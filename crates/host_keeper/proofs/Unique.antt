@@ -14,21 +14,21 @@ use Rattle.rules.proofs.Unique.{unique, Determined}
 use Rattle.host_keeper.specs.declared.Handed.{Handed}
 use Rattle.host_keeper.specs.declared.Keeper.{Keeper}
 use Rattle.host_keeper.specs.Keeper.{drawn, handed}
-use Rattle.host_keeper.specs.contracts.draw as draw-contract
-use Rattle.host_keeper.proofs.draw_from.Reads as draw-from-contract
+use Rattle.host_keeper.specs.contracts.draw as draw_contract
+use Rattle.host_keeper.proofs.draw_from.Reads as draw_from_contract
 
 -- what a caller of `draw` learns: its two equations
 abbrev Learnt : Keeper → (clock : ℕ) → (out : Handed) (left : Keeper) → Type 0
 Learnt k clock out left = (out ≡ handed k clock) × (left ≡ (drawn k clock).keeper)
 
 -- they are all that its contract states
-draw-states : {M : Type 1} {𝓤 : Ura M} (𝓛 : Logic 𝓤) (at_mem : Memory → SProp 𝓤) (run : Routine → Fun 𝓤)
-    (κs : Lfts 1) (a : Args draw-contract.signature κs) (out : Handed) (end : AtExit draw-contract.ended κs)
-    → (draw-contract.clauses 𝓛 at_mem run κs a).ensures tt out end ≡ fact 𝓤 (Learnt a.0.now a.1.0 out end.0.now)
-draw-states 𝓛 at_mem run κs a out end = refl
+draw_states : {M : Type 1} {𝓤 : Ura M} (𝓛 : Logic 𝓤) (at_mem : Memory → SProp 𝓤) (run : Routine → Fun 𝓤)
+    (κs : Lfts 1) (a : Args draw_contract.signature κs) (out : Handed) (end : AtExit draw_contract.ended κs)
+    → (draw_contract.clauses 𝓛 at_mem run κs a).ensures tt out end ≡ fact 𝓤 (Learnt a.0.now a.1.0 out end.0.now)
+draw_states 𝓛 at_mem run κs a out end = refl
 
-draw-unique : (k : Keeper) (clock : ℕ) (x y : Handed) (left right : Keeper) → Learnt k clock x left → Learnt k clock y right → (x ≡ y) × (left ≡ right)
-draw-unique k clock x y left right p q = (unique p.0 q.0, unique p.1 q.1)
+draw_unique : (k : Keeper) (clock : ℕ) (x y : Handed) (left right : Keeper) → Learnt k clock x left → Learnt k clock y right → (x ≡ y) × (left ≡ right)
+draw_unique k clock x y left right p q = (unique p.0 q.0, unique p.1 q.1)
 
-draw-from-unique : Determined draw-from-contract.Learnt
-draw-from-unique κs a x y s u = unique
+draw_from_unique : Determined draw_from_contract.Learnt
+draw_from_unique κs a x y s u = unique

@@ -1,7 +1,7 @@
 -- "For drawing, each host's clock keeper hands out a number and remembers it"
 use Rattle.std.specs.Prelude.{ℕ, List, eqb, ltb, leb}
 use Rattle.rules.specs.Codes.{Row, ◌gives◌⨾◌, granted, code_of}
-use Rattle.rules.specs.Limits.{hostLimit, greatestClock}
+use Rattle.rules.specs.Limits.{host_limit, greatest_clock}
 use Rattle.rules.specs.Timestamps.{stamp, never}
 use Rattle.rules.specs.Words.{if◌then◌else◌}
 use Rattle.host_keeper.specs.declared.Drawn.{Drawn}
@@ -9,10 +9,10 @@ use Rattle.host_keeper.specs.declared.Handed.{Handed}
 use Rattle.host_keeper.specs.declared.Keeper.{Keeper}
 
 -- "number outside its range" (1): no host's, or above 4,294,967,295; "clock not above the host's last drawn" (3)
-abbrev pub drawRefusals : Keeper → (clock : ℕ) → List Row
-drawRefusals k clock =
-    leb hostLimit k.host gives 1 ⨾
-    ltb greatestClock clock gives 1 ⨾
+abbrev pub draw_refusals : Keeper → (clock : ℕ) → List Row
+draw_refusals k clock =
+    leb host_limit k.host gives 1 ⨾
+    ltb greatest_clock clock gives 1 ⨾
     leb clock k.last gives 3 ⨾
     granted
 
@@ -26,7 +26,7 @@ remembered k clock = record { keeper = record { host = k.host; last = clock }; c
 
 unfoldable pub drawn : Keeper → (clock : ℕ) → Drawn
 drawn k clock =
-    let code = code_of (drawRefusals k clock) in
+    let code = code_of (draw_refusals k clock) in
     if eqb code 0 then remembered k clock else refused k code
 
 -- what it hands out
@@ -34,5 +34,5 @@ abbrev pub handed : Keeper → (clock : ℕ) → Handed
 handed k clock = record { code = (drawn k clock).code; timestamp = (drawn k clock).timestamp }
 
 -- the keeper after a draw, and what was handed out
-abbrev pub drawnAs : Keeper → Handed → Drawn
-drawnAs k h = record { keeper = k; code = h.code; timestamp = h.timestamp }
+abbrev pub drawn_as : Keeper → Handed → Drawn
+drawn_as k h = record { keeper = k; code = h.code; timestamp = h.timestamp }

@@ -1,7 +1,7 @@
 // A host's clock keeper, lent for each draw: "drawing updates it or refuses".
 ghost use Rattle.std.specs.Prelude.{◌≡◌};
 ghost use Rattle.rules.specs.Codes.{code_of};
-ghost use Rattle.host_keeper.specs.Keeper.{drawRefusals, drawn, handed, drawnAs};
+ghost use Rattle.host_keeper.specs.Keeper.{draw_refusals, drawn, handed, drawn_as};
 
 use rules::Timestamp;
 
@@ -29,7 +29,7 @@ pub struct Drawn {
 
 // "clock not above the host's last drawn" (3); a number too large for a timestamp is outside its range (1).
 fn draw_code(k: Keeper, clock: u64) -> u64
-    ensures { result ≡ code_of (drawRefusals k clock) }
+    ensures { result ≡ code_of (draw_refusals k clock) }
 {
     if rules::HOSTS as u64 <= k.host {
         return rules::OUT_OF_RANGE;
@@ -84,7 +84,7 @@ pub fn draw(k: &mut Keeper, clock: u64) -> Handed
 }
 
 fn drawn_as(k: Keeper, h: Handed) -> Drawn
-    ensures { result ≡ drawnAs k h }
+    ensures { result ≡ drawn_as k h }
 {
     let timestamp = h.timestamp;
     Drawn {

@@ -1,6 +1,6 @@
 -- Each public function's promise determines its answer
 use Rattle.rules.proofs.Unique.{unique, Determined}
-use Rattle.host_replies.proofs.at_host.Reads as at-host-contract
+use Rattle.host_replies.proofs.at_host.Reads as at_host_contract
 
-at-host-unique : Determined at-host-contract.Learnt
+at-host-unique : Determined at_host_contract.Learnt
 at-host-unique κs a x y s u = unique

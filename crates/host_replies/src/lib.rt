@@ -1,7 +1,7 @@
 // A reply arrives at its host.
 ghost use Rattle.std.specs.Prelude.{◌≡◌, false, set};
-ghost use Rattle.rules.specs.Hosts.{suits, counts, answeredBy, heard, hears};
-ghost use Rattle.rules.specs.Messages.{sortOf};
+ghost use Rattle.rules.specs.Hosts.{suits, counts, answered_by, heard, hears};
+ghost use Rattle.rules.specs.Messages.{sort_of};
 
 use rules::{Attempt, Host, Message, Set, Sort};
 
@@ -45,7 +45,7 @@ fn counts(h: Host, m: Message) -> bool
 
 // "The chunk is then no longer outstanding".
 fn answered_by(a: Attempt, chunk: u64) -> Attempt
-    ensures { result ≡ answeredBy a chunk }
+    ensures { result ≡ answered_by a chunk }
 {
     let s = a.outstanding;
     let rest = without(s, chunk);
@@ -57,7 +57,7 @@ fn answered_by(a: Attempt, chunk: u64) -> Attempt
 // "Mismatch, out of order, busy and error clear okay; mismatch also makes the map not current; error clears restart. A
 // read reply sets the result value." (Requests go to chunks.)
 fn heard(h: Host, a: Attempt, m: Message) -> Host
-    ensures { result ≡ heard h a (sortOf m) }
+    ensures { result ≡ heard h a (sort_of m) }
 {
     let mut b = a;
     let mut out = h;

@@ -1,18 +1,18 @@
 -- Each public function's promise determines its answer
 use Rattle.rules.proofs.Unique.{unique, Determined}
-use Rattle.network_messages.proofs.header_of.Reads as header-of-contract
-use Rattle.network_messages.proofs.is_for_chunk.Reads as is-for-chunk-contract
-use Rattle.network_messages.proofs.message_of.Reads as message-of-contract
-use Rattle.network_messages.proofs.sort_of.Reads as sort-of-contract
+use Rattle.network_messages.proofs.header_of.Reads as header_of_contract
+use Rattle.network_messages.proofs.is_for_chunk.Reads as is_for_chunk_contract
+use Rattle.network_messages.proofs.message_of.Reads as message_of_contract
+use Rattle.network_messages.proofs.sort_of.Reads as sort_of_contract
 
-header-of-unique : Determined header-of-contract.Learnt
-header-of-unique κs a x y s u = unique
+header_of_unique : Determined header_of_contract.Learnt
+header_of_unique κs a x y s u = unique
 
-sort-of-unique : Determined sort-of-contract.Learnt
-sort-of-unique κs a x y s u = unique
+sort_of_unique : Determined sort_of_contract.Learnt
+sort_of_unique κs a x y s u = unique
 
-message-of-unique : Determined message-of-contract.Learnt
-message-of-unique κs a x y s u = unique
+message_of_unique : Determined message_of_contract.Learnt
+message_of_unique κs a x y s u = unique
 
-is-for-chunk-unique : Determined is-for-chunk-contract.Learnt
-is-for-chunk-unique κs a x y s u = unique
+is_for_chunk_unique : Determined is_for_chunk_contract.Learnt
+is_for_chunk_unique κs a x y s u = unique

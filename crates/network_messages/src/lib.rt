@@ -1,6 +1,6 @@
 // A message: its header, of which sort it is, and the message of a sort with a header.
 ghost use Rattle.std.specs.Prelude.{◌≡◌, false};
-ghost use Rattle.rules.specs.Messages.{headed, headerOf, sortOf, messageOf, asking, isForChunk};
+ghost use Rattle.rules.specs.Messages.{headed, header_of, sort_of, message_of, asking, is_for_chunk};
 ghost use Rattle.rules.specs.declared.Sort.{Sort};
 
 use rules::{Epoch, Header, Message, Refusal, Request, Sort, Timestamp};
@@ -19,8 +19,8 @@ fn headed(host: u64, chunk: u64, block: u64, timestamp: Timestamp) -> Header
 
 // The header of a reply.
 fn reply_header(m: Message) -> Header
-    requires { isForChunk (sortOf m) ≡ false }
-    ensures { result ≡ headerOf m }
+    requires { is_for_chunk (sort_of m) ≡ false }
+    ensures { result ≡ header_of m }
 {
     match m {
         Message::Mismatch {
@@ -66,7 +66,7 @@ fn reply_header(m: Message) -> Header
 
 // "Each has host, chunk, block and timestamp".
 pub fn header_of(m: Message) -> Header
-    ensures { result ≡ headerOf m }
+    ensures { result ≡ header_of m }
 {
     match m {
         Message::Read {
@@ -103,7 +103,7 @@ pub fn header_of(m: Message) -> Header
 
 // "the first four also the epoch the host knows; a prewrite and a read reply a value".
 pub fn sort_of(m: Message) -> Sort
-    ensures { result ≡ sortOf m }
+    ensures { result ≡ sort_of m }
 {
     match m {
         Message::Read { epoch, .. } => Sort::Request(epoch, Request::Read),
@@ -159,7 +159,7 @@ fn request_of(header: Header, epoch: Epoch, request: Request) -> Message
 
 // A chunk's answer that it does not do what it is asked.
 fn refusal_of(header: Header, why: Refusal) -> Message
-    ensures { result ≡ messageOf header (Sort.Refusal why) }
+    ensures { result ≡ message_of header (Sort.Refusal why) }
 {
     let timestamp = header.timestamp;
     match why {
@@ -192,7 +192,7 @@ fn refusal_of(header: Header, why: Refusal) -> Message
 
 // The message of a sort with a header.
 pub fn message_of(header: Header, sort: Sort) -> Message
-    ensures { result ≡ messageOf header sort }
+    ensures { result ≡ message_of header sort }
 {
     let timestamp = header.timestamp;
     match sort {
@@ -216,7 +216,7 @@ pub fn message_of(header: Header, sort: Sort) -> Message
 
 // Requests go to the chunk, replies to the host.
 pub fn is_for_chunk(m: Message) -> bool
-    ensures { result ≡ isForChunk (sortOf m) }
+    ensures { result ≡ is_for_chunk (sort_of m) }
 {
     let sort = sort_of(m);
     match sort {

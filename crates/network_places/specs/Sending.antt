@@ -4,22 +4,22 @@ use Rattle.rules.specs.declared.Set.{Set}
 use Rattle.rules.specs.declared.Message.{Message}
 use Rattle.rules.specs.declared.Slot.{Slot}
 use Rattle.rules.specs.declared.Place.{Place}
-use Rattle.rules.specs.Limits.{chunkLimit}
+use Rattle.rules.specs.Limits.{chunk_limit}
 use Rattle.rules.specs.Network.{replied}
 use Rattle.rules.specs.Words.{if◌then◌else◌, each, fold, numbers}
-use Rattle.rules.specs.Zero.{◌among◌, zeroPlace}
+use Rattle.rules.specs.Zero.{◌among◌, zero_place}
 
 -- "Its reply, if any": the first, and the only one
-abbrev pub onlyReply : Slot → List Place
-onlyReply s = set (replicate chunkLimit zeroPlace) 0 (record { slot = s })
+abbrev pub only_reply : Slot → List Place
+only_reply s = set (replicate chunk_limit zero_place) 0 (record { slot = s })
 
-abbrev pub noMessages : List Place
-noMessages = onlyReply Slot.Empty
+abbrev pub no_messages : List Place
+no_messages = only_reply Slot.Empty
 
 -- message m c to each chunk c of the set: it stands at the chunk's number
-unfoldable pub messagesTo : Set → ((chunk : ℕ) → Message) → List Place
-messagesTo to m = each (λ c. record { slot = if c among to then Slot.Full (m c) else Slot.Empty }) (numbers chunkLimit)
+unfoldable pub messages_to : Set → ((chunk : ℕ) → Message) → List Place
+messages_to to m = each (λ c. record { slot = if c among to then Slot.Full (m c) else Slot.Empty }) (numbers chunk_limit)
 
 -- "New messages go to the lowest free places", in their order
-abbrev pub sentAll : (places messages : List Place) → List Place
-sentAll places messages = fold (λ n p. replied n p.slot) places messages
+abbrev pub sent_all : (places messages : List Place) → List Place
+sent_all places messages = fold (λ n p. replied n p.slot) places messages

@@ -1,15 +1,15 @@
 // The network, of an event: the code of an empty place, and its new messages.
 ghost use Rattle.std.specs.Prelude.{◌≡◌};
 ghost use Rattle.rules.specs.Codes.{code_of};
-ghost use Rattle.rules.specs.Kinds.{isEmptySlot};
-ghost use Rattle.rules.specs.Network.{placeRefusals};
-ghost use Rattle.network_places.specs.Sending.{onlyReply};
+ghost use Rattle.rules.specs.Kinds.{is_empty_slot};
+ghost use Rattle.rules.specs.Network.{place_refusals};
+ghost use Rattle.network_places.specs.Sending.{only_reply};
 
 use rules::{Place, Slot};
 
 // A slot holds a message or nothing.
 fn is_empty(s: Slot) -> bool
-    ensures { result ≡ isEmptySlot s }
+    ensures { result ≡ is_empty_slot s }
 {
     match s {
         Slot::Empty => true,
@@ -19,7 +19,7 @@ fn is_empty(s: Slot) -> bool
 
 // "4 deliver (place), 5 drop (place). Empty place: 2".
 pub fn place_code(s: Slot) -> u64
-    ensures { result ≡ code_of (placeRefusals s) }
+    ensures { result ≡ code_of (place_refusals s) }
 {
     if is_empty(s) {
         return rules::NOT_IN_STATE;
@@ -29,7 +29,7 @@ pub fn place_code(s: Slot) -> u64
 
 // The new messages of an event that sends a reply at most; with an empty slot, none.
 pub fn only(s: Slot) -> [Place; rules::CHUNKS]
-    ensures { result ≡ onlyReply s }
+    ensures { result ≡ only_reply s }
 {
     let none = Place { slot: Slot::Empty };
     let mut out = [none; rules::CHUNKS];

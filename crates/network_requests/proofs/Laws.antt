@@ -7,9 +7,9 @@ use Rattle.rules.specs.declared.Epoch.{Epoch}
 use Rattle.rules.specs.declared.Set.{Set}
 use Rattle.rules.specs.declared.Request.{Request}
 use Rattle.rules.specs.declared.Place.{Place}
-use Rattle.network_places.specs.Sending.{messagesTo}
-use Rattle.network_requests.specs.Steps.{requestTo}
+use Rattle.network_places.specs.Sending.{messages_to}
+use Rattle.network_requests.specs.Steps.{request_to}
 
-pub asked-as : (to : Set) (host block : ℕ) (now : Timestamp) (epoch : Epoch) (l : List Place) (q what : Request)
-    → l ≡ messagesTo to (requestTo q host block now epoch) → q ≡ what → l ≡ messagesTo to (requestTo what host block now epoch)
-asked-as to host block now epoch l q what e is = rw (← is) e
+pub asked_as : (to : Set) (host block : ℕ) (now : Timestamp) (epoch : Epoch) (l : List Place) (q what : Request)
+    → l ≡ messages_to to (request_to q host block now epoch) → q ≡ what → l ≡ messages_to to (request_to what host block now epoch)
+asked_as to host block now epoch l q what e is = rw (← is) e

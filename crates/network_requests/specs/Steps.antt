@@ -9,8 +9,8 @@ use Rattle.rules.specs.declared.Place.{Place}
 use Rattle.rules.specs.Messages.{headed, asking}
 use Rattle.rules.specs.Words.{if◌then◌else◌}
 
-abbrev pub requestTo : Request → (host block : ℕ) → Timestamp → Epoch → (chunk : ℕ) → Message
-requestTo q host block now epoch chunk = asking (headed host chunk block now) epoch q
+abbrev pub request_to : Request → (host block : ℕ) → Timestamp → Epoch → (chunk : ℕ) → Message
+request_to q host block now epoch chunk = asking (headed host chunk block now) epoch q
 
 -- message m, if it goes
 abbrev pub sending : (goes : Bool) → Message → Place

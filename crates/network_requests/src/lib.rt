@@ -2,8 +2,8 @@
 ghost use Rattle.std.specs.Prelude.{◌≡◌};
 ghost use Rattle.rules.specs.Hosts.{opening, closing};
 ghost use Rattle.rules.specs.Messages.{headed, asking};
-ghost use Rattle.network_places.specs.Sending.{messagesTo};
-ghost use Rattle.network_requests.specs.Steps.{requestTo, sending};
+ghost use Rattle.network_places.specs.Sending.{messages_to};
+ghost use Rattle.network_requests.specs.Steps.{request_to, sending};
 
 use rules::{Action, Epoch, Header, Place, Request, Set, Slot, Sort, Timestamp};
 
@@ -49,7 +49,7 @@ fn ask_each(
     now: Timestamp,
     epoch: Epoch,
 ) -> [Place; rules::CHUNKS]
-    ensures { result ≡ messagesTo to (requestTo request host block now epoch) }
+    ensures { result ≡ messages_to to (request_to request host block now epoch) }
 {
     let mut out = network_places::only(Slot::Empty);
     let mut c: usize = 0;
@@ -76,7 +76,7 @@ pub fn open(
     epoch: Epoch,
     action: Action,
 ) -> [Place; rules::CHUNKS]
-    ensures { result ≡ messagesTo to (λ chunk. asking (headed host chunk block now) epoch (opening action)) }
+    ensures { result ≡ messages_to to (λ chunk. asking (headed host chunk block now) epoch (opening action)) }
 {
     ask_each(to, opening(action), host, block, now, epoch)
 }
@@ -90,7 +90,7 @@ pub fn close(
     epoch: Epoch,
     okay: bool,
 ) -> [Place; rules::CHUNKS]
-    ensures { result ≡ messagesTo to (λ chunk. asking (headed host chunk block now) epoch (closing okay)) }
+    ensures { result ≡ messages_to to (λ chunk. asking (headed host chunk block now) epoch (closing okay)) }
 {
     ask_each(to, closing(okay), host, block, now, epoch)
 }

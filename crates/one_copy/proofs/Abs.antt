@@ -28,15 +28,15 @@ pub record Cell : Type 1 where
   pub w : ℕ → ℕ → Mark → Type 0  -- (t, v, m): a write that waits
   pub r : ℕ → Type 0  -- t: a read that waits
 
--- the block's era and the history: what was begun under each timestamp (its kind, value, era), what is listed, and what is void.
--- In the base the era is the store's epoch and nothing is void; a salvage would begin an era and make void what it leaves out
+-- the block's era and the history: what was begun under each timestamp (its kind, value, era), what is listed, and what is Void.
+-- In the base the era is the store's epoch and nothing is Void; a salvage would begin an era and make Void what it leaves out
 pub record Book : Type 1 where
   pub era : ℕ
   pub kind : ℕ → Began
   pub value : ℕ → ℕ
   pub ae : ℕ → ℕ  -- the attempt's era
   pub L : ℕ → Type 0  -- listed
-  pub void : ℕ → Type 0
+  pub Void : ℕ → Type 0
 
 -- what hosts and the network hold; any of it may go at any time
 pub record Flow : Type 1 where
@@ -70,11 +70,11 @@ pub record Last (B : Book) (t x : ℕ) : Type 0 where
 
 -- what waits as a write: an attempt of this era with its value, not below the last write, strictly above the last read
 pub record Waits (B : Book) (k : Cell) (t v : ℕ) : Type 0 where
-  pub isW : B.kind t ≡ writeK
+  pub IsW : B.kind t ≡ writeK
   pub vals : B.value t ≡ v
   pub now : B.ae t ≡ B.era
-  pub overW : k.wr ≤ t
-  pub overR : k.rd < t
+  pub over_w : k.wr ≤ t
+  pub over_r : k.rd < t
 
 -- a good entry of a waiting list
 pub record EntryOk (B : Book) (F : Flow) (k : Cell) (t v : ℕ) (m : Mark) : Type 0 where
@@ -93,21 +93,21 @@ und≢abt e = subst IsLive e tt
 pub und≢cmt : und ≡ cmt → ⊥
 und≢cmt e = let z : ◌≡◌ {A = ℕ} 0 1 = cc in omega arith
 
-pub readK≢writeK : readK ≡ writeK → ⊥
-readK≢writeK e = let z : ◌≡◌ {A = ℕ} 0 1 = cc in omega arith
+pub read_k≢write_k : readK ≡ writeK → ⊥
+read_k≢write_k e = let z : ◌≡◌ {A = ℕ} 0 1 = cc in omega arith
 
-pub idle≢readK : idle ≡ readK → ⊥
-idle≢readK e = let z : ◌≡◌ {A = ℕ} 0 1 = cc in omega arith
+pub idle≢read_k : idle ≡ readK → ⊥
+idle≢read_k e = let z : ◌≡◌ {A = ℕ} 0 1 = cc in omega arith
 
-pub idle≢writeK : idle ≡ writeK → ⊥
-idle≢writeK e = let z : ◌≡◌ {A = ℕ} 0 1 = cc in omega arith
+pub idle≢write_k : idle ≡ writeK → ⊥
+idle≢write_k e = let z : ◌≡◌ {A = ℕ} 0 1 = cc in omega arith
 
 -- what holds of each copy
 pub record CellOk (B : Book) (F : Flow) (c : ℕ) (k : Cell) : Type 0 where
   -- last write and value are 0 and 0, or a listed write with its value
   pub held : Wrote B k.wr k.val
   -- the last read is 0 or a read attempt's timestamp
-  pub readTop : (k.rd ≡ 0) ⊎ (B.kind k.rd ≡ readK)
+  pub read_top : (k.rd ≡ 0) ⊎ (B.kind k.rd ≡ readK)
   pub waits : (t v : ℕ) (m : Mark) → k.w t v m → Waits B k t v
   -- what waits as a read is one
   pub reads : (t : ℕ) → k.r t → B.kind t ≡ readK
@@ -126,7 +126,7 @@ pub record CellOk (B : Book) (F : Flow) (c : ℕ) (k : Cell) : Type 0 where
 
 -- a prewrite has its attempt's value and epoch
 pub record Pre (B : Book) (t e v : ℕ) : Type 0 where
-  pub isW : B.kind t ≡ writeK
+  pub IsW : B.kind t ≡ writeK
   pub vals : B.value t ≡ v
   pub known : B.ae t ≡ e
 
@@ -134,14 +134,14 @@ module _ (S : ℕ → Type 0) where
   -- what holds of hosts, messages and the history
   pub record GlobOk (B : Book) (F : Flow) : Type 0 where
     -- whatever carries a timestamp is an attempt of its kind; nothing was begun under 0
-    pub zeroK : B.kind 0 ≡ idle
-    pub listK : (t : ℕ) → B.L t → B.kind t ≡ writeK
-    pub curK : (t : ℕ) → F.cur t → B.kind t ≡ writeK
-    pub actCur : (t : ℕ) → F.act t → F.cur t
-    pub ackK : (t c : ℕ) → F.ack t c → B.kind t ≡ writeK
-    pub abtK : (t : ℕ) → F.abtm t → B.kind t ≡ writeK
-    pub preK : (c t e v : ℕ) → F.pre c t e v → Pre B t e v
-    pub rdmK : (c t : ℕ) → F.rdm c t → (B.kind t ≡ readK) × S c
+    pub zero_k : B.kind 0 ≡ idle
+    pub list_k : (t : ℕ) → B.L t → B.kind t ≡ writeK
+    pub cur_k : (t : ℕ) → F.cur t → B.kind t ≡ writeK
+    pub act_cur : (t : ℕ) → F.act t → F.cur t
+    pub ack_k : (t c : ℕ) → F.ack t c → B.kind t ≡ writeK
+    pub abt_k : (t : ℕ) → F.abtm t → B.kind t ≡ writeK
+    pub pre_k : (c t e v : ℕ) → F.pre c t e v → Pre B t e v
+    pub rdm_k : (c t : ℕ) → F.rdm c t → (B.kind t ≡ readK) × S c
     -- no attempt is of a later era
     pub past : (t : ℕ) → B.kind t ≡ writeK → B.ae t ≤ B.era
     -- a current write that is listed was listed by an epoch change
@@ -149,15 +149,15 @@ module _ (S : ℕ → Type 0) where
     -- an aborted write is no host's, and if it is listed an epoch change did it
     pub dead : (t : ℕ) → F.abtm t → (F.cur t → ⊥) × (B.L t → B.ae t < B.era)
     -- a commit's write is listed
-    pub told : (t : ℕ) → F.comm t → B.L t ⊎ B.void t
+    pub told : (t : ℕ) → F.comm t → B.L t ⊎ B.Void t
     -- a write of an older era, okay and answered by all copies, is listed
-    pub old : (t : ℕ) → F.act t → B.ae t < B.era → ((c : ℕ) → S c → F.ack t c) → B.L t ⊎ B.void t
-    -- what is void is of an older era
-    pub stale : (t : ℕ) → B.void t → B.ae t < B.era
+    pub old : (t : ℕ) → F.act t → B.ae t < B.era → ((c : ℕ) → S c → F.ack t c) → B.L t ⊎ B.Void t
+    -- what is Void is of an older era
+    pub stale : (t : ℕ) → B.Void t → B.ae t < B.era
 
   -- a read t that got x: some copy's last read guards it, and x is the value of the last listed write below it
   pub record Seen (B : Book) (cell : ℕ → Cell) (t x : ℕ) : Type 0 where
-    pub isR : B.kind t ≡ readK
+    pub IsR : B.kind t ≡ readK
     pub guard : ℕ
     pub copy : S guard
     pub over : t ≤ (cell guard).rd

@@ -4,9 +4,9 @@ use mathlib.Core.Path.{◌≡◌, refl, sym, subst, ◌∙◌, ap}
 use mathlib.Core.Logic.{◌⊎◌, inl, inr}
 use mathlib.Core.Bool.{true, false, true≢false}
 use native.Mathlib.Omega.{arith}
-use Rattle.rules.proofs.Lists.{true-or-false}
+use Rattle.rules.proofs.Lists.{true_or_false}
 use Rattle.one_copy.proofs.Tests.{at, at_all, not-both}
-use Rattle.one_copy.proofs.Abs.{Mark, und, cmt, abt, readK, writeK, Cell, Book, Flow, Live, IsLive, EntryOk, cmt≢abt, idle≢writeK, readK≢writeK, CellOk, GlobOk, Seen, Inv}
+use Rattle.one_copy.proofs.Abs.{Mark, und, cmt, abt, readK, writeK, Cell, Book, Flow, Live, IsLive, EntryOk, cmt≢abt, idle≢write_k, read_k≢write_k, CellOk, GlobOk, Seen, Inv}
 
 module _ (S : ℕ → Type 0) where
   -- one cell moves, its last read does not fall: only that cell is to be looked at
@@ -18,7 +18,7 @@ module _ (S : ℕ → Type 0) where
     cells = at_all (λ j x. S j → CellOk B F j x) c k cell ok (λ j _. i.cells j);
     seen = λ t x h. let o : Seen S B cell t x = i.seen t x h in
         record {
-          isR = o.isR;
+          IsR = o.IsR;
           guard = o.guard;
           copy = o.copy;
           last = o.last;
@@ -30,33 +30,33 @@ module _ (S : ℕ → Type 0) where
   module _ (B : Book) (F : Flow) (c : ℕ) (k : Cell) (g : GlobOk S B F) (i : CellOk B F c k) where
     -- the last read is no write's timestamp
     pub not-read : (t : ℕ) → B.kind t ≡ writeK → k.rd ≡ t → ⊥
-    not-read t h q = elim i.readTop [
-      | inl e ↦ idle≢writeK (sym g.zeroK ∙ ap B.kind (sym e ∙ q) ∙ h)
-      | inr e ↦ readK≢writeK (sym e ∙ ap B.kind q ∙ h)
+    not-read t h q = elim i.read_top [
+      | inl e ↦ idle≢write_k (sym g.zero_k ∙ ap B.kind (sym e ∙ q) ∙ h)
+      | inr e ↦ read_k≢write_k (sym e ∙ ap B.kind q ∙ h)
     ]
 
     -- a committed write that no waiting write comes before is carried out
-    pub pop-cmt : (t v : ℕ) (w' : ℕ → ℕ → Mark → Type 0) (r' : ℕ → Type 0) → k.w t v cmt
+    pub pop_cmt : (t v : ℕ) (w' : ℕ → ℕ → Mark → Type 0) (r' : ℕ → Type 0) → k.w t v cmt
         → ((u x : ℕ) (m : Mark) → k.w u x m → t ≤ u)
         → ((u x : ℕ) (m : Mark) → w' u x m → k.w u x m)
         → ((u x : ℕ) (m : Mark) → k.w u x m → w' u x m ⊎ (u ≡ t))
         → ((u : ℕ) → r' u → k.r u)
         → CellOk B F c (record { wr = t; rd = k.rd; val = v; lost = k.lost; w = w'; r = r' })
-    pop-cmt t v w' r' h front sub keep rs = record {
+    pop_cmt t v w' r' h front sub keep rs = record {
       held = inr (i.done t v h, (i.waits t v cmt h).vals);
-      readTop = i.readTop;
+      read_top = i.read_top;
       waits = λ u x m e. let o = i.waits u x m (sub u x m e) in record {
-        isW = o.isW;
+        IsW = o.IsW;
         vals = o.vals;
         now = o.now;
-        overR = o.overR;
-        overW = front u x m (sub u x m e);
+        over_r = o.over_r;
+        over_w = front u x m (sub u x m e);
       };
       reads = λ u e. i.reads u (rs u e);
       done = λ u x e. i.done u x (sub u x cmt e);
       dead = λ u x e. i.dead u x (sub u x abt e);
       live = λ l u p. elim (i.live l u p) [
-        | inl q ↦ inl (omega (arith, (i.waits t v cmt h).overW))
+        | inl q ↦ inl (omega (arith, (i.waits t v cmt h).over_w))
         | inr q ↦ elim (keep u q.0 q.1 q.2) [ inl e ↦ inr (q.0, q.1, e, q.3) | inr e ↦ inl (omega arith) ]
       ];
       gone = λ l u p. absurd (i.empty l t v cmt h);
@@ -64,7 +64,7 @@ module _ (S : ℕ → Type 0) where
       promise = λ u a b e. elim (i.promise u a b e) [
         | inl q ↦ elim (keep u q.0 q.1 q.2) [
           | inl f ↦ inl (q.0, q.1, f, q.3)
-          | inr f ↦ absurd (let z : B.ae u < B.era = g.own u (g.actCur u a) (subst B.L (sym f) (i.done t v h)) in omega arith)
+          | inr f ↦ absurd (let z : B.ae u < B.era = g.own u (g.act_cur u a) (subst B.L (sym f) (i.done t v h)) in omega arith)
         ]
         | inr q ↦ absurd (i.empty q.0 t v cmt h)
       ];
@@ -78,14 +78,14 @@ module _ (S : ℕ → Type 0) where
         → CellOk B F c (record { wr = k.wr; rd = k.rd; val = k.val; lost = k.lost; w = w'; r = r' })
     requeue w' r' good keep rs = record {
       held = i.held;
-      readTop = i.readTop;
+      read_top = i.read_top;
       waits = λ u x m e. let o = (good u x m e).fits in record {
-        isW = o.isW;
+        IsW = o.IsW;
         vals = o.vals;
         now = o.now;
-        overR = o.overR;
-        overW =
-            o.overW;
+        over_r = o.over_r;
+        over_w =
+            o.over_w;
       };
       reads = rs;
       done = λ u x e. (good u x cmt e).done refl;
@@ -105,12 +105,12 @@ module _ (S : ℕ → Type 0) where
     was u x m l h = record { fits = i.waits u x m h; done = λ e. i.done u x (rw e at h); dead = λ e. i.dead u x (rw e at h); kept = l }
 
     -- a commit arrives at an undecided write
-    pub mark-cmt : (t v : ℕ) (w' : ℕ → ℕ → Mark → Type 0) (r' : ℕ → Type 0) → ((u : ℕ) → r' u → k.r u) → k.lost ≡ false → F.comm t
+    pub mark_cmt : (t v : ℕ) (w' : ℕ → ℕ → Mark → Type 0) (r' : ℕ → Type 0) → ((u : ℕ) → r' u → k.r u) → k.lost ≡ false → F.comm t
         → k.w t v und
         → ((u x : ℕ) (m : Mark) → w' u x m → k.w u x m ⊎ ((u ≡ t) × (x ≡ v) × (m ≡ cmt)))
         → ((u x : ℕ) (m : Mark) → k.w u x m → w' u x m ⊎ (u ≡ t)) → w' t v cmt
         → CellOk B F c (record { wr = k.wr; rd = k.rd; val = k.val; lost = k.lost; w = w'; r = r' })
-    mark-cmt t v w' r' rs l b h sub keep new = requeue w' r'
+    mark_cmt t v w' r' rs l b h sub keep new = requeue w' r'
         (λ u x m e. elim (sub u x m e) [
           | inl q ↦ was u x m l q
           | inr q ↦ record {
@@ -129,12 +129,12 @@ module _ (S : ℕ → Type 0) where
         (λ u e. i.reads u (rs u e))
 
     -- an abort arrives at an undecided write
-    pub mark-abt : (t v : ℕ) (w' : ℕ → ℕ → Mark → Type 0) (r' : ℕ → Type 0) → ((u : ℕ) → r' u → k.r u) → k.lost ≡ false → F.abtm t
+    pub mark_abt : (t v : ℕ) (w' : ℕ → ℕ → Mark → Type 0) (r' : ℕ → Type 0) → ((u : ℕ) → r' u → k.r u) → k.lost ≡ false → F.abtm t
         → k.w t v und
         → ((u x : ℕ) (m : Mark) → w' u x m → k.w u x m ⊎ ((u ≡ t) × (x ≡ v) × (m ≡ abt)))
         → ((u x : ℕ) (m : Mark) → k.w u x m → w' u x m ⊎ (u ≡ t))
         → CellOk B F c (record { wr = k.wr; rd = k.rd; val = k.val; lost = k.lost; w = w'; r = r' })
-    mark-abt t v w' r' rs l b h sub keep = requeue w' r'
+    mark_abt t v w' r' rs l b h sub keep = requeue w' r'
         (λ u x m e. elim (sub u x m e) [
           | inl q ↦ was u x m l q
           | inr q ↦ record {
@@ -149,14 +149,14 @@ module _ (S : ℕ → Type 0) where
         (λ u e. i.reads u (rs u e))
       where
         no : (F.act t → ⊥) × (B.L t → ⊥)
-        no = (λ a. (g.dead t b).0 (g.actCur t a), λ p. let o = (i.waits t v und h).now in let z = (g.dead t b).1 p in omega arith)
+        no = (λ a. (g.dead t b).0 (g.act_cur t a), λ p. let o = (i.waits t v und h).now in let z = (g.dead t b).1 p in omega arith)
 
     -- an aborted write, or a read, leaves
-    pub pop-abt : (w' : ℕ → ℕ → Mark → Type 0) (r' : ℕ → Type 0) → k.lost ≡ false
+    pub pop_abt : (w' : ℕ → ℕ → Mark → Type 0) (r' : ℕ → Type 0) → k.lost ≡ false
         → ((u x : ℕ) (m : Mark) → w' u x m → k.w u x m)
         → ((u x : ℕ) (m : Mark) → k.w u x m → w' u x m ⊎ (m ≡ abt)) → ((u : ℕ) → r' u → k.r u)
         → CellOk B F c (record { wr = k.wr; rd = k.rd; val = k.val; lost = k.lost; w = w'; r = r' })
-    pop-abt w' r' l sub keep rs = requeue w' r' (λ u x m e. was u x m l (sub u x m e))
+    pop_abt w' r' l sub keep rs = requeue w' r' (λ u x m e. was u x m l (sub u x m e))
         (λ u q. inl (elim (keep u q.0 q.1 q.2) [ inl e ↦ (q.0, q.1, e, q.3) | inr e ↦ absurd (rw e at q.3) ]))
         (λ u e. i.reads u (rs u e))
 
@@ -164,19 +164,19 @@ module _ (S : ℕ → Type 0) where
     pub fail : CellOk B F c (record { wr = k.wr; rd = k.rd; val = k.val; lost = true; w = λ _ _ _. ⊥; r = λ _. ⊥ })
     fail = record {
       held = i.held;
-      readTop = i.readTop;
+      read_top = i.read_top;
       waits = λ u x m e. absurd e;
       reads = λ u e. absurd e;
       done = λ u x e. absurd e;
       dead = λ u x e. absurd e;
       live = λ l u p. absurd (true≢false l);
-      gone = λ _ u p. elim (true-or-false k.lost) [
+      gone = λ _ u p. elim (true_or_false k.lost) [
         | inl l ↦ i.gone l u p
-        | inr l ↦ elim (i.live l u p) [ inl q ↦ inl q | inr q ↦ inr (i.waits u q.0 q.1 q.2).overR ]
+        | inr l ↦ elim (i.live l u p) [ inl q ↦ inl q | inr q ↦ inr (i.waits u q.0 q.1 q.2).over_r ]
       ];
       empty = λ _ u x m e. e;
       promise = λ u a b e. inr (elim (i.promise u a b e) [
-        | inl q ↦ let o = i.waits u q.0 q.1 q.2 in (refl, o.overR, o.overW)
+        | inl q ↦ let o = i.waits u q.0 q.1 q.2 in (refl, o.over_r, o.over_w)
         | inr q ↦ (refl, q.1, q.2)
       ]);
     }

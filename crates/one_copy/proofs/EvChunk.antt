@@ -9,39 +9,39 @@ use lib.ListN.{length, get_or, drop, length-take}
 use lib.Dec.{eqb}
 use borrow.Author.Tests.{ltb-false, not-false}
 use Rattle.one_copy.specs.Types.{Timestamp, Kind, Entry, Waiting, Record, Chunk, Header, Message, Refusal, Sort, Slot, Place, Table, Arrived, Outcome}
-use Rattle.rules.specs.Chunks.{withWaiting, emptied, runRefusals, runs, ran, failed, leaseGiven, leaseTaken, recovered, overdue, giveLeaseRefusals}
+use Rattle.rules.specs.Chunks.{with_waiting, emptied, run_refusals, runs, ran, failed, lease_given, lease_taken, recovered, overdue, give_lease_refusals}
 use Rattle.rules.specs.Codes.{code_of}
-use Rattle.rules.specs.Events.{withArrived}
-use Rattle.rules.specs.Kinds.{isUndecided, isNormal}
-use Rattle.rules.specs.Limits.{chunkLimit, blockLimit}
-use Rattle.rules.specs.Messages.{headed, messageOf}
+use Rattle.rules.specs.Events.{with_arrived}
+use Rattle.rules.specs.Kinds.{is_undecided, is_normal}
+use Rattle.rules.specs.Limits.{chunk_limit, block_limit}
+use Rattle.rules.specs.Messages.{headed, message_of}
 use Rattle.rules.specs.Network.{sent, replied}
-use Rattle.rules.specs.Tables.{isChunk, isBlock, chunk_of, recordOf, recordsBy, withPlaces, withChunk, withRecord, withRecords}
+use Rattle.rules.specs.Tables.{is_chunk, is_block, chunk_of, record_of, records_by, with_places, with_chunk, with_record, with_records}
 use Rattle.rules.specs.Timestamps.{◌below◌, later}
-use Rattle.rules.specs.Waiting.{inOrder, head, headRemoved}
+use Rattle.rules.specs.Waiting.{in_order, head, head_removed}
 use Rattle.rules.specs.Words.{every}
-use Rattle.rules.specs.Zero.{zeroEntry, no_chunk}
-use Rattle.rules.proofs.Formed.{Formed, FormedWaiting, chunk-place, block-place, waiting-of}
-use Rattle.rules.proofs.Lists.{walk, upper-left, upper-right, upper-one}
+use Rattle.rules.specs.Zero.{zero_entry, no_chunk}
+use Rattle.rules.proofs.Formed.{Formed, FormedWaiting, chunk-place, block-place, waiting_of}
+use Rattle.rules.proofs.Lists.{walk, upper-left, upper_right, upper-one}
 use Rattle.rules.proofs.Messages.{ran-same, left_as}
-use Rattle.rules.proofs.Refusals.{granted-exactly}
+use Rattle.rules.proofs.Refusals.{granted_exactly}
 use Rattle.rules.proofs.Relies.{run-head}
-use Rattle.one_copy.proofs.Tests.{at, at_pair, eq-or-ne}
+use Rattle.one_copy.proofs.Tests.{at, at_pair, eq_or_ne}
 use Rattle.one_copy.proofs.Lists.{Any, get_d_set}
 use Rattle.one_copy.proofs.Net.{Sent, sent-one}
 use Rattle.one_copy.proofs.Queue.{removed-order, least}
-use Rattle.one_copy.proofs.View.{Hist, Part, partWith, part_of, seatsOf, NetLe, Foreign, net-less, net-foreign, plain, far-message, CInv}
-use Rattle.one_copy.proofs.Chunks.{withQueue, wrote, wasRead, net-only, mode-only, falls, runs-cmt, runs-off, runs-read}
+use Rattle.one_copy.proofs.View.{Hist, Part, part_with, part_of, seats_of, NetLe, Foreign, net_less, net_foreign, plain, far_message, CInv}
+use Rattle.one_copy.proofs.Chunks.{with_queue, wrote, was_read, net_only, mode-only, falls, runs_cmt, runs_off, runs-read}
 use Rattle.one_copy.proofs.Shapes.{Shape, shape-chunk}
-use Rattle.one_copy.proofs.Good.{In, Good, good-chunk, good-record, good-records, good-far, emptied-at, Next, unnoted}
-use Rattle.one_copy.proofs.EvHost.{net-same}
+use Rattle.one_copy.proofs.Good.{In, Good, good-chunk, good_record, good-records, good-far, emptied-at, Next, unnoted}
+use Rattle.one_copy.proofs.EvHost.{net_same}
 
 -- ---- the later of two timestamps
 
 -- it is one of the two, and neither is above it
 later-one : (t u : Timestamp) → (((later t u).0 ≡ u.0) × (t.0 ≤ (later t u).0)) ⊎ (((later t u).0 ≡ t.0) × (u.0 ≤ (later t u).0))
 later-one t u = let key : Timestamp → ℕ = λ x. x.0 in elim (upper-one key t u) [
-  | inl e ↦ inr (ap key e, upper-right key t u)
+  | inl e ↦ inr (ap key e, upper_right key t u)
   | inr e ↦ inl (ap key e, upper-left key t u)
 ]
 
@@ -57,66 +57,66 @@ Plain b Slot.Empty = Unit {0}
 Plain b (Slot.Full m) = Foreign b m
 
 -- such a reply adds nothing
-pub net-replied : (b : ℕ) (n n₀ : List Place) → ((P : Message → Type 0) → Sent n P → Sent n₀ P) → (reply : Slot) → Plain b reply
+pub net_replied : (b : ℕ) (n n₀ : List Place) → ((P : Message → Type 0) → Sent n P → Sent n₀ P) → (reply : Slot) → Plain b reply
     → NetLe b (replied n reply) n₀
 unfolding replied
-net-replied b n n₀ sub Slot.Empty p = net-less b n n₀ sub
-net-replied b n n₀ sub (Slot.Full m) p = net-foreign b (sent n m) n₀ ℕ (λ _. m)
+net_replied b n n₀ sub Slot.Empty p = net_less b n n₀ sub
+net_replied b n n₀ sub (Slot.Full m) p = net_foreign b (sent n m) n₀ ℕ (λ _. m)
     (λ P z. elim (sent-one P m n z) [ inl q ↦ inl (sub P q) | inr q ↦ inr (0, q) ]) (λ _. p)
 
 -- a list that is not empty has its head
-head_first : (l : List Entry) → 0 < length l → l ≡ get_or l 0 zeroEntry ∷ drop 1 l
+head_first : (l : List Entry) → 0 < length l → l ≡ get_or l 0 zero_entry ∷ drop 1 l
 head_first [] h = absurd (omega arith)
 head_first (x ∷ xs) h = refl
 
-module _ (b : ℕ) (h : Hist) (t : Table) (f : Formed t) (s : Shape t) (lb : isBlock t.creation b ≡ true) (i : Good b h t) (c : ℕ)
-    (lc : isChunk t.creation c ≡ true) where
+module _ (b : ℕ) (h : Hist) (t : Table) (f : Formed t) (s : Shape t) (lb : is_block t.creation b ≡ true) (i : Good b h t) (c : ℕ)
+    (lc : is_chunk t.creation c ≡ true) where
   -- the chunks of the set
   abbrev S : ℕ → Type 0
   S = In t.creation b
 
   -- the chunk's place
-  place-c : c < chunkLimit
+  place-c : c < chunk_limit
   place-c = chunk-place t.creation c lc f.creation
 
   -- this block's place
-  place-b : b < blockLimit
+  place-b : b < block_limit
   place-b = block-place t.creation b lb f.creation
 
   -- ---- run
 
-  module _ (d : ℕ) (ld : isBlock t.creation d ≡ true) (free : ℕ) (e : code_of
-      (runRefusals (chunk_of t c).state (recordOf t c d).waiting free) ≡ 0) where
+  module _ (d : ℕ) (ld : is_block t.creation d ≡ true) (free : ℕ) (e : code_of
+      (run_refusals (chunk_of t c).state (record_of t c d).waiting free) ≡ 0) where
     -- the record
     abbrev r : Record
-    r = recordOf t c d
+    r = record_of t c d
 
     -- the block's place
-    place-d : d < blockLimit
+    place-d : d < block_limit
     place-d = block-place t.creation d ld f.creation
 
     -- the chunk is normal
-    normal : isNormal (chunk_of t c).state ≡ true
+    normal : is_normal (chunk_of t c).state ≡ true
     unfolding every
-    normal = not-false (isNormal (chunk_of t c).state) ((granted-exactly (runRefusals (chunk_of t c).state r.waiting free) refl).0 e 0
+    normal = not-false (is_normal (chunk_of t c).state) ((granted_exactly (run_refusals (chunk_of t c).state r.waiting free) refl).0 e 0
         (omega arith))
 
     -- the head is decided
-    decided : isUndecided (head r.waiting).kind ≡ false
+    decided : is_undecided (head r.waiting).kind ≡ false
     unfolding every
-    decided = (granted-exactly (runRefusals (chunk_of t c).state r.waiting free) refl).0 e 2 (omega arith)
+    decided = (granted_exactly (run_refusals (chunk_of t c).state r.waiting free) refl).0 e 2 (omega arith)
 
     -- the waiting list is formed
-    formedW : FormedWaiting t.creation r.waiting
-    formedW = waiting-of t f c d place-c place-d
+    formed_w : FormedWaiting t.creation r.waiting
+    formed_w = waiting_of t f c d place-c place-d
 
     -- there is a head
-    first : inOrder r.waiting ≡ head r.waiting ∷ drop 1 (inOrder r.waiting)
-    first = head_first (inOrder r.waiting)
+    first : in_order r.waiting ≡ head r.waiting ∷ drop 1 (in_order r.waiting)
+    first = head_first (in_order r.waiting)
         (omega (
           arith,
           run-head (chunk_of t c).state r.waiting free e,
-          formedW.count,
+          formed_w.count,
           s.entries c d place-c place-d,
           length-take
               r.waiting.count r.waiting.entries,
@@ -124,129 +124,129 @@ module _ (b : ℕ) (h : Hist) (t : Table) (f : Formed t) (s : Shape t) (lb : isB
 
     -- what a run leaves is good
     abbrev Ran : Arrived → Type 0
-    Ran a = Good b h (withPlaces (withRecord t c d a.held) (replied t.places a.reply))
+    Ran a = Good b h (with_places (with_record t c d a.held) (replied t.places a.reply))
 
     -- at another block
-    run-far : (d ≡ b → ⊥) → (x : Record) (y : Slot) → Plain b y → Good b h (withPlaces (withRecord t c d x) (replied t.places y))
+    run-far : (d ≡ b → ⊥) → (x : Record) (y : Slot) → Plain b y → Good b h (with_places (with_record t c d x) (replied t.places y))
     run-far far x y p = good-far b h t s c d x _ place-b place-d far
-        (net-only S b h t.epoch.0 (seatsOf t) (part_of t b) t.places i _
-        (net-replied b t.places t.places (λ P z. z) y p))
+        (net_only S b h t.epoch.0 (seats_of t) (part_of t b) t.places i _
+        (net_replied b t.places t.places (λ P z. z) y p))
 
     -- the head of another block, by its kind
-    far-as : (d ≡ b → ⊥) → (k : Kind) → Ran (runs c d (chunk_of t c) (withWaiting r (headRemoved r.waiting)) (head r.waiting) k)
-    far-as far (Kind.Aborted v) = run-far far _ _ tt
-    far-as far (Kind.Committed v) = run-far far _ _ tt
-    far-as far (Kind.Undecided v) = run-far far _ _ tt
-    far-as far Kind.Read = walk Ran ((head r.waiting).timestamp below r.write) _ _
+    far_as : (d ≡ b → ⊥) → (k : Kind) → Ran (runs c d (chunk_of t c) (with_waiting r (head_removed r.waiting)) (head r.waiting) k)
+    far_as far (Kind.Aborted v) = run-far far _ _ tt
+    far_as far (Kind.Committed v) = run-far far _ _ tt
+    far_as far (Kind.Undecided v) = run-far far _ _ tt
+    far_as far Kind.Read = walk Ran ((head r.waiting).timestamp below r.write) _ _
         (λ _. run-far far _ _ (plain b (headed (head r.waiting).sender c d (head r.waiting).timestamp) Refusal.OutOfOrder))
-        (λ _. run-far far _ _ (far-message b (headed (head r.waiting).sender c d (head r.waiting).timestamp)
+        (λ _. run-far far _ _ (far_message b (headed (head r.waiting).sender c d (head r.waiting).timestamp)
         (Sort.ReadReply r.value) far))
 
   -- at this block
-  module _ (free : ℕ) (e : code_of (runRefusals (chunk_of t c).state (recordOf t c b).waiting free) ≡ 0) where
+  module _ (free : ℕ) (e : code_of (run_refusals (chunk_of t c).state (record_of t c b).waiting free) ≡ 0) where
     -- the waiting list
     abbrev w : Waiting
-    w = (recordOf t c b).waiting
+    w = (record_of t c b).waiting
 
     -- the list without its head
-    rest : inOrder (headRemoved w) ≡ drop 1 (inOrder w)
-    rest = removed-order w (formedW b lb free e).count
+    rest : in_order (head_removed w) ≡ drop 1 (in_order w)
+    rest = removed-order w (formed_w b lb free e).count
 
     -- nothing that waits is below the head
-    low : (P : Entry → Type 0) → Any P (head w ∷ drop 1 (inOrder w)) → (x : Entry) × P x × ((head w).timestamp.0 ≤ x.timestamp.0)
-    low = least t.creation w (formedW b lb free e) (head w) (drop 1 (inOrder w)) (first b lb free e)
+    low : (P : Entry → Type 0) → Any P (head w ∷ drop 1 (in_order w)) → (x : Entry) × P x × ((head w).timestamp.0 ≤ x.timestamp.0)
+    low = least t.creation w (formed_w b lb free e) (head w) (drop 1 (in_order w)) (first b lb free e)
 
     -- the part with the head removed
-    put : (g : List Entry → Part) (n : List Place) → CInv S b h t.epoch.0 (seatsOf t) (at c (g (drop 1 (inOrder w))) (part_of t b)) n
-        → CInv S b h t.epoch.0 (seatsOf t) (at c (g (inOrder (headRemoved w))) (part_of t b)) n
-    put g n v = subst⁻¹ (λ (q : List Entry). CInv S b h t.epoch.0 (seatsOf t) (at c (g q) (part_of t b)) n) rest v
+    put : (g : List Entry → Part) (n : List Place) → CInv S b h t.epoch.0 (seats_of t) (at c (g (drop 1 (in_order w))) (part_of t b)) n
+        → CInv S b h t.epoch.0 (seats_of t) (at c (g (in_order (head_removed w))) (part_of t b)) n
+    put g n v = subst⁻¹ (λ (q : List Entry). CInv S b h t.epoch.0 (seats_of t) (at c (g q) (part_of t b)) n) rest v
 
     -- the head of this block, by its kind
-    here-as : (k : Kind) → (head w).kind ≡ k → isUndecided k ≡ false → Ran b lb free e
-        (runs c b (chunk_of t c) (withWaiting (recordOf t c b) (headRemoved w)) (head w) k)
+    here_as : (k : Kind) → (head w).kind ≡ k → is_undecided k ≡ false → Ran b lb free e
+        (runs c b (chunk_of t c) (with_waiting (record_of t c b) (head_removed w)) (head w) k)
     unfolding replied
-    here-as (Kind.Undecided v) ek u = absurd (true≢false u)
-    here-as (Kind.Aborted v) ek u = good-record b h t s c _ t.places place-c place-b (put (withQueue (part_of t b c)) t.places
-        (runs-off S b h t.epoch.0 (seatsOf t) (part_of t b) t.places i c (normal b lb free e) (head w) (drop 1 (inOrder w))
-        (first b lb free e) low t.places (net-same b t.places) (λ u x a z. (rw ek at z.1).1)))
-    here-as (Kind.Committed v) ek u = good-record b h t s c _ t.places place-c place-b
-        (put (wrote (part_of t b c) v (later (recordOf t c b).write (head w).timestamp).0) t.places
-        (runs-cmt S b h t.epoch.0 (seatsOf t) (part_of t b) t.places i c (normal b lb free e) (head w) (drop 1 (inOrder w))
-        (first b lb free e) low v (later (recordOf t c b).write (head w).timestamp).0 t.places (net-same b t.places) ek
-        (later-up (recordOf t c b).write (head w).timestamp)))
-    here-as Kind.Read ek u = walk (Ran b lb free e) ((head w).timestamp below (recordOf t c b).write) _ _
-        (λ _. good-record b h t s c _ _ place-c place-b (put (withQueue (part_of t b c)) _
-        (runs-off S b h t.epoch.0 (seatsOf t) (part_of t b) t.places i c (normal b lb free e) (head w) (drop 1 (inOrder w))
+    here_as (Kind.Undecided v) ek u = absurd (true≢false u)
+    here_as (Kind.Aborted v) ek u = good_record b h t s c _ t.places place-c place-b (put (with_queue (part_of t b c)) t.places
+        (runs_off S b h t.epoch.0 (seats_of t) (part_of t b) t.places i c (normal b lb free e) (head w) (drop 1 (in_order w))
+        (first b lb free e) low t.places (net_same b t.places) (λ u x a z. (rw ek at z.1).1)))
+    here_as (Kind.Committed v) ek u = good_record b h t s c _ t.places place-c place-b
+        (put (wrote (part_of t b c) v (later (record_of t c b).write (head w).timestamp).0) t.places
+        (runs_cmt S b h t.epoch.0 (seats_of t) (part_of t b) t.places i c (normal b lb free e) (head w) (drop 1 (in_order w))
+        (first b lb free e) low v (later (record_of t c b).write (head w).timestamp).0 t.places (net_same b t.places) ek
+        (later-up (record_of t c b).write (head w).timestamp)))
+    here_as Kind.Read ek u = walk (Ran b lb free e) ((head w).timestamp below (record_of t c b).write) _ _
+        (λ _. good_record b h t s c _ _ place-c place-b (put (with_queue (part_of t b c)) _
+        (runs_off S b h t.epoch.0 (seats_of t) (part_of t b) t.places i c (normal b lb free e) (head w) (drop 1 (in_order w))
         (first b lb free e) low _
-        (net-replied b t.places t.places (λ P z. z) (Slot.Full (messageOf hd (Sort.Refusal Refusal.OutOfOrder))) (plain b hd Refusal.OutOfOrder))
+        (net_replied b t.places t.places (λ P z. z) (Slot.Full (message_of hd (Sort.Refusal Refusal.OutOfOrder))) (plain b hd Refusal.OutOfOrder))
         (λ u x a z. absurd (rw ek at z.1)))))
-        (λ o. good-record b h t s c _ _ place-c place-b
-        (put (wasRead (part_of t b c) (later (recordOf t c b).read (head w).timestamp).0) _
-        (runs-read S b h t.epoch.0 (seatsOf t) (part_of t b) t.places i c (normal b lb free e) (head w) (drop 1 (inOrder w))
-        (first b lb free e) low (later (recordOf t c b).read (head w).timestamp).0 _ (head w).sender
-        (λ P z. sent-one P _ t.places z) ek (ltb-false (head w).timestamp.0 (recordOf t c b).write.0 o)
-        (later-one (recordOf t c b).read (head w).timestamp))))
+        (λ o. good_record b h t s c _ _ place-c place-b
+        (put (was_read (part_of t b c) (later (record_of t c b).read (head w).timestamp).0) _
+        (runs-read S b h t.epoch.0 (seats_of t) (part_of t b) t.places i c (normal b lb free e) (head w) (drop 1 (in_order w))
+        (first b lb free e) low (later (record_of t c b).read (head w).timestamp).0 _ (head w).sender
+        (λ P z. sent-one P _ t.places z) ek (ltb-false (head w).timestamp.0 (record_of t c b).write.0 o)
+        (later-one (record_of t c b).read (head w).timestamp))))
       where
         hd : Header
         hd = headed (head w).sender c b (head w).timestamp
 
   -- a run, at this block or another
-  pub ev-run : (d : ℕ) → isBlock t.creation d ≡ true → (free : ℕ) → code_of
-      (runRefusals (chunk_of t c).state (recordOf t c d).waiting free) ≡ 0
-      → Next b h t [] Outcome.None (withArrived t c d (ran c d (chunk_of t c) (recordOf t c d)))
+  pub ev_run : (d : ℕ) → is_block t.creation d ≡ true → (free : ℕ) → code_of
+      (run_refusals (chunk_of t c).state (record_of t c d).waiting free) ≡ 0
+      → Next b h t [] Outcome.None (with_arrived t c d (ran c d (chunk_of t c) (record_of t c d)))
   unfolding ran
-  ev-run d ld free e = unnoted b h t _ (subst⁻¹ (Good b h) (left_as t c d _ (ran-same (chunk_of t c) c d (recordOf t c d))) (elim (eq-or-ne d b) [
-    | inl q ↦ subst⁻¹ (λ d. code_of (runRefusals (chunk_of t c).state (recordOf t c d).waiting free) ≡ 0
-        → Good b h (withPlaces (withRecord t c d (runs c d (chunk_of t c) (withWaiting (recordOf t c d) (headRemoved (recordOf t c d).waiting))
-        (head (recordOf t c d).waiting) (head (recordOf t c d).waiting).kind).held)
-        (replied t.places (runs c d (chunk_of t c) (withWaiting (recordOf t c d) (headRemoved (recordOf t c d).waiting))
-        (head (recordOf t c d).waiting) (head (recordOf t c d).waiting).kind).reply))) q
-        (λ e. here-as free e (head (recordOf t c b).waiting).kind refl (decided b lb free e)) e
-    | inr far ↦ far-as d ld free e far (head (recordOf t c d).waiting).kind
+  ev_run d ld free e = unnoted b h t _ (subst⁻¹ (Good b h) (left_as t c d _ (ran-same (chunk_of t c) c d (record_of t c d))) (elim (eq_or_ne d b) [
+    | inl q ↦ subst⁻¹ (λ d. code_of (run_refusals (chunk_of t c).state (record_of t c d).waiting free) ≡ 0
+        → Good b h (with_places (with_record t c d (runs c d (chunk_of t c) (with_waiting (record_of t c d) (head_removed (record_of t c d).waiting))
+        (head (record_of t c d).waiting) (head (record_of t c d).waiting).kind).held)
+        (replied t.places (runs c d (chunk_of t c) (with_waiting (record_of t c d) (head_removed (record_of t c d).waiting))
+        (head (record_of t c d).waiting) (head (record_of t c d).waiting).kind).reply))) q
+        (λ e. here_as free e (head (record_of t c b).waiting).kind refl (decided b lb free e)) e
+    | inr far ↦ far_as d ld free e far (head (record_of t c d).waiting).kind
   ]))
 
   -- ---- the chunk's own events
 
   -- another state
-  mode : (x : Chunk) → x.lost ≡ (chunk_of t c).lost → (isNormal x.state ≡ true → (chunk_of t c).lost ≡ false)
-      → Next b h t [] Outcome.None (withChunk t c x)
+  mode : (x : Chunk) → x.lost ≡ (chunk_of t c).lost → (is_normal x.state ≡ true → (chunk_of t c).lost ≡ false)
+      → Next b h t [] Outcome.None (with_chunk t c x)
   mode x e ok = unnoted b h t _ (good-chunk b h t s c x t.places place-c
-      (subst⁻¹ (λ (l : Bool). CInv S b h t.epoch.0 (seatsOf t) (at c
-      (partWith (record { state = x.state; lost = l; epoch = x.epoch; reconcile = x.reconcile }) (recordOf t c b)) (part_of t b))
+      (subst⁻¹ (λ (l : Bool). CInv S b h t.epoch.0 (seats_of t) (at c
+      (part_with (record { state = x.state; lost = l; epoch = x.epoch; reconcile = x.reconcile }) (record_of t c b)) (part_of t b))
       t.places) e
-      (mode-only S b h t.epoch.0 (seatsOf t) (part_of t b) t.places i c x.state t.places (net-same b t.places) ok)))
+      (mode-only S b h t.epoch.0 (seats_of t) (part_of t b) t.places i c x.state t.places (net_same b t.places) ok)))
 
   -- recover
-  pub ev-recover : Next b h t [] Outcome.None (withChunk t c (recovered (chunk_of t c)))
-  ev-recover = mode (recovered (chunk_of t c)) refl (λ e. absurd (false≢true e))
+  pub ev_recover : Next b h t [] Outcome.None (with_chunk t c (recovered (chunk_of t c)))
+  ev_recover = mode (recovered (chunk_of t c)) refl (λ e. absurd (false≢true e))
 
   -- take lease
-  pub ev-take : Next b h t [] Outcome.None (withChunk t c (leaseTaken (chunk_of t c)))
-  ev-take = mode (leaseTaken (chunk_of t c)) refl (λ e. absurd (false≢true e))
+  pub ev_take : Next b h t [] Outcome.None (with_chunk t c (lease_taken (chunk_of t c)))
+  ev_take = mode (lease_taken (chunk_of t c)) refl (λ e. absurd (false≢true e))
 
   -- a lease for a chunk that is not lost
-  pub ev-give : code_of (giveLeaseRefusals (chunk_of t c).state (chunk_of t c).lost) ≡ 0
-      → Next b h t [] Outcome.None (withChunk t c (leaseGiven (chunk_of t c)))
+  pub ev_give : code_of (give_lease_refusals (chunk_of t c).state (chunk_of t c).lost) ≡ 0
+      → Next b h t [] Outcome.None (with_chunk t c (lease_given (chunk_of t c)))
   unfolding every
-  ev-give e = mode (leaseGiven (chunk_of t c)) refl (λ _. (granted-exactly
-      (giveLeaseRefusals (chunk_of t c).state (chunk_of t c).lost) refl).0 e 1 (omega arith))
+  ev_give e = mode (lease_given (chunk_of t c)) refl (λ _. (granted_exactly
+      (give_lease_refusals (chunk_of t c).state (chunk_of t c).lost) refl).0 e 1 (omega arith))
 
   -- overdue: no part of the view changes
-  pub ev-overdue : (d : ℕ) → Next b h t [] Outcome.None (withChunk t c (overdue (chunk_of t c) d))
-  ev-overdue d = mode (overdue (chunk_of t c) d) refl (i.sane c)
+  pub ev_overdue : (d : ℕ) → Next b h t [] Outcome.None (with_chunk t c (overdue (chunk_of t c) d))
+  ev_overdue d = mode (overdue (chunk_of t c) d) refl (i.sane c)
 
   -- fail
-  pub ev-fail : Next b h t [] Outcome.None (withRecords (withChunk t c (failed (chunk_of t c)))
-      (recordsBy (λ d b. cond (eqb d c) (emptied (recordOf t d b)) (recordOf t d b))))
-  ev-fail = unnoted b h t _ (good-records b h (withChunk t c x) (shape-chunk t s c x)
-      (recordsBy (λ d b. cond (eqb d c) (emptied (recordOf t d b)) (recordOf t d b)))
-      (at c (emptied (recordOf t c b)) (λ a. recordOf t a b))
+  pub ev_fail : Next b h t [] Outcome.None (with_records (with_chunk t c (failed (chunk_of t c)))
+      (records_by (λ d b. cond (eqb d c) (emptied (record_of t d b)) (record_of t d b))))
+  ev_fail = unnoted b h t _ (good-records b h (with_chunk t c x) (shape-chunk t s c x)
+      (records_by (λ d b. cond (eqb d c) (emptied (record_of t d b)) (record_of t d b)))
+      (at c (emptied (record_of t c b)) (λ a. record_of t a b))
       (emptied-at b h t s c place-c place-b) t.places
-      (subst⁻¹ (λ (g : ℕ → Part). CInv S b h t.epoch.0 (seatsOf t) g t.places)
-      (fun_ext (λ a. ap (λ (y : Chunk). partWith y (at c (emptied (recordOf t c b)) (λ a. recordOf t a b) a))
+      (subst⁻¹ (λ (g : ℕ → Part). CInv S b h t.epoch.0 (seats_of t) g t.places)
+      (fun_ext (λ a. ap (λ (y : Chunk). part_with y (at c (emptied (record_of t c b)) (λ a. record_of t a b) a))
       (get_d_set t.chunks c x no_chunk (omega (arith, s.chunks, place-c)) a))
-      ∙ at_pair partWith c x (emptied (recordOf t c b)) (chunk_of t) (λ a. recordOf t a b))
-      (falls S b h t.epoch.0 (seatsOf t) (part_of t b) t.places i c t.places (net-same b t.places))))
+      ∙ at_pair part_with c x (emptied (record_of t c b)) (chunk_of t) (λ a. record_of t a b))
+      (falls S b h t.epoch.0 (seats_of t) (part_of t b) t.places i c t.places (net_same b t.places))))
     where
       x : Chunk
       x = failed (chunk_of t c)

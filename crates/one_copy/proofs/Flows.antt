@@ -5,7 +5,7 @@ use mathlib.Core.Logic.{◌⊎◌, inl, inr}
 use mathlib.Core.Bool.{false}
 use native.Mathlib.Omega.{arith}
 use Rattle.one_copy.proofs.Tests.{at, at_all, at_same, not-both}
-use Rattle.one_copy.proofs.Abs.{Mark, und, readK, writeK, Cell, Book, Flow, Promise, Last, EntryOk, Pre, und≢cmt, und≢abt, readK≢writeK, idle≢readK, CellOk, GlobOk, Inv}
+use Rattle.one_copy.proofs.Abs.{Mark, und, readK, writeK, Cell, Book, Flow, Promise, Last, EntryOk, Pre, und≢cmt, und≢abt, read_k≢write_k, idle≢read_k, CellOk, GlobOk, Inv}
 use Rattle.one_copy.proofs.Cells.{requeue, was, not-read}
 
 pub record Sub (F' F : Flow) : Type 0 where
@@ -58,15 +58,15 @@ answered F t x = record {
 }
 
 -- the last read is raised, a read has gone
-abbrev pub readAt : Cell → ℕ → (ℕ → Type 0) → Cell
-readAt k rd' r' = record { wr = k.wr; rd = rd'; val = k.val; lost = k.lost; w = k.w; r = r' }
+abbrev pub read_at : Cell → ℕ → (ℕ → Type 0) → Cell
+read_at k rd' r' = record { wr = k.wr; rd = rd'; val = k.val; lost = k.lost; w = k.w; r = r' }
 
 -- a cell under another flow
 pub reflow : (B : Book) (F F' : Flow) (c : ℕ) (k : Cell) → CellOk B F c k → ((t : ℕ) → F'.act t → F.act t)
     → ((t : ℕ) → F'.act t → F'.ack t c → B.ae t ≡ B.era → Promise k t) → CellOk B F' c k
 reflow B F F' c k i sub p = record {
   held = i.held;
-  readTop = i.readTop;
+  read_top = i.read_top;
   waits = i.waits;
   reads = i.reads;
   done = i.done;
@@ -82,16 +82,16 @@ module _ (S : ℕ → Type 0) (B : Book) (F : Flow) (cell : ℕ → Cell) (i : I
   pub shrink : (F' : Flow) → Sub F' F → Inv S B F' cell
   shrink F' s = let g = i.glob in record {
     glob = record {
-      zeroK = g.zeroK;
-      listK = g.listK;
+      zero_k = g.zero_k;
+      list_k = g.list_k;
       past = g.past;
       stale = g.stale;
-      curK = λ t h. g.curK t (s.cur t h);
-      actCur = λ t h. (s.act t h).1;
-      ackK = λ t c h. g.ackK t c (s.ack t c h);
-      abtK = λ t h. g.abtK t (s.abtm t h);
-      preK = λ c t e v h. g.preK c t e v (s.pre c t e v h);
-      rdmK = λ c t h. g.rdmK c t (s.rdm c t h);
+      cur_k = λ t h. g.cur_k t (s.cur t h);
+      act_cur = λ t h. (s.act t h).1;
+      ack_k = λ t c h. g.ack_k t c (s.ack t c h);
+      abt_k = λ t h. g.abt_k t (s.abtm t h);
+      pre_k = λ c t e v h. g.pre_k c t e v (s.pre c t e v h);
+      rdm_k = λ c t h. g.rdm_k c t (s.rdm c t h);
       own = λ t h. g.own t (s.cur t h);
       dead = λ t h. (λ c. (g.dead t (s.abtm t h)).0 (s.cur t c), (g.dead t (s.abtm t h)).1);
       told = λ t h. g.told t (s.comm t h);
@@ -109,19 +109,19 @@ module _ (S : ℕ → Type 0) (B : Book) (F : Flow) (cell : ℕ → Cell) (i : I
   accept c t e v h now l ow or = record {
     home = at_all (λ j x. (u : ℕ) → x.r u → S j) c (queued (cell c) t v) cell (i.home c) (λ j _. i.home j);
     glob = record {
-      zeroK = g.zeroK;
-      listK = g.listK;
+      zero_k = g.zero_k;
+      list_k = g.list_k;
       past = g.past;
       stale = g.stale;
-      curK = g.curK;
-      actCur = g.actCur;
-      abtK = g.abtK;
-      preK = g.preK;
-      rdmK = g.rdmK;
+      cur_k = g.cur_k;
+      act_cur = g.act_cur;
+      abt_k = g.abt_k;
+      pre_k = g.pre_k;
+      rdm_k = g.rdm_k;
       own = g.own;
       dead = g.dead;
       told = g.told;
-      ackK = λ u d. elim [ inl q ↦ g.ackK u d q | inr q ↦ rw q.0 p.isW ];
+      ack_k = λ u d. elim [ inl q ↦ g.ack_k u d q | inr q ↦ rw q.0 p.IsW ];
       old = λ u a o all. g.old u a o
           (λ d m. elim (all d m) [
             | inl q ↦ q
@@ -133,7 +133,7 @@ module _ (S : ℕ → Type 0) (B : Book) (F : Flow) (cell : ℕ → Cell) (i : I
         (λ j n m. reflow B F (acked F t c) j (cell j) (i.cells j m) (λ t a. a)
         (λ t a. elim [ inl q ↦ (i.cells j m).promise t a q | inr q ↦ absurd (n q.1) ]));
     seen = λ u x q. let o = i.seen u x q in record {
-      isR = o.isR;
+      IsR = o.IsR;
       guard = o.guard;
       copy = o.copy;
       last = o.last;
@@ -146,19 +146,19 @@ module _ (S : ℕ → Type 0) (B : Book) (F : Flow) (cell : ℕ → Cell) (i : I
       g = i.glob
 
       p : Pre B t e v
-      p = g.preK c t e v h
+      p = g.pre_k c t e v h
 
       hit : S c → CellOk B (acked F t c) c (queued (cell c) t v)
       hit m = let o = i.cells c m in
-          let n : (cell c).rd ≡ t → ⊥ = λ q. not-read S B F c (cell c) g o t p.isW q in
+          let n : (cell c).rd ≡ t → ⊥ = λ q. not-read S B F c (cell c) g o t p.IsW q in
           let new : (u x : ℕ) (a : Mark) → (u ≡ t) × (x ≡ v) × (a ≡ und) → EntryOk B F (cell c) u x a = λ u x a q. record {
             fits = record {
-              isW = rw q.0 p.isW;
+              IsW = rw q.0 p.IsW;
               vals = rw (q.0, q.1) p.vals;
               now = rw q.0 (p.known ∙ now);
-              overW =
+              over_w =
                   omega (arith, q.0);
-              overR = omega (arith, q.0);
+              over_r = omega (arith, q.0);
             };
             done = λ f. absurd (und≢cmt (sym q.2 ∙ f));
             dead = λ f. absurd (und≢abt (sym q.2 ∙ f));
@@ -171,47 +171,47 @@ module _ (S : ℕ → Type 0) (B : Book) (F : Flow) (cell : ℕ → Cell) (i : I
           (λ u a. elim [ inl q ↦ base.promise u a q | inr q ↦ λ _. inl (v, und, inr (q.0, refl, refl), tt) ])
 
   -- a read that no waiting write comes before is answered
-  pub pop-read : (c t rd' : ℕ) (r' : ℕ → Type 0) → (cell c).lost ≡ false → (cell c).r t → (cell c).wr ≤ t
+  pub pop_read : (c t rd' : ℕ) (r' : ℕ → Type 0) → (cell c).lost ≡ false → (cell c).r t → (cell c).wr ≤ t
       → ((u x : ℕ) (m : Mark) → (cell c).w u x m → t ≤ u) → ((u : ℕ) → r' u → (cell c).r u)
       → t ≤ rd' → (cell c).rd ≤ rd' → (rd' ≡ t) ⊎ (rd' ≡ (cell c).rd)
-      → Inv S B (answered F t (cell c).val) (at c (readAt (cell c) rd' r') cell)
-  pop-read c t rd' r' l h ow front sub ut ur pick = record {
-    home = at_all (λ j x. (u : ℕ) → x.r u → S j) c (readAt (cell c) rd' r') cell (λ u q. i.home c u (sub u q)) (λ j _. i.home j);
+      → Inv S B (answered F t (cell c).val) (at c (read_at (cell c) rd' r') cell)
+  pop_read c t rd' r' l h ow front sub ut ur pick = record {
+    home = at_all (λ j x. (u : ℕ) → x.r u → S j) c (read_at (cell c) rd' r') cell (λ u q. i.home c u (sub u q)) (λ j _. i.home j);
     glob = record {
-      zeroK = g.zeroK;
-      listK = g.listK;
+      zero_k = g.zero_k;
+      list_k = g.list_k;
       past = g.past;
       stale = g.stale;
-      curK = g.curK;
-      actCur = g.actCur;
-      ackK =
-          g.ackK;
-      abtK = g.abtK;
-      preK = g.preK;
-      rdmK = g.rdmK;
+      cur_k = g.cur_k;
+      act_cur = g.act_cur;
+      ack_k =
+          g.ack_k;
+      abt_k = g.abt_k;
+      pre_k = g.pre_k;
+      rdm_k = g.rdm_k;
       own = g.own;
       dead = g.dead;
       told = g.told;
       old = g.old;
     };
-    cells = at_all (λ j x. S j → CellOk B (answered F t (cell c).val) j x) c (readAt (cell c) rd' r') cell (λ _. hit)
+    cells = at_all (λ j x. S j → CellOk B (answered F t (cell c).val) j x) c (read_at (cell c) rd' r') cell (λ _. hit)
         (λ j n m. reflow B F (answered F t (cell c).val) j (cell j) (i.cells j m) (λ t a. a) (i.cells j m).promise);
     seen = λ u x. elim [
       | inl q ↦ let p = i.seen u x q in record {
-        isR = p.isR;
+        IsR = p.IsR;
         guard = p.guard;
         copy = p.copy;
         last = p.last;
         over =
-            at_all (λ j x. u ≤ (cell j).rd → u ≤ x.rd) c (readAt (cell c) rd' r') cell (λ a. omega arith) (λ j _ a. a) p.guard
+            at_all (λ j x. u ≤ (cell j).rd → u ≤ x.rd) c (read_at (cell c) rd' r') cell (λ a. omega arith) (λ j _ a. a) p.guard
             p.over;
       }
       | inr q ↦ record {
-        isR = rw q.0 isR;
+        IsR = rw q.0 IsR;
         guard = c;
         copy = m;
         over =
-            rw (at_same c (readAt (cell c) rd' r') cell) (omega (arith, q.0));
+            rw (at_same c (read_at (cell c) rd' r') cell) (omega (arith, q.0));
         last = rw (q.0, q.1) last;
       }
     ];
@@ -226,38 +226,38 @@ module _ (S : ℕ → Type 0) (B : Book) (F : Flow) (cell : ℕ → Cell) (i : I
       o : CellOk B F c (cell c)
       o = i.cells c m
 
-      isR : B.kind t ≡ readK
-      isR = o.reads t h
+      IsR : B.kind t ≡ readK
+      IsR = o.reads t h
 
       -- a write is not under the read's timestamp
       other : (u : ℕ) → B.kind u ≡ writeK → u ≡ t → ⊥
-      other u e q = readK≢writeK (sym isR ∙ ap B.kind (sym q) ∙ e)
+      other u e q = read_k≢write_k (sym IsR ∙ ap B.kind (sym q) ∙ e)
 
       under : (u x : ℕ) (a : Mark) → (cell c).w u x a → rd' < u
-      under u x a q = let z = other u (o.waits u x a q).isW in let y = front u x a q in let w = (o.waits u x a q).overR in
+      under u x a q = let z = other u (o.waits u x a q).IsW in let y = front u x a q in let w = (o.waits u x a q).over_r in
           elim pick [ inl e ↦ omega arith | inr e ↦ omega arith ]
 
       last : Last B t (cell c).val
       last = record {
         top = (cell c).wr;
         below = elim o.held [
-          | inl e ↦ (let z : t ≡ 0 → ⊥ = λ q. idle≢readK (sym g.zeroK ∙ ap B.kind (sym q) ∙ isR) in omega (arith, e.0))
-          | inr e ↦ (let z = other (cell c).wr (g.listK (cell c).wr e.0) in omega arith)
+          | inl e ↦ (let z : t ≡ 0 → ⊥ = λ q. idle≢read_k (sym g.zero_k ∙ ap B.kind (sym q) ∙ IsR) in omega (arith, e.0))
+          | inr e ↦ (let z = other (cell c).wr (g.list_k (cell c).wr e.0) in omega arith)
         ];
         wrote = o.held;
         most = λ u p b. elim (o.live l u p) [ inl q ↦ q | inr q ↦ absurd (let z = front u q.0 q.1 q.2 in omega arith) ];
       }
 
-      hit : CellOk B (answered F t (cell c).val) c (readAt (cell c) rd' r')
+      hit : CellOk B (answered F t (cell c).val) c (read_at (cell c) rd' r')
       hit = record {
         held = o.held;
-        readTop = elim pick [ inl q ↦ inr (rw q isR) | inr q ↦ rw q o.readTop ];
+        read_top = elim pick [ inl q ↦ inr (rw q IsR) | inr q ↦ rw q o.read_top ];
         waits = λ u x a q. let z = o.waits u x a q in record {
-          isW = z.isW;
+          IsW = z.IsW;
           vals = z.vals;
           now = z.now;
-          overW = z.overW;
-          overR =
+          over_w = z.over_w;
+          over_r =
               under u x a q;
         };
         reads = λ u q. o.reads u (sub u q);

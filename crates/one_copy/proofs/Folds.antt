@@ -7,7 +7,7 @@ use mathlib.Core.List.{List, [], ◌∷◌}
 use native.Mathlib.Omega.{arith}
 use lib.ListN.{length, get_or}
 use Rattle.rules.specs.Words.{those, every, place, fold}
-use Rattle.rules.proofs.Lists.{upper, upper-left, upper-right, upper-one, every-at, every_of, implied, implies, every-those}
+use Rattle.rules.proofs.Lists.{upper, upper-left, upper_right, upper-one, every-at, every_of, implied, implies, every-those}
 use Rattle.one_copy.proofs.Lists.{Any}
 
 -- ---- the one with the greatest key, from s on
@@ -23,14 +23,14 @@ module _ {A : Type 0} (key : A → ℕ) where
   pub top-all : (s : A) (l : List A) (k : ℕ) → Any (λ x. key x ≡ k) l → k ≤ key (fold (upper key) s l)
   unfolding fold
   top-all s [] k h = absurd h
-  top-all s (x ∷ xs) k (inl h) = let z = top_up (upper key s x) xs in let y = upper-right key s x in omega arith
+  top-all s (x ∷ xs) k (inl h) = let z = top_up (upper key s x) xs in let y = upper_right key s x in omega arith
   top-all s (x ∷ xs) k (inr h) = top-all (upper key s x) xs k h
 
   -- and is s or one of the list
-  pub top-is : (s : A) (l : List A) → (fold (upper key) s l ≡ s) ⊎ Any (λ x. x ≡ fold (upper key) s l) l
+  pub top_is : (s : A) (l : List A) → (fold (upper key) s l ≡ s) ⊎ Any (λ x. x ≡ fold (upper key) s l) l
   unfolding fold
-  top-is s [] = inl refl
-  top-is s (x ∷ xs) = elim (top-is (upper key s x) xs) [
+  top_is s [] = inl refl
+  top_is s (x ∷ xs) = elim (top_is (upper key s x) xs) [
     | inl e ↦ elim (upper-one key s x) [
       | inl q ↦ inl (e ∙ q)
       | inr q ↦
@@ -42,11 +42,11 @@ module _ {A : Type 0} (key : A → ℕ) where
 -- ---- the first that is p
 
 -- where one is p, the first is, and it is in the list
-pub place_at : {A : Type 0} (p : A → Bool) (l : List A) (d : A) → Any (λ x. p x ≡ true) l → (place p l < length l)
+pub place_at_lem : {A : Type 0} (p : A → Bool) (l : List A) (d : A) → Any (λ x. p x ≡ true) l → (place p l < length l)
     × (p (get_or l (place p l) d) ≡ true)
 unfolding place
-place_at p [] d h = absurd h
-place_at p (x ∷ xs) d h = go (p x) refl h (place_at p xs d)
+place_at_lem p [] d h = absurd h
+place_at_lem p (x ∷ xs) d h = go (p x) refl h (place_at_lem p xs d)
   where
     go : (t : Bool) → p x ≡ t → (p x ≡ true) ⊎ Any (λ x. p x ≡ true) xs
         → (Any (λ x. p x ≡ true) xs → (place p xs < length xs) × (p (get_or xs (place p xs) d) ≡ true))
@@ -63,9 +63,9 @@ module _ {A : Type 0} (q p : A → Bool) where
   those-at l i d h k = implied (p (get_or l i d)) (q (get_or l i d)) (every-at (λ x. not (p x) || q x) l i d (sym (every-those q p l) ∙ h) k)
 
   -- the way back
-  pub those-of : (l : List A) (d : A) → ((i : ℕ) → i < length l → p (get_or l i d) ≡ true → q (get_or l i d) ≡ true)
+  pub those_of : (l : List A) (d : A) → ((i : ℕ) → i < length l → p (get_or l i d) ≡ true → q (get_or l i d) ≡ true)
       → every q (those p l) ≡ true
-  those-of l d h = every-those q p l ∙ every_of (λ x. not (p x) || q x) l d (λ i k. implies (p (get_or l i d)) (q (get_or l i d)) (h i k))
+  those_of l d h = every-those q p l ∙ every_of (λ x. not (p x) || q x) l d (λ i k. implies (p (get_or l i d)) (q (get_or l i d)) (h i k))
 
   -- where not every one is q, one of those is not
   pub those-not : (l : List A) (d : A) → every q (those p l) ≡ false → (i : ℕ) × (i < length l) × (p (get_or l i d) ≡ true)

@@ -12,46 +12,46 @@ use borrow.Author.Tests.{eqb-true, not-true, not-false}
 use Rattle.one_copy.specs.Types.{Creation, Record, Chunk, Host, Place, Table, Outcome}
 use Rattle.one_copy.specs.Listed.{Write}
 use Rattle.rules.specs.Chunks.{emptied}
-use Rattle.rules.specs.Creation.{ofStore}
-use Rattle.rules.specs.Limits.{hostLimit, chunkLimit, blockLimit}
-use Rattle.rules.specs.Tables.{isChunk, isBlock, setOf, hostOf, chunk_of, recordOf, recordsBy, withPlaces, withHost, withChunk, withRecord, withRecords}
+use Rattle.rules.specs.Creation.{of_store}
+use Rattle.rules.specs.Limits.{host_limit, chunk_limit, block_limit}
+use Rattle.rules.specs.Tables.{is_chunk, is_block, set_of, host_of, chunk_of, record_of, records_by, with_places, with_host, with_chunk, with_record, with_records}
 use Rattle.rules.specs.Words.{some, numbers}
-use Rattle.rules.specs.Zero.{◌among◌, is_empty, noHost, no_chunk, noRecord}
-use Rattle.rules.proofs.Formed.{Formed, creation-facts, chunk-place, block-place, of-store}
+use Rattle.rules.specs.Zero.{◌among◌, is_empty, no_host, no_chunk, no_record}
+use Rattle.rules.proofs.Formed.{Formed, creation-facts, chunk-place, block-place, of_store_lem}
 use Rattle.rules.proofs.Lists.{both, some_number, grid-at}
-use Rattle.one_copy.proofs.Tests.{at, at_map, at_same, at_other, at_with, eq-or-ne, le-or-lt}
+use Rattle.one_copy.proofs.Tests.{at, at_map, at_same, at_other, at_with, eq_or_ne, le_or_lt}
 use Rattle.one_copy.proofs.Abs.{writeK}
 use Rattle.one_copy.proofs.Lists.{Any, get_d_set}
 use Rattle.one_copy.proofs.Shapes.{Shape, records-beyond, beyond}
-use Rattle.one_copy.proofs.View.{Hist, Part, partWith, part_of, Seat, seatOf, seatsOf, isIt, HasW, CInv}
+use Rattle.one_copy.proofs.View.{Hist, Part, part_with, part_of, Seat, seat_of, seats_of, IsIt, HasW, CInv}
 
 -- chunk c holds a copy of block b
 abbrev pub In : Creation → (block chunk : ℕ) → Type 0
-In k b c = (isChunk k c ≡ true) × (c among setOf k b ≡ true)
+In k b c = (is_chunk k c ≡ true) × (c among set_of k b ≡ true)
 
 module _ (b : ℕ) where
   -- the invariant of table t with history h
   abbrev pub Good : Hist → Table → Type 0
-  Good h t = CInv (In t.creation b) b h t.epoch.0 (seatsOf t) (part_of t b) t.places
+  Good h t = CInv (In t.creation b) b h t.epoch.0 (seats_of t) (part_of t b) t.places
 
 -- a block's chunks are the store's, and there is one
-module _ (t : Table) (f : Formed t) (b : ℕ) (lb : isBlock t.creation b ≡ true) where
+module _ (t : Table) (f : Formed t) (b : ℕ) (lb : is_block t.creation b ≡ true) where
   -- a chunk of the set has a place
-  pub inside : (c : ℕ) → In t.creation b c → c < chunkLimit
+  pub inside : (c : ℕ) → In t.creation b c → c < chunk_limit
   inside c m = chunk-place t.creation c m.0 f.creation
 
   -- a block has one
-  pub small : b < blockLimit
+  pub small : b < block_limit
   small = block-place t.creation b lb f.creation
 
   -- some chunk is in the set
   pub holder : (c : ℕ) × In t.creation b c
   holder =
       let k = t.creation in
-      let r = both (not (is_empty (setOf k b))) (ofStore k (setOf k b)) (rw lb at ((creation-facts k f.creation).sets b small)) in
-      let s = some_number (λ c. c among setOf k b) chunkLimit (not-false (some (λ c. c among setOf k b) (numbers chunkLimit))
-      (not-true (is_empty (setOf k b)) r.0)) in
-      (s.0, (of-store k (setOf k b) r.1 s.0 s.1 s.2, s.2))
+      let r = both (not (is_empty (set_of k b))) (of_store k (set_of k b)) (rw lb at ((creation-facts k f.creation).sets b small)) in
+      let s = some_number (λ c. c among set_of k b) chunk_limit (not-false (some (λ c. c among set_of k b) (numbers chunk_limit))
+      (not-true (is_empty (set_of k b)) r.0)) in
+      (s.0, (of_store_lem k (set_of k b) r.1 s.0 s.1 s.2, s.2))
 
 -- reading an updated table
 module _ (b : ℕ) (h : Hist) (t : Table) (s : Shape t) where
@@ -60,63 +60,63 @@ module _ (b : ℕ) (h : Hist) (t : Table) (s : Shape t) where
   Views hs ps n = CInv (In t.creation b) b h t.epoch.0 hs ps n
 
   -- host j changed
-  pub good-host : (j : ℕ) (x : Host) (n : List Place) → j < hostLimit → Views (at j (seatOf x) (seatsOf t)) (part_of t b) n
-      → Good b h (withPlaces (withHost t j x) n)
+  pub good-host : (j : ℕ) (x : Host) (n : List Place) → j < host_limit → Views (at j (seat_of x) (seats_of t)) (part_of t b) n
+      → Good b h (with_places (with_host t j x) n)
   good-host j x n l i = subst⁻¹ (λ (g : ℕ → Seat). Views g (part_of t b) n)
-      (fun_ext (λ a. ap seatOf (get_d_set t.hosts j x noHost (omega (arith, s.hosts)) a)) ∙ at_map seatOf j x (hostOf t)) i
+      (fun_ext (λ a. ap seat_of (get_d_set t.hosts j x no_host (omega (arith, s.hosts)) a)) ∙ at_map seat_of j x (host_of t)) i
 
   -- chunk c changed, its records as they were
-  pub good-chunk : (c : ℕ) (x : Chunk) (n : List Place) → c < chunkLimit
-      → Views (seatsOf t) (at c (partWith x (recordOf t c b)) (part_of t b)) n → Good b h (withPlaces (withChunk t c x) n)
-  good-chunk c x n l i = subst⁻¹ (λ (g : ℕ → Part). Views (seatsOf t) g n)
-      (fun_ext (λ a. ap (λ (y : Chunk). partWith y (recordOf t a b)) (get_d_set t.chunks c x no_chunk (omega (arith, s.chunks)) a))
-      ∙ at_with partWith c x (chunk_of t) (λ a. recordOf t a b)) i
+  pub good-chunk : (c : ℕ) (x : Chunk) (n : List Place) → c < chunk_limit
+      → Views (seats_of t) (at c (part_with x (record_of t c b)) (part_of t b)) n → Good b h (with_places (with_chunk t c x) n)
+  good-chunk c x n l i = subst⁻¹ (λ (g : ℕ → Part). Views (seats_of t) g n)
+      (fun_ext (λ a. ap (λ (y : Chunk). part_with y (record_of t a b)) (get_d_set t.chunks c x no_chunk (omega (arith, s.chunks)) a))
+      ∙ at_with part_with c x (chunk_of t) (λ a. record_of t a b)) i
 
   -- the records of this block, read
-  module _ (f : List Record) (g : ℕ → Record) (e : (a : ℕ) → get_or f (a * blockLimit + b) noRecord ≡ g a) where
+  module _ (f : List Record) (g : ℕ → Record) (e : (a : ℕ) → get_or f (a * block_limit + b) no_record ≡ g a) where
     -- with any messages
-    pub good-records : (n : List Place) → Views (seatsOf t) (λ a. partWith (chunk_of t a) (g a)) n
-        → Good b h (withPlaces (withRecords t f) n)
-    good-records n i = subst⁻¹ (λ (g : ℕ → Part). Views (seatsOf t) g n) (fun_ext (λ a. ap (partWith (chunk_of t a)) (e a))) i
+    pub good-records : (n : List Place) → Views (seats_of t) (λ a. part_with (chunk_of t a) (g a)) n
+        → Good b h (with_places (with_records t f) n)
+    good-records n i = subst⁻¹ (λ (g : ℕ → Part). Views (seats_of t) g n) (fun_ext (λ a. ap (part_with (chunk_of t a)) (e a))) i
 
   -- the record of this block
-  pub good-record : (c : ℕ) (r : Record) (n : List Place) → c < chunkLimit → b < blockLimit
-      → Views (seatsOf t) (at c (partWith (chunk_of t c) r) (part_of t b)) n → Good b h (withPlaces (withRecord t c b r) n)
-  good-record c r n l lb i = good-records (set t.records (c * blockLimit + b) r) (at c r (λ a. recordOf t a b)) here n
-      (subst⁻¹ (λ (g : ℕ → Part). Views (seatsOf t) g n) (at_with (λ r c. partWith c r) c r (λ a. recordOf t a b) (chunk_of t)) i)
+  pub good_record : (c : ℕ) (r : Record) (n : List Place) → c < chunk_limit → b < block_limit
+      → Views (seats_of t) (at c (part_with (chunk_of t c) r) (part_of t b)) n → Good b h (with_places (with_record t c b r) n)
+  good_record c r n l lb i = good-records (set t.records (c * block_limit + b) r) (at c r (λ a. record_of t a b)) here n
+      (subst⁻¹ (λ (g : ℕ → Part). Views (seats_of t) g n) (at_with (λ r c. part_with c r) c r (λ a. record_of t a b) (chunk_of t)) i)
     where
-      here : (a : ℕ) → get_or (set t.records (c * blockLimit + b) r) (a * blockLimit + b) noRecord ≡ at c r (λ a. recordOf t a b) a
-      here a = elim (eq-or-ne a c) [
+      here : (a : ℕ) → get_or (set t.records (c * block_limit + b) r) (a * block_limit + b) no_record ≡ at c r (λ a. record_of t a b) a
+      here a = elim (eq_or_ne a c) [
         | inl q ↦ rw (
           q,
-          get_or-set_same t.records (c * blockLimit + b) r noRecord (omega (arith, s.records)),
+          get_or-set_same t.records (c * block_limit + b) r no_record (omega (arith, s.records)),
           at_same c r
-              (λ a. recordOf t a b),
+              (λ a. record_of t a b),
         )
-        | inr q ↦ get_or-set_other t.records (c * blockLimit + b) (a * blockLimit + b) r noRecord (λ z. q (omega arith))
-            ∙ sym (at_other c r (λ a. recordOf t a b) a q)
+        | inr q ↦ get_or-set_other t.records (c * block_limit + b) (a * block_limit + b) r no_record (λ z. q (omega arith))
+            ∙ sym (at_other c r (λ a. record_of t a b) a q)
       ]
 
   -- the record of another block
-  pub good-far : (c d : ℕ) (r : Record) (n : List Place) → b < blockLimit → d < blockLimit → (d ≡ b → ⊥)
-      → Views (seatsOf t) (part_of t b) n → Good b h (withPlaces (withRecord t c d r) n)
-  good-far c d r n lb ld far i = good-records (set t.records (c * blockLimit + d) r) (λ a. recordOf t a b)
-      (λ a. get_or-set_other t.records (c * blockLimit + d) (a * blockLimit + b) r noRecord (λ z. far (omega arith))) n i
+  pub good-far : (c d : ℕ) (r : Record) (n : List Place) → b < block_limit → d < block_limit → (d ≡ b → ⊥)
+      → Views (seats_of t) (part_of t b) n → Good b h (with_places (with_record t c d r) n)
+  good-far c d r n lb ld far i = good-records (set t.records (c * block_limit + d) r) (λ a. record_of t a b)
+      (λ a. get_or-set_other t.records (c * block_limit + d) (a * block_limit + b) r no_record (λ z. far (omega arith))) n i
 
   -- the records of one chunk emptied
-  pub emptied-at : (c : ℕ) → c < chunkLimit → b < blockLimit
-      → (a : ℕ) → get_or (recordsBy (λ d b. cond (eqb d c) (emptied (recordOf t d b)) (recordOf t d b)))
-      (a * blockLimit + b) noRecord ≡ at c (emptied (recordOf t c b)) (λ a. recordOf t a b) a
-  emptied-at c l lb a = elim (le-or-lt chunkLimit a) [
-    | inl q ↦ records-beyond (λ d b. cond (eqb d c) (emptied (recordOf t d b)) (recordOf t d b)) a b q
-        ∙ sym (at_other c (emptied (recordOf t c b)) (λ a. recordOf t a b) a (λ z. omega arith) ∙ beyond t s a b q)
-    | inr q ↦ grid-at (λ d b. cond (eqb d c) (emptied (recordOf t d b)) (recordOf t d b)) chunkLimit blockLimit a b noRecord q lb
+  pub emptied-at : (c : ℕ) → c < chunk_limit → b < block_limit
+      → (a : ℕ) → get_or (records_by (λ d b. cond (eqb d c) (emptied (record_of t d b)) (record_of t d b)))
+      (a * block_limit + b) no_record ≡ at c (emptied (record_of t c b)) (λ a. record_of t a b) a
+  emptied-at c l lb a = elim (le_or_lt chunk_limit a) [
+    | inl q ↦ records-beyond (λ d b. cond (eqb d c) (emptied (record_of t d b)) (record_of t d b)) a b q
+        ∙ sym (at_other c (emptied (record_of t c b)) (λ a. record_of t a b) a (λ z. omega arith) ∙ beyond t s a b q)
+    | inr q ↦ grid-at (λ d b. cond (eqb d c) (emptied (record_of t d b)) (record_of t d b)) chunk_limit block_limit a b no_record q lb
         ∙ go (eqb a c) refl
   ]
     where
-      go : (x : Bool) → eqb a c ≡ x → cond x (emptied (recordOf t a b)) (recordOf t a b) ≡ cond x (emptied (recordOf t c b))
-          (recordOf t a b)
-      go true e = ap (λ (d : ℕ). emptied (recordOf t d b)) (eqb-true a c e)
+      go : (x : Bool) → eqb a c ≡ x → cond x (emptied (record_of t a b)) (record_of t a b) ≡ cond x (emptied (record_of t c b))
+          (record_of t a b)
+      go true e = ap (λ (d : ℕ). emptied (record_of t d b)) (eqb-true a c e)
       go false e = refl
 
 -- ---- what an event makes of a good table: ws are the writes that it lists, o its outcome
@@ -124,16 +124,16 @@ module _ (b : ℕ) (h : Hist) (t : Table) (s : Shape t) where
 -- a host is at a write of block b: v under u
 pub record Trying (b : ℕ) (t : Table) (u v : ℕ) : Type 0 where
   pub host : ℕ
-  pub place : host < hostLimit
-  pub at : HasW b (seatsOf t host) u
-  pub value : (seatsOf t host).value ≡ v
+  pub place : host < host_limit
+  pub at : HasW b (seats_of t host) u
+  pub value : (seats_of t host).value ≡ v
 
 pub record Next (b : ℕ) (h : Hist) (t : Table) (ws : List Write) (o : Outcome) (t' : Table) : Type 0 where
   pub hist : Hist
   pub good : Good b hist t'
   pub listed : hist.listed ≡ ws ++ h.listed
-  pub kept : (u v : ℕ) → Any (isIt u v) h.reads → Any (isIt u v) hist.reads
-  pub done : (j v : ℕ) → o ≡ Outcome.ReadDone j b v → Any (isIt (hostOf t j).attempt.timestamp.0 v) hist.reads
+  pub kept : (u v : ℕ) → Any (IsIt u v) h.reads → Any (IsIt u v) hist.reads
+  pub done : (j v : ℕ) → o ≡ Outcome.ReadDone j b v → Any (IsIt (host_of t j).attempt.timestamp.0 v) hist.reads
   -- a write that is begun now is a host's
   pub began : (u : ℕ) → hist.kind u ≡ writeK → ((h.kind u ≡ writeK) × (hist.value u ≡ h.value u)) ⊎ Trying b t' u (hist.value u)
 

@@ -5,14 +5,14 @@ use mathlib.Core.Logic.{◌⊎◌, inl, inr}
 use mathlib.Core.Bool.{true}
 use mathlib.Core.List.{List, [], ◌∷◌, ◌++◌, append_assoc}
 use Rattle.one_copy.specs.Types.{Creation, Table, Event}
-use Rattle.one_copy.specs.Listed.{Write, committedAt, committed}
+use Rattle.one_copy.specs.Listed.{Write, committed_at, committed}
 use Rattle.rules.specs.Events.{step}
 use Rattle.rules.specs.Runs.{after}
-use Rattle.rules.specs.Tables.{isBlock}
+use Rattle.rules.specs.Tables.{is_block}
 use Rattle.rules.proofs.Begun.{after-append}
 use Rattle.one_copy.proofs.Abs.{writeK}
-use Rattle.one_copy.proofs.Lists.{Any, any_append, any_left, any-right}
-use Rattle.one_copy.proofs.View.{Hist, isIt}
+use Rattle.one_copy.proofs.Lists.{Any, any_append, any_left, any_right}
+use Rattle.one_copy.proofs.View.{Hist, IsIt}
 use Rattle.one_copy.proofs.Good.{Trying}
 use Rattle.one_copy.proofs.Steps.{Whole, Stepped, step_kept}
 
@@ -21,8 +21,8 @@ pub committed-append : (b : ℕ) (t : Table) (es fs : List Event)
     → committed b t (es ++ fs) ≡ committed b t es ++ committed b (after t es) fs
 unfolding after committed
 committed-append b t [] fs = refl
-committed-append b t (e ∷ es) fs = ap (λ (l : List Write). committedAt b t e (step t e) ++ l) (committed-append b (step t e).table es fs)
-    ∙ sym (append_assoc (committedAt b t e (step t e)) (committed b (step t e).table es) (committed b (after (step t e).table es) fs))
+committed-append b t (e ∷ es) fs = ap (λ (l : List Write). committed_at b t e (step t e) ++ l) (committed-append b (step t e).table es fs)
+    ∙ sym (append_assoc (committed_at b t e (step t e)) (committed b (step t e).table es) (committed b (after (step t e).table es) fs))
 
 -- ---- a run from a good table with history h: hist is the history that it ends with
 
@@ -33,9 +33,9 @@ Tried b t es u v = (fs gs : List Event) × (es ≡ fs ++ gs) × Trying b (after 
 pub record Run (b : ℕ) (h : Hist) (t : Table) (es : List Event) (hist : Hist) : Type 0 where
   pub blk : ℕ → ℕ
   pub whole : Whole b hist blk (after t es)
-  pub to : (u v : ℕ) → Any (isIt u v) hist.listed → Any (isIt u v) h.listed ⊎ Any (isIt u v) (committed b t es)
-  pub from : (u v : ℕ) → Any (isIt u v) h.listed ⊎ Any (isIt u v) (committed b t es) → Any (isIt u v) hist.listed
-  pub kept : (u v : ℕ) → Any (isIt u v) h.reads → Any (isIt u v) hist.reads
+  pub to : (u v : ℕ) → Any (IsIt u v) hist.listed → Any (IsIt u v) h.listed ⊎ Any (IsIt u v) (committed b t es)
+  pub from : (u v : ℕ) → Any (IsIt u v) h.listed ⊎ Any (IsIt u v) (committed b t es) → Any (IsIt u v) hist.listed
+  pub kept : (u v : ℕ) → Any (IsIt u v) h.reads → Any (IsIt u v) hist.reads
   pub began : (u : ℕ) → hist.kind u ≡ writeK → ((h.kind u ≡ writeK) × (hist.value u ≡ h.value u)) ⊎ Tried b t es u (hist.value u)
   pub creation : (after t es).creation ≡ t.creation
 
@@ -48,18 +48,18 @@ module _ (b : ℕ) where
     blk = r.blk;
     whole = r.whole;
     to = λ u v z. elim (r.to u v z) [
-      | inl y ↦ elim (any_append (isIt u v) now h.listed (subst (Any (isIt u v)) s.next.listed y)) [
+      | inl y ↦ elim (any_append (IsIt u v) now h.listed (subst (Any (IsIt u v)) s.next.listed y)) [
         | inl x ↦
-            inr (any_left (isIt u v) now rest x)
+            inr (any_left (IsIt u v) now rest x)
         | inr x ↦ inl x
       ]
-      | inr y ↦ inr (any-right (isIt u v) now rest y)
+      | inr y ↦ inr (any_right (IsIt u v) now rest y)
     ];
     from = λ u v. elim [
-      | inl z ↦ r.from u v (inl (subst⁻¹ (Any (isIt u v)) s.next.listed (any-right (isIt u v) now h.listed z)))
-      | inr z ↦ r.from u v (elim (any_append (isIt u v) now rest z) [
+      | inl z ↦ r.from u v (inl (subst⁻¹ (Any (IsIt u v)) s.next.listed (any_right (IsIt u v) now h.listed z)))
+      | inr z ↦ r.from u v (elim (any_append (IsIt u v) now rest z) [
         | inl x ↦
-            inl (subst⁻¹ (Any (isIt u v)) s.next.listed (any_left (isIt u v) now h.listed x))
+            inl (subst⁻¹ (Any (IsIt u v)) s.next.listed (any_left (IsIt u v) now h.listed x))
         | inr x ↦ inr x
       ])
     ];
@@ -75,7 +75,7 @@ module _ (b : ℕ) where
   }
     where
       now : List Write
-      now = committedAt b t e (step t e)
+      now = committed_at b t e (step t e)
 
       rest : List Write
       rest = committed b (step t e).table es
@@ -99,12 +99,12 @@ module _ (b : ℕ) where
   whole-after h t e s = record { good = s.next.good; homes = s.homes; shape = s.shape }
 
   -- the block is one of the store's still
-  pub block-after : (h : Hist) (t : Table) (e : Event) → isBlock t.creation b ≡ true → (s : Stepped b h t e (step t e))
-      → isBlock (step t e).table.creation b ≡ true
-  block-after h t e lb s = subst⁻¹ (λ (k : Creation). isBlock k b ≡ true) s.creation lb
+  pub block-after : (h : Hist) (t : Table) (e : Event) → is_block t.creation b ≡ true → (s : Stepped b h t e (step t e))
+      → is_block (step t e).table.creation b ≡ true
+  block-after h t e lb s = subst⁻¹ (λ (k : Creation). is_block k b ≡ true) s.creation lb
 
   -- every list of events
-  pub run : (es : List Event) (h : Hist) (blk : ℕ → ℕ) (t : Table) → isBlock t.creation b ≡ true → Whole b h blk t → (hist : Hist)
+  pub run : (es : List Event) (h : Hist) (blk : ℕ → ℕ) (t : Table) → is_block t.creation b ≡ true → Whole b h blk t → (hist : Hist)
       × Run b h t es hist
   run [] h blk t lb i = (h, ends h blk t i)
   run (e ∷ es) h blk t lb i =
@@ -118,15 +118,15 @@ module _ (b : ℕ) where
   appended h t es fs mid last r q = record {
     blk = q.blk;
     whole = subst⁻¹ (Whole b last q.blk) (after-append t es fs) q.whole;
-    to = λ u v z. subst⁻¹ (λ (l : List Write). Any (isIt u v) h.listed ⊎ Any (isIt u v) l) (committed-append b t es fs)
+    to = λ u v z. subst⁻¹ (λ (l : List Write). Any (IsIt u v) h.listed ⊎ Any (IsIt u v) l) (committed-append b t es fs)
         (elim (q.to u v z) [
-          | inl y ↦ elim (r.to u v y) [ inl x ↦ inl x | inr x ↦ inr (any_left (isIt u v) (committed b t es) (committed b (after t es) fs) x) ]
-          | inr y ↦ inr (any-right (isIt u v) (committed b t es) (committed b (after t es) fs) y)
+          | inl y ↦ elim (r.to u v y) [ inl x ↦ inl x | inr x ↦ inr (any_left (IsIt u v) (committed b t es) (committed b (after t es) fs) x) ]
+          | inr y ↦ inr (any_right (IsIt u v) (committed b t es) (committed b (after t es) fs) y)
         ]);
     from = λ u v. elim [
       | inl z ↦ q.from u v (inl (r.from u v (inl z)))
-      | inr z ↦ q.from u v (elim (any_append (isIt u v) (committed b t es) (committed b (after t es) fs)
-          (subst (Any (isIt u v)) (committed-append b t es fs) z)) [ inl x ↦ inl (r.from u v (inr x)) | inr x ↦ inr x ])
+      | inr z ↦ q.from u v (elim (any_append (IsIt u v) (committed b t es) (committed b (after t es) fs)
+          (subst (Any (IsIt u v)) (committed-append b t es fs) z)) [ inl x ↦ inl (r.from u v (inr x)) | inr x ↦ inr x ])
     ];
     kept = λ u v z. q.kept u v (r.kept u v z);
     began = λ u z. elim (q.began u z) [

@@ -8,17 +8,17 @@ use native.Mathlib.Omega.{arith}
 use lib.ListN.{length, get_or, set, drop, length-drop, length-set}
 use borrow.Author.Tests.{eqb-true}
 use Rattle.one_copy.specs.Types.{Timestamp, Creation, Kind, Entry, Waiting}
-use Rattle.rules.specs.Limits.{waitingLimit}
+use Rattle.rules.specs.Limits.{waiting_limit}
 use Rattle.rules.specs.Timestamps.{◌is◌, ◌below◌}
-use Rattle.rules.specs.Waiting.{inOrder, holding, insert, inserted, headRemoved, firstWith, decidedKind, decided, mark, marked}
+use Rattle.rules.specs.Waiting.{in_order, holding, insert, inserted, head_removed, first_with, decided_kind, decided, mark, marked}
 use Rattle.rules.specs.Words.{place}
-use Rattle.rules.specs.Zero.{zeroEntry}
-use Rattle.rules.proofs.Formed.{FormedWaiting, entries-ordered}
+use Rattle.rules.specs.Zero.{zero_entry}
+use Rattle.rules.proofs.Formed.{FormedWaiting, entries_ordered}
 use Rattle.rules.proofs.Lists.{filled-take, take_short}
 use Rattle.rules.proofs.Order.{OrderedFrom, Ordered, insert-length}
 use Rattle.one_copy.proofs.Abs.{Mark, und, cmt, abt}
 use Rattle.one_copy.proofs.Lists.{Any}
-use Rattle.one_copy.proofs.View.{isW, isR}
+use Rattle.one_copy.proofs.View.{IsW, IsR}
 
 -- ---- insertion
 
@@ -58,20 +58,20 @@ mark_of false = abt
 -- what marking does: nothing, or one undecided write of that timestamp becomes decided
 pub record Marked (M : Mark) (t : ℕ) (q q' : List Entry) : Type 0 where
   pub v : ℕ
-  pub was : Any (isW t v und) q
-  pub to : (u x : ℕ) (m : Mark) → Any (isW u x m) q' → Any (isW u x m) q ⊎ ((u ≡ t) × (x ≡ v) × (m ≡ M))
-  pub from : (u x : ℕ) (m : Mark) → Any (isW u x m) q → Any (isW u x m) q' ⊎ (u ≡ t)
-  pub new : Any (isW t v M) q'
-  pub r : (u : ℕ) → Any (isR u) q' → Any (isR u) q
+  pub was : Any (IsW t v und) q
+  pub to : (u x : ℕ) (m : Mark) → Any (IsW u x m) q' → Any (IsW u x m) q ⊎ ((u ≡ t) × (x ≡ v) × (m ≡ M))
+  pub from : (u x : ℕ) (m : Mark) → Any (IsW u x m) q → Any (IsW u x m) q' ⊎ (u ≡ t)
+  pub new : Any (IsW t v M) q'
+  pub r : (u : ℕ) → Any (IsR u) q' → Any (IsR u) q
 
 -- an entry with another kind
-abbrev withKind : Entry → Kind → Entry
-withKind e k = record { timestamp = e.timestamp; sender = e.sender; epoch = e.epoch; kind = k }
+abbrev with_kind : Entry → Kind → Entry
+with_kind e k = record { timestamp = e.timestamp; sender = e.sender; epoch = e.epoch; kind = k }
 
 -- the first with the timestamp: its kind decides
 marked-here : (commit : Bool) (t : ℕ) (e : Entry) (q : List Entry) (k : Kind) → e.timestamp.0 ≡ t
-    → (◌≡◌ {A = List Entry} (withKind e (decidedKind commit k) ∷ q) (withKind e k ∷ q))
-    ⊎ Marked (mark_of commit) t (withKind e k ∷ q) (withKind e (decidedKind commit k) ∷ q)
+    → (◌≡◌ {A = List Entry} (with_kind e (decided_kind commit k) ∷ q) (with_kind e k ∷ q))
+    ⊎ Marked (mark_of commit) t (with_kind e k ∷ q) (with_kind e (decided_kind commit k) ∷ q)
 marked-here commit t e q Kind.Read h = inl refl
 marked-here commit t e q (Kind.Committed v) h = inl refl
 marked-here commit t e q (Kind.Aborted v) h = inl refl
@@ -95,15 +95,15 @@ marked-here false t e q (Kind.Undecided v) h = inr (record {
 -- the list
 pub mark-cases : (commit : Bool) (t : Timestamp) (q : List Entry) → (mark commit t q ≡ q)
     ⊎ Marked (mark_of commit) t.0 q (mark commit t q)
-unfolding mark firstWith place
+unfolding mark first_with place
 mark-cases commit t [] = inl refl
 mark-cases commit t (e ∷ q) = go (e.timestamp is t) refl (mark-cases commit t q)
   where
     go : (c : Bool) → (e.timestamp is t) ≡ c → (mark commit t q ≡ q) ⊎ Marked (mark_of commit) t.0 q (mark commit t q)
         → (set (e ∷ q) (cond c 0 (suc (place (λ e. e.timestamp is t) q)))
-        (decided commit (get_or (e ∷ q) (cond c 0 (suc (place (λ e. e.timestamp is t) q))) zeroEntry)) ≡ e ∷ q)
+        (decided commit (get_or (e ∷ q) (cond c 0 (suc (place (λ e. e.timestamp is t) q))) zero_entry)) ≡ e ∷ q)
         ⊎ Marked (mark_of commit) t.0 (e ∷ q) (set (e ∷ q) (cond c 0 (suc (place (λ e. e.timestamp is t) q)))
-        (decided commit (get_or (e ∷ q) (cond c 0 (suc (place (λ e. e.timestamp is t) q))) zeroEntry)))
+        (decided commit (get_or (e ∷ q) (cond c 0 (suc (place (λ e. e.timestamp is t) q))) zero_entry)))
     go true p _ = marked-here commit t.0 e q e.kind (eqb-true e.timestamp.0 t.0 p)
     go false p (inl h) = inl (ap {B = List Entry} (λ l. e ∷ l) h)
     go false p (inr h) = inr (record {
@@ -118,29 +118,29 @@ mark-cases commit t (e ∷ q) = go (e.timestamp is t) refl (mark-cases commit t 
 -- ---- the list in its array
 
 -- a list that fits stands in it
-holding-order : (l : List Entry) → length l ≤ waitingLimit → inOrder (holding l) ≡ l
+holding-order : (l : List Entry) → length l ≤ waiting_limit → in_order (holding l) ≡ l
 unfolding holding
-holding-order l h = filled-take zeroEntry waitingLimit l h
+holding-order l h = filled-take zero_entry waiting_limit l h
 
 -- so a list with room for one more
-pub inserted-order : (w : Waiting) (e : Entry) → w.count < waitingLimit → inOrder (inserted w e) ≡ insert e (inOrder w)
+pub inserted-order : (w : Waiting) (e : Entry) → w.count < waiting_limit → in_order (inserted w e) ≡ insert e (in_order w)
 unfolding inserted
-inserted-order w e h = holding-order (insert e (inOrder w)) (omega (arith, insert-length e (inOrder w), take_short w.count w.entries))
+inserted-order w e h = holding-order (insert e (in_order w)) (omega (arith, insert-length e (in_order w), take_short w.count w.entries))
 
 -- a marked list
-pub marked-order : (w : Waiting) (commit : Bool) (t : Timestamp) → w.count ≤ waitingLimit
-    → inOrder (marked commit t w) ≡ mark commit t (inOrder w)
+pub marked-order : (w : Waiting) (commit : Bool) (t : Timestamp) → w.count ≤ waiting_limit
+    → in_order (marked commit t w) ≡ mark commit t (in_order w)
 unfolding marked mark
-marked-order w commit t h = holding-order (mark commit t (inOrder w)) (omega (
+marked-order w commit t h = holding-order (mark commit t (in_order w)) (omega (
   arith,
-  length-set (inOrder w) (firstWith t (inOrder w)) (decided commit (get_or (inOrder w) (firstWith t (inOrder w)) zeroEntry)),
+  length-set (in_order w) (first_with t (in_order w)) (decided commit (get_or (in_order w) (first_with t (in_order w)) zero_entry)),
   take_short w.count w.entries,
 ))
 
 -- a list without its head
-pub removed-order : (w : Waiting) → w.count ≤ waitingLimit → inOrder (headRemoved w) ≡ drop 1 (inOrder w)
-unfolding headRemoved
-removed-order w h = holding-order (drop 1 (inOrder w)) (omega (arith, length-drop 1 (inOrder w), take_short w.count w.entries))
+pub removed-order : (w : Waiting) → w.count ≤ waiting_limit → in_order (head_removed w) ≡ drop 1 (in_order w)
+unfolding head_removed
+removed-order w h = holding-order (drop 1 (in_order w)) (omega (arith, length-drop 1 (in_order w), take_short w.count w.entries))
 
 -- ---- the head of a list in order is least
 
@@ -151,8 +151,8 @@ behind n (x ∷ xs) o P (inl a) = (x, a, o.0)
 behind n (x ∷ xs) o P (inr a) = let r = behind x.timestamp.0 xs o.1 P a in (r.0, r.1, omega (arith, o.0, r.2))
 
 -- what waits is not below the head
-pub least : (k : Creation) (w : Waiting) → FormedWaiting k w → (e : Entry) (q : List Entry) → inOrder w ≡ e ∷ q
+pub least : (k : Creation) (w : Waiting) → FormedWaiting k w → (e : Entry) (q : List Entry) → in_order w ≡ e ∷ q
     → (P : Entry → Type 0) → Any P (e ∷ q) → (x : Entry) × P x × (e.timestamp.0 ≤ x.timestamp.0)
 least k w f e q h P a =
-    let o : Ordered (e ∷ q) = subst Ordered h (entries-ordered k w f) in
+    let o : Ordered (e ∷ q) = subst Ordered h (entries_ordered k w f) in
     behind e.timestamp.0 (e ∷ q) (omega arith, o.1) P a

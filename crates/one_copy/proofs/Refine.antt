@@ -23,13 +23,13 @@ same-cell : (B : Book) (F : Flow) (c : ℕ) (k : Cell) (w r d : ℕ) (l : Bool) 
     → CellOk B F c k → CellOk B F c (record { wr = w; rd = r; val = d; lost = l; w = q; r = p })
 same-cell B F c k w r d l q p ew er ed el to from rs i = rw (ew, er, ed, el) (record {
   held = i.held;
-  readTop = i.readTop;
+  read_top = i.read_top;
   waits = λ t v m h. let o = i.waits t v m (to t v m h) in record {
-    isW = o.isW;
+    IsW = o.IsW;
     vals = o.vals;
     now = o.now;
-    overR = o.overR;
-    overW = o.overW;
+    over_r = o.over_r;
+    over_w = o.over_w;
   };
   reads = λ t h. i.reads t (rs t h);
   done = λ t v h. i.done t v (to t v cmt h);
@@ -49,7 +49,7 @@ recell S B F cell cell' i s hm = record {
   cells = λ c m. let e = s c m in let k = cell' c in same-cell B F c (cell c) k.wr k.rd k.val k.lost k.w k.r e.wr
       e.rd e.val e.lost e.to e.from e.r (i.cells c m);
   seen = λ t x h. let o = i.seen t x h in record {
-    isR = o.isR;
+    IsR = o.IsR;
     guard = o.guard;
     copy = o.copy;
     last = o.last;
@@ -61,20 +61,20 @@ recell S B F cell cell' i s hm = record {
 -- another list with the same timestamps
 pub relist : (S : ℕ → Type 0) (B : Book) (F : Flow) (cell : ℕ → Cell) (L' : ℕ → Type 0) → Inv S B F cell → ((t : ℕ) → L' t → B.L t)
     → ((t : ℕ) → B.L t → L' t)
-    → Inv S (record { era = B.era; kind = B.kind; value = B.value; ae = B.ae; L = L'; void = B.void }) F cell
-relist S B F cell L' i to from = let g = i.glob in let more : (t : ℕ) → B.L t ⊎ B.void t → L' t
-    ⊎ B.void t = λ t. elim [ inl p ↦ inl (from t p) | inr p ↦ inr p ] in record {
+    → Inv S (record { era = B.era; kind = B.kind; value = B.value; ae = B.ae; L = L'; Void = B.Void }) F cell
+relist S B F cell L' i to from = let g = i.glob in let more : (t : ℕ) → B.L t ⊎ B.Void t → L' t
+    ⊎ B.Void t = λ t. elim [ inl p ↦ inl (from t p) | inr p ↦ inr p ] in record {
       home = i.home;
       glob = record {
-        zeroK = g.zeroK;
+        zero_k = g.zero_k;
         past = g.past;
-        ackK = g.ackK;
-        abtK = g.abtK;
-        rdmK = g.rdmK;
-        curK = g.curK;
-        actCur = g.actCur;
-        preK = λ c u e v h. let p = g.preK c u e v h in record { isW = p.isW; vals = p.vals; known = p.known };
-        listK = λ t h. g.listK t (to t h);
+        ack_k = g.ack_k;
+        abt_k = g.abt_k;
+        rdm_k = g.rdm_k;
+        cur_k = g.cur_k;
+        act_cur = g.act_cur;
+        pre_k = λ c u e v h. let p = g.pre_k c u e v h in record { IsW = p.IsW; vals = p.vals; known = p.known };
+        list_k = λ t h. g.list_k t (to t h);
         own = λ t h p. g.own t h (to t p);
         dead = λ t h. ((g.dead t h).0, λ p. (g.dead t h).1 (to t p));
         told = λ t h. more t (g.told t h);
@@ -83,17 +83,17 @@ relist S B F cell L' i to from = let g = i.glob in let more : (t : ℕ) → B.L 
       };
       cells = λ c m. let o = i.cells c m in record {
         held = elim o.held [ inl p ↦ inl p | inr p ↦ inr (from (cell c).wr p.0, p.1) ];
-        readTop = o.readTop;
+        read_top = o.read_top;
         reads = o.reads;
         empty = o.empty;
         promise = o.promise;
         waits = λ u x b h. let z = o.waits u x b h in record {
-          isW = z.isW;
+          IsW = z.IsW;
           vals = z.vals;
           now = z.now;
-          overW = z.overW;
-          overR =
-              z.overR;
+          over_w = z.over_w;
+          over_r =
+              z.over_r;
         };
         done = λ u x h. from u (o.done u x h);
         dead = λ u x h. ((o.dead u x h).0, λ p. (o.dead u x h).1 (to u p));
@@ -101,7 +101,7 @@ relist S B F cell L' i to from = let g = i.glob in let more : (t : ℕ) → B.L 
         gone = λ l t p. o.gone l t (to t p);
       };
       seen = λ t x h. let o = i.seen t x h in let p = o.last in record {
-        isR = o.isR;
+        IsR = o.IsR;
         guard = o.guard;
         copy = o.copy;
         over = o.over;

@@ -8,18 +8,18 @@ use native.Mathlib.Omega.{arith}
 use Rattle.one_copy.specs.Types.{Set, Kind, Entry, Record, State, Chunk, Action, Host, Header, Message, Refusal, Sort, Place, Table}
 use Rattle.one_copy.specs.Listed.{Write}
 use Rattle.rules.specs.Hosts.{front}
-use Rattle.rules.specs.Kinds.{isNormal, isReading}
-use Rattle.rules.specs.Messages.{headerOf, messageOf}
-use Rattle.rules.specs.Tables.{hostOf, chunk_of, recordOf}
+use Rattle.rules.specs.Kinds.{is_normal, is_reading}
+use Rattle.rules.specs.Messages.{header_of, message_of}
+use Rattle.rules.specs.Tables.{host_of, chunk_of, record_of}
 use Rattle.rules.specs.Timestamps.{stamp}
-use Rattle.rules.specs.Waiting.{inOrder}
+use Rattle.rules.specs.Waiting.{in_order}
 use Rattle.rules.specs.Zero.{◌among◌, is_empty}
 use Rattle.rules.proofs.Messages.{made}
 use Rattle.one_copy.proofs.Tests.{at, at_all, at_split}
 use Rattle.one_copy.proofs.Abs.{Began, Mark, und, cmt, abt, idle, Cell, Book, Flow, Inv}
 use Rattle.one_copy.proofs.Flows.{shrink}
 use Rattle.one_copy.proofs.Lists.{Any}
-use Rattle.one_copy.proofs.Net.{Sent, ofRead, ofPre, ofCommit, ofAbort, ofValue, ofAck}
+use Rattle.one_copy.proofs.Net.{Sent, OfRead, OfPre, OfCommit, OfAbort, OfValue, OfAck}
 
 -- what one block's history remembers
 pub record Hist : Type 0 where
@@ -39,12 +39,12 @@ pub record Part : Type 0 where
   pub queue : List Entry
 
 -- from a chunk and its record
-abbrev pub partWith : Chunk → Record → Part
-partWith c r = record { mode = c.state; lost = c.lost; val = r.value; rd = r.read.0; wr = r.write.0; queue = inOrder r.waiting }
+abbrev pub part_with : Chunk → Record → Part
+part_with c r = record { mode = c.state; lost = c.lost; val = r.value; rd = r.read.0; wr = r.write.0; queue = in_order r.waiting }
 
 -- of a table
 abbrev pub part_of : Table → (block chunk : ℕ) → Part
-part_of t b c = partWith (chunk_of t c) (recordOf t c b)
+part_of t b c = part_with (chunk_of t c) (record_of t c b)
 
 -- a host's part: its front operation and its attempt
 pub record Seat : Type 0 where
@@ -64,10 +64,10 @@ written Action.Read = 0
 written (Action.Write v) = v
 
 -- of a host
-abbrev pub seatOf : Host → Seat
-seatOf x = record {
+abbrev pub seat_of : Host → Seat
+seat_of x = record {
   block = (front x).block;
-  write = not (isReading (front x).action);
+  write = not (is_reading (front x).action);
   value = written (front x).action;
   ts = x.attempt.timestamp.0;
   out = x.attempt.outstanding;
@@ -78,38 +78,38 @@ seatOf x = record {
 }
 
 -- of a table
-abbrev pub seatsOf : Table → ℕ → Seat
-seatsOf t j = seatOf (hostOf t j)
+abbrev pub seats_of : Table → ℕ → Seat
+seats_of t j = seat_of (host_of t j)
 
 -- listed under t, and with x
-abbrev pub isTs : ℕ → Write → Type 0
-isTs t w = w.timestamp.0 ≡ t
+abbrev pub IsTs : ℕ → Write → Type 0
+IsTs t w = w.timestamp.0 ≡ t
 
 -- and with x
-abbrev pub isIt : ℕ → ℕ → Write → Type 0
-isIt t x w = (w.timestamp.0 ≡ t) × (w.value ≡ x)
+abbrev pub IsIt : ℕ → ℕ → Write → Type 0
+IsIt t x w = (w.timestamp.0 ≡ t) × (w.value ≡ x)
 
 -- an entry that is a write with a value and a mark, or a read
-abbrev pub asWrite : ℕ → Mark → Kind → Type 0
-asWrite v m Kind.Read = ⊥
-asWrite v m (Kind.Undecided x) = (x ≡ v) × (m ≡ und)
-asWrite v m (Kind.Committed x) = (x ≡ v) × (m ≡ cmt)
-asWrite v m (Kind.Aborted x) = (x ≡ v) × (m ≡ abt)
+abbrev pub AsWrite : ℕ → Mark → Kind → Type 0
+AsWrite v m Kind.Read = ⊥
+AsWrite v m (Kind.Undecided x) = (x ≡ v) × (m ≡ und)
+AsWrite v m (Kind.Committed x) = (x ≡ v) × (m ≡ cmt)
+AsWrite v m (Kind.Aborted x) = (x ≡ v) × (m ≡ abt)
 
 -- or a read
-abbrev pub asRead : Kind → Type 0
-asRead Kind.Read = Unit {0}
-asRead (Kind.Undecided x) = ⊥
-asRead (Kind.Committed x) = ⊥
-asRead (Kind.Aborted x) = ⊥
+abbrev pub AsRead : Kind → Type 0
+AsRead Kind.Read = Unit {0}
+AsRead (Kind.Undecided x) = ⊥
+AsRead (Kind.Committed x) = ⊥
+AsRead (Kind.Aborted x) = ⊥
 
 -- an entry under t that is such a write
-abbrev pub isW : ℕ → ℕ → Mark → Entry → Type 0
-isW t v m e = (e.timestamp.0 ≡ t) × asWrite v m e.kind
+abbrev pub IsW : ℕ → ℕ → Mark → Entry → Type 0
+IsW t v m e = (e.timestamp.0 ≡ t) × AsWrite v m e.kind
 
 -- or a read
-abbrev pub isR : ℕ → Entry → Type 0
-isR t e = (e.timestamp.0 ≡ t) × asRead e.kind
+abbrev pub IsR : ℕ → Entry → Type 0
+IsR t e = (e.timestamp.0 ≡ t) × AsRead e.kind
 
 -- the part as a cell
 abbrev pub cell_of : Part → Cell
@@ -118,14 +118,14 @@ cell_of p = record {
   rd = p.rd;
   val = p.val;
   lost = p.lost;
-  w = λ t v m. Any (isW t v m) p.queue;
+  w = λ t v m. Any (IsW t v m) p.queue;
   r =
-      λ t. Any (isR t) p.queue;
+      λ t. Any (IsR t) p.queue;
 }
 
--- the era is the epoch, and nothing is void
+-- the era is the epoch, and nothing is Void
 abbrev pub book : Hist → ℕ → Book
-book h ep = record { era = ep; kind = h.kind; value = h.value; ae = h.ae; L = λ t. Any (isTs t) h.listed; void = λ _. ⊥ }
+book h ep = record { era = ep; kind = h.kind; value = h.value; ae = h.ae; L = λ t. Any (IsTs t) h.listed; Void = λ _. ⊥ }
 
 -- x is busy with a write of block b under t
 pub record HasW (b : ℕ) (x : Seat) (t : ℕ) : Type 0 where
@@ -149,57 +149,57 @@ abbrev pub flow : (ℕ → Type 0) → ℕ → Hist → (ℕ → Seat) → List 
 flow S b h hs n = record {
   cur = λ t. (j : ℕ) × HasW b (hs j) t;
   act = λ t. (j : ℕ) × HasW b (hs j) t × ((hs j).okay ≡ true);
-  ack = λ t c. Sent n (ofAck b t c) ⊎ ((j : ℕ) × HasW b (hs j) t × ((hs j).okay ≡ true) × (c among (hs j).out ≡ false) × S c);
-  pre = λ c t e v. Sent n (ofPre b c t e v);
-  rdm = λ c t. Sent n (ofRead b c t);
-  comm = λ t. Sent n (ofCommit b t);
-  abtm = λ t. Sent n (ofAbort b t);
-  seen = λ t x. Sent n (ofValue b t x) ⊎ (((j : ℕ) × HasR b (hs j) t x) ⊎ Any (isIt t x) h.reads);
+  ack = λ t c. Sent n (OfAck b t c) ⊎ ((j : ℕ) × HasW b (hs j) t × ((hs j).okay ≡ true) × (c among (hs j).out ≡ false) × S c);
+  pre = λ c t e v. Sent n (OfPre b c t e v);
+  rdm = λ c t. Sent n (OfRead b c t);
+  comm = λ t. Sent n (OfCommit b t);
+  abtm = λ t. Sent n (OfAbort b t);
+  seen = λ t x. Sent n (OfValue b t x) ⊎ (((j : ℕ) × HasR b (hs j) t x) ⊎ Any (IsIt t x) h.reads);
 }
 
 -- no more of block b is in flight
 pub record NetLe (b : ℕ) (n' n : List Place) : Type 0 where
-  pub ack : (t c : ℕ) → Sent n' (ofAck b t c) → Sent n (ofAck b t c)
-  pub pre : (c t e v : ℕ) → Sent n' (ofPre b c t e v) → Sent n (ofPre b c t e v)
-  pub rdm : (c t : ℕ) → Sent n' (ofRead b c t) → Sent n (ofRead b c t)
-  pub comm : (t : ℕ) → Sent n' (ofCommit b t) → Sent n (ofCommit b t)
-  pub abtm : (t : ℕ) → Sent n' (ofAbort b t) → Sent n (ofAbort b t)
-  pub value : (t x : ℕ) → Sent n' (ofValue b t x) → Sent n (ofValue b t x)
+  pub ack : (t c : ℕ) → Sent n' (OfAck b t c) → Sent n (OfAck b t c)
+  pub pre : (c t e v : ℕ) → Sent n' (OfPre b c t e v) → Sent n (OfPre b c t e v)
+  pub rdm : (c t : ℕ) → Sent n' (OfRead b c t) → Sent n (OfRead b c t)
+  pub comm : (t : ℕ) → Sent n' (OfCommit b t) → Sent n (OfCommit b t)
+  pub abtm : (t : ℕ) → Sent n' (OfAbort b t) → Sent n (OfAbort b t)
+  pub value : (t x : ℕ) → Sent n' (OfValue b t x) → Sent n (OfValue b t x)
 
 -- a message that says nothing of block b
 pub record Foreign (b : ℕ) (m : Message) : Type 0 where
-  pub ack : (t c : ℕ) → ofAck b t c m → ⊥
-  pub pre : (c t e v : ℕ) → ofPre b c t e v m → ⊥
-  pub rdm : (c t : ℕ) → ofRead b c t m → ⊥
-  pub comm : (t : ℕ) → ofCommit b t m → ⊥
-  pub abtm : (t : ℕ) → ofAbort b t m → ⊥
-  pub value : (t x : ℕ) → ofValue b t x m → ⊥
+  pub ack : (t c : ℕ) → OfAck b t c m → ⊥
+  pub pre : (c t e v : ℕ) → OfPre b c t e v m → ⊥
+  pub rdm : (c t : ℕ) → OfRead b c t m → ⊥
+  pub comm : (t : ℕ) → OfCommit b t m → ⊥
+  pub abtm : (t : ℕ) → OfAbort b t m → ⊥
+  pub value : (t x : ℕ) → OfValue b t x m → ⊥
 
 -- fewer messages
-pub net-less : (b : ℕ) (n' n : List Place) → ((P : Message → Type 0) → Sent n' P → Sent n P) → NetLe b n' n
-net-less b n' n sub = record {
-  ack = λ t c. sub (ofAck b t c);
-  pre = λ c t e v. sub (ofPre b c t e v);
-  rdm = λ c t. sub (ofRead b c t);
-  comm = λ t. sub (ofCommit b t);
-  abtm = λ t. sub (ofAbort b t);
-  value = λ t x. sub (ofValue b t x);
+pub net_less : (b : ℕ) (n' n : List Place) → ((P : Message → Type 0) → Sent n' P → Sent n P) → NetLe b n' n
+net_less b n' n sub = record {
+  ack = λ t c. sub (OfAck b t c);
+  pre = λ c t e v. sub (OfPre b c t e v);
+  rdm = λ c t. sub (OfRead b c t);
+  comm = λ t. sub (OfCommit b t);
+  abtm = λ t. sub (OfAbort b t);
+  value = λ t x. sub (OfValue b t x);
 }
 
 -- more messages that say nothing of block b
-pub net-foreign : (b : ℕ) (n' n : List Place) (D : Type 0) (f : D → Message)
+pub net_foreign : (b : ℕ) (n' n : List Place) (D : Type 0) (f : D → Message)
     → ((P : Message → Type 0) → Sent n' P → Sent n P ⊎ ((d : D) × P (f d))) → ((d : D) → Foreign b (f d)) → NetLe b n' n
-net-foreign b n' n D f adds none = record {
-  ack = λ t c h. elim (adds (ofAck b t c) h) [ inl q ↦ q | inr q ↦ absurd ((none q.0).ack t c q.1) ];
-  pre = λ c t e v h. elim (adds (ofPre b c t e v) h) [ inl q ↦ q | inr q ↦ absurd ((none q.0).pre c t e v q.1) ];
-  rdm = λ c t h. elim (adds (ofRead b c t) h) [ inl q ↦ q | inr q ↦ absurd ((none q.0).rdm c t q.1) ];
-  comm = λ t h. elim (adds (ofCommit b t) h) [ inl q ↦ q | inr q ↦ absurd ((none q.0).comm t q.1) ];
-  abtm = λ t h. elim (adds (ofAbort b t) h) [ inl q ↦ q | inr q ↦ absurd ((none q.0).abtm t q.1) ];
-  value = λ t x h. elim (adds (ofValue b t x) h) [ inl q ↦ q | inr q ↦ absurd ((none q.0).value t x q.1) ];
+net_foreign b n' n D f adds none = record {
+  ack = λ t c h. elim (adds (OfAck b t c) h) [ inl q ↦ q | inr q ↦ absurd ((none q.0).ack t c q.1) ];
+  pre = λ c t e v h. elim (adds (OfPre b c t e v) h) [ inl q ↦ q | inr q ↦ absurd ((none q.0).pre c t e v q.1) ];
+  rdm = λ c t h. elim (adds (OfRead b c t) h) [ inl q ↦ q | inr q ↦ absurd ((none q.0).rdm c t q.1) ];
+  comm = λ t h. elim (adds (OfCommit b t) h) [ inl q ↦ q | inr q ↦ absurd ((none q.0).comm t q.1) ];
+  abtm = λ t h. elim (adds (OfAbort b t) h) [ inl q ↦ q | inr q ↦ absurd ((none q.0).abtm t q.1) ];
+  value = λ t x h. elim (adds (OfValue b t x) h) [ inl q ↦ q | inr q ↦ absurd ((none q.0).value t x q.1) ];
 }
 
 -- a refusal says nothing of any block
-pub plain : (b : ℕ) (hd : Header) (x : Refusal) → Foreign b (messageOf hd (Sort.Refusal x))
+pub plain : (b : ℕ) (hd : Header) (x : Refusal) → Foreign b (message_of hd (Sort.Refusal x))
 plain b hd x =
     let q = (made hd (Sort.Refusal x)).1 in
     record {
@@ -212,8 +212,8 @@ plain b hd x =
     }
 
 -- a message of another block says nothing of block b
-pub far-message : (b : ℕ) (hd : Header) (s : Sort) → (hd.block ≡ b → ⊥) → Foreign b (messageOf hd s)
-far-message b hd s far = record {
+pub far_message : (b : ℕ) (hd : Header) (s : Sort) → (hd.block ≡ b → ⊥) → Foreign b (message_of hd s)
+far_message b hd s far = record {
   ack = λ t c z. no z.1;
   pre = λ c t e v z. no z.1;
   rdm = λ c t z. no z.1;
@@ -222,13 +222,13 @@ far-message b hd s far = record {
   value = λ t x z. no z.1;
 }
   where
-    no : (headerOf (messageOf hd s)).block ≡ b → ⊥
+    no : (header_of (message_of hd s)).block ≡ b → ⊥
     no z = far (sym (ap (λ (h : Header). h.block) (made hd s).0) ∙ z)
 
 pub record Drawn (hs : ℕ → Seat) (t : ℕ) : Type 0 where
   pub by : ℕ
   pub clock : ℕ
-  pub isT : t ≡ (stamp clock by).0
+  pub is_t : t ≡ (stamp clock by).0
   pub small : by < 8
   pub past : clock ≤ (hs by).clock
 
@@ -239,19 +239,19 @@ Stamped j x = (x.ts ≡ 0) ⊎ ((x.ts ≡ (stamp x.clock j).0) × (j < 8))
 module _ (S : ℕ → Type 0) (b : ℕ) where
   pub record CInv (h : Hist) (ep : ℕ) (hs : ℕ → Seat) (ps : ℕ → Part) (n : List Place) : Type 0 where
     pub inv : Inv S (book h ep) (flow S b h hs n) (λ c. cell_of (ps c))
-    pub vals : (t v : ℕ) → Any (isIt t v) h.listed → h.value t ≡ v
+    pub vals : (t v : ℕ) → Any (IsIt t v) h.listed → h.value t ≡ v
     pub drawn : (t : ℕ) → (h.kind t ≡ idle) ⊎ Drawn hs t
     pub stamps : (j : ℕ) → Stamped j (hs j)
     pub mine : (j t : ℕ) → HasW b (hs j) t → h.value t ≡ (hs j).value
-    pub sane : (c : ℕ) → isNormal (ps c).mode ≡ true → (ps c).lost ≡ false
+    pub sane : (c : ℕ) → is_normal (ps c).mode ≡ true → (ps c).lost ≡ false
     pub known : (j : ℕ) → (hs j).known ≤ ep
 
   -- a host's change that says nothing new
   pub record Quiet (n : List Place) (ep : ℕ) (x y : Seat) : Type 0 where
     pub w : (t : ℕ) → HasW b y t → HasW b x t
     pub okay : (t : ℕ) → HasW b y t → y.okay ≡ true → x.okay ≡ true
-    pub out : (t : ℕ) → HasW b y t → y.okay ≡ true → (c : ℕ) → c among y.out ≡ false → (c among x.out ≡ false) ⊎ Sent n (ofAck b t c)
-    pub r : (t v : ℕ) → HasR b y t v → HasR b x t v ⊎ Sent n (ofValue b t v)
+    pub out : (t : ℕ) → HasW b y t → y.okay ≡ true → (c : ℕ) → c among y.out ≡ false → (c among x.out ≡ false) ⊎ Sent n (OfAck b t c)
+    pub r : (t v : ℕ) → HasR b y t v → HasR b x t v ⊎ Sent n (OfValue b t v)
     pub value : (t : ℕ) → HasW b y t → y.value ≡ x.value
     pub ts : (y.ts ≡ 0) ⊎ (y.ts ≡ x.ts)
     pub clock : y.clock ≡ x.clock
@@ -297,7 +297,7 @@ module _ (S : ℕ → Type 0) (b : ℕ) where
         | inr d ↦ inr (record {
           by = d.by;
           clock = d.clock;
-          isT = d.isT;
+          is_t = d.is_t;
           small = d.small;
           past = at_all (λ k x. d.clock ≤ (hs k).clock → d.clock ≤ x.clock) j y hs (λ e. (let z = q.clock in omega arith))
               (λ k _ e. e) d.by d.past;

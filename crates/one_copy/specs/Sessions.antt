@@ -1,14 +1,14 @@
 -- Sessions in which a wrong store, or a wrong statement, would show: what is seen of each, and what must be
 use Rattle.std.specs.Prelude.{ℕ, ◌%◌, true, false, not, List, [], ◌∷◌, ◌++◌, replicate, eqb}
 use Rattle.one_copy.specs.Types.{Set, Creation, Event, Outcome}
-use Rattle.one_copy.specs.Listed.{Write, listed, lastBefore}
-use Rattle.rules.specs.Built.{creationOf}
+use Rattle.one_copy.specs.Listed.{Write, listed, last_before}
+use Rattle.rules.specs.Built.{creation_of}
 use Rattle.rules.specs.Creation.{fresh}
-use Rattle.rules.specs.Limits.{hostLimit}
+use Rattle.rules.specs.Limits.{host_limit}
 use Rattle.rules.specs.Runs.{Told, told, Ledger, nothing, noted, last_of, is_none}
-use Rattle.rules.specs.Timestamps.{clockOf}
+use Rattle.rules.specs.Timestamps.{clock_of}
 use Rattle.rules.specs.Words.{if◌then◌else◌, those, each}
-use Rattle.rules.specs.Zero.{zeroSet}
+use Rattle.rules.specs.Zero.{zero_set}
 
 -- ---- what is seen of a session: of all events, and of one block
 
@@ -22,7 +22,7 @@ abbrev pub entry : (clock host value : ℕ) → Entry
 entry clock host v = record { clock = clock; host = host; value = v }
 
 abbrev pub entry_of : Write → Entry
-entry_of w = entry (clockOf w.timestamp) (w.timestamp.0 % hostLimit) w.value
+entry_of w = entry (clock_of w.timestamp) (w.timestamp.0 % host_limit) w.value
 
 pub record Seen : Type 0 where
   pub refusals : List ℕ  -- the codes of the refused events
@@ -32,15 +32,15 @@ pub record Seen : Type 0 where
 
 -- "the value of the last listed write before its last attempt's timestamp"
 abbrev pub plainly : (block : ℕ) → List Write → Ledger → Outcome → List ℕ
-plainly b all l (Outcome.ReadDone h d v) = if eqb d b then (lastBefore (last_of h l.begun).timestamp all).value ∷ [] else []
+plainly b all l (Outcome.ReadDone h d v) = if eqb d b then (last_before (last_of h l.begun).timestamp all).value ∷ [] else []
 plainly b all l (Outcome.WriteDone h d) = []
 plainly b all l (Outcome.ReadFailed h d) = []
 plainly b all l (Outcome.WriteFailed h d) = []
 plainly b all l Outcome.None = []
 
-unfoldable pub plainReads : (block : ℕ) → List Write → Ledger → List Told → List ℕ
-plainReads b all l [] = []
-plainReads b all l (m ∷ ms) = plainly b all l m.outcome ++ plainReads b all (noted l m) ms
+unfoldable pub plain_reads : (block : ℕ) → List Write → Ledger → List Told → List ℕ
+plain_reads b all l [] = []
+plain_reads b all l (m ∷ ms) = plainly b all l m.outcome ++ plain_reads b all (noted l m) ms
 
 pub record Session : Type 0 where
   pub creation : Creation
@@ -56,20 +56,20 @@ seen s =
       refusals = those (λ code. not (eqb code 0)) (each (λ m. m.code) ms);
       outcomes = those (λ o. not (is_none o)) (each (λ m. m.outcome) ms);
       list = each entry_of all;
-      plain = plainReads s.block all nothing ms;
+      plain = plain_reads s.block all nothing ms;
     }
 
 -- ---- words for the sessions
 
 -- two hosts, two chunks, blocks on both, age limit 100
-abbrev onBoth : Set
-onBoth = record { chunks = true ∷ true ∷ replicate 6 false }
+abbrev on_both : Set
+on_both = record { chunks = true ∷ true ∷ replicate 6 false }
 
 abbrev pub one_block : Creation
-one_block = creationOf 2 2 1 100 (onBoth ∷ replicate 15 zeroSet)
+one_block = creation_of 2 2 1 100 (on_both ∷ replicate 15 zero_set)
 
-abbrev pub twoBlocks : Creation
-twoBlocks = creationOf 2 2 2 100 (onBoth ∷ onBoth ∷ replicate 14 zeroSet)
+abbrev pub two_blocks : Creation
+two_blocks = creation_of 2 2 2 100 (on_both ∷ on_both ∷ replicate 14 zero_set)
 
 abbrev event : (kind a b c : ℕ) → Event
 event kind a b c = record { kind = kind; a = a; b = b; c = c }
@@ -89,8 +89,8 @@ deliver p = event 4 p 0 0
 abbrev finishes : (host : ℕ) → Event
 finishes h = event 6 h 0 0
 
-abbrev timesOut : (host : ℕ) → Event
-timesOut h = event 7 h 0 0
+abbrev times_out : (host : ℕ) → Event
+times_out h = event 7 h 0 0
 
 abbrev refreshes : (host : ℕ) → Event
 refreshes h = event 8 h 0 0
@@ -154,13 +154,13 @@ unfinished =
 -- number drawn before but with a new one, and is done under it: one write, listed under two attempts
 abbrev pub twice : List Event
 twice =
-    leased 0 ∷ leased 1 ∷ refreshes 0 ∷ writes 0 0 77 ∷ starts 0 5 0 ∷ deliver 0 ∷ deliver 1 ∷ timesOut 0 ∷ finishes 0 ∷ change
+    leased 0 ∷ leased 1 ∷ refreshes 0 ∷ writes 0 0 77 ∷ starts 0 5 0 ∷ deliver 0 ∷ deliver 1 ∷ times_out 0 ∷ finishes 0 ∷ change
     ∷ starts 0 5 0 ∷ refreshes 0 ∷ starts 0 6 0 ∷ deliver 4 ∷ deliver 5 ∷ deliver 4 ∷ deliver 5 ∷ finishes 0 ∷ []
 
 -- a write that timed out before anybody saw it is not listed under that attempt, only under the later one
 abbrev pub retried : List Event
 retried =
-    leased 0 ∷ leased 1 ∷ refreshes 0 ∷ writes 0 0 77 ∷ starts 0 5 0 ∷ timesOut 0 ∷ finishes 0 ∷ starts 0 6 0 ∷ deliver 4 ∷ deliver 5
+    leased 0 ∷ leased 1 ∷ refreshes 0 ∷ writes 0 0 77 ∷ starts 0 5 0 ∷ times_out 0 ∷ finishes 0 ∷ starts 0 6 0 ∷ deliver 4 ∷ deliver 5
     ∷ deliver 4 ∷ deliver 5 ∷ finishes 0 ∷ []
 
 -- two hosts write to two blocks at one clock, and each reads what the other wrote
@@ -195,6 +195,6 @@ sessions =
     twice on one_block at 0 refuses 3 ∷ [] answers Outcome.WriteDone 0 0 ∷ []
     lists entry 5 0 77 ∷ entry 6 0 77 ∷ [] plainly [] ⨾
     retried on one_block at 0 refuses [] answers Outcome.WriteDone 0 0 ∷ [] lists entry 6 0 77 ∷ [] plainly [] ⨾
-    blocks on twoBlocks at 0 refuses [] answers crossed lists entry 5 0 5 ∷ [] plainly 5 ∷ [] ⨾
-    blocks on twoBlocks at 1 refuses [] answers crossed lists entry 5 1 9 ∷ [] plainly 9 ∷ [] ⨾
+    blocks on two_blocks at 0 refuses [] answers crossed lists entry 5 0 5 ∷ [] plainly 5 ∷ [] ⨾
+    blocks on two_blocks at 1 refuses [] answers crossed lists entry 5 1 9 ∷ [] plainly 9 ∷ [] ⨾
     []

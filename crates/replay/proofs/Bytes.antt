@@ -2,7 +2,7 @@
 use Rattle.std.proofs.Common.{◌≡◌, refl}
 use prog.Memory.{size}
 use Rattle.rules.proofs.Table.TheLaws.{mir}
-use Rattle.replay.specs.Replay.{tableBytes}
+use Rattle.replay.specs.Replay.{table_bytes}
 
-table-bytes : size mir ≡ tableBytes
-table-bytes = refl
+table_bytes_lem : size mir ≡ table_bytes
+table_bytes_lem = refl

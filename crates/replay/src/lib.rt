@@ -1,7 +1,7 @@
 // Events replayed through the engine, for programs in other languages that time it (bench/): exported as C functions, a slice as
 // a pointer and then a length. Each event is a step, on the table by value or where it lies; what comes back stands for every answer.
 ghost use Rattle.std.specs.Prelude.{◌≡◌, ◌+◌, ◌*◌, ◌/◌, ◌<◌, length};
-ghost use Rattle.replay.specs.Replay.{eventAt, mixed, mixedWith, replayed, store_of, sumAfter, tableBytes};
+ghost use Rattle.replay.specs.Replay.{event_at, mixed, mixed_with, replayed, store_of, sum_after, table_bytes};
 
 use rules::{Event, Outcome, Reply, Table};
 
@@ -28,7 +28,7 @@ fn mix_numbers(sum: u64, code: u64, kind: u64, host: u64, block: u64, value: u64
 
 // "code, outcome, host, block, value"
 fn mix_answer(sum: u64, code: u64, o: Outcome) -> u64
-    ensures { result ≡ mixedWith sum code o }
+    ensures { result ≡ mixed_with sum code o }
 {
     match o {
         Outcome::None => mix_numbers(sum, code, 0, 0, 0, 0),
@@ -40,7 +40,7 @@ fn mix_answer(sum: u64, code: u64, o: Outcome) -> u64
 }
 
 fn mix_reply(sum: u64, r: Reply) -> u64
-    ensures { result ≡ mixedWith sum r.code r.outcome }
+    ensures { result ≡ mixed_with sum r.code r.outcome }
 {
     let o = r.outcome;
     mix_answer(sum, r.code, o)
@@ -54,7 +54,7 @@ fn count(events: &[u64]) -> usize
 
 fn event_at(events: &[u64], i: usize) -> Event
     requires { i * 4 + 3 < length events.now }
-    ensures { result ≡ eventAt events.now i }
+    ensures { result ≡ event_at events.now i }
 {
     let at = i * NUMBERS;
     Event {
@@ -67,7 +67,7 @@ fn event_at(events: &[u64], i: usize) -> Event
 
 // The events one after another, each on the table that the one before it left.
 fn run(table: Table, events: &[u64]) -> u64
-    ensures { result ≡ sumAfter table events.now (length events.now / 4) }
+    ensures { result ≡ sum_after table events.now (length events.now / 4) }
 {
     let mut t = table;
     let mut sum: u64 = 0;
@@ -86,7 +86,7 @@ fn run(table: Table, events: &[u64]) -> u64
 
 // As `run`, on a table that stays where it lies and is lent for each event.
 fn run_in(table: Table, events: &[u64]) -> u64
-    ensures { result ≡ sumAfter table events.now (length events.now / 4) }
+    ensures { result ≡ sum_after table events.now (length events.now / 4) }
 {
     let mut t = table;
     let n = count(events);
@@ -130,7 +130,7 @@ pub extern "C" fn kerzubian_replay_in(first: &[u8], second: &[u8], events: &[u64
 // How many bytes a table takes, for those who time a copy of it.
 #[unsafe(no_mangle)]
 pub extern "C" fn kerzubian_table_bytes() -> u64
-    ensures { result ≡ tableBytes }
+    ensures { result ≡ table_bytes }
 {
     TABLE_BYTES
 }

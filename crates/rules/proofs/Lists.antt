@@ -19,12 +19,12 @@ pub both : (a b : Bool) → a && b ≡ true → (a ≡ true) × (b ≡ true)
 both true b h = (refl, h)
 both false b h = absurd (false≢true h)
 
-pub and-true : (a b : Bool) → a ≡ true → b ≡ true → a && b ≡ true
-and-true a b h k = rw (h, k) refl
+pub and_true : (a b : Bool) → a ≡ true → b ≡ true → a && b ≡ true
+and_true a b h k = rw (h, k) refl
 
-pub true-or-false : (b : Bool) → (b ≡ true) ⊎ (b ≡ false)
-true-or-false true = inl refl
-true-or-false false = inr refl
+pub true_or_false : (b : Bool) → (b ≡ true) ⊎ (b ≡ false)
+true_or_false true = inl refl
+true_or_false false = inr refl
 
 -- either or, where the first is not
 pub or_right : (a b : Bool) → a || b ≡ true → a ≡ false → b ≡ true
@@ -43,8 +43,8 @@ module _ {A : Type 0} (key : A → ℕ) where
   pub upper-left : (x y : A) → key x ≤ key (upper x y)
   upper-left x y = walk (λ (z : A). key x ≤ key z) (ltb (key x) (key y)) y x (λ e. let z = ltb-true (key x) (key y) e in omega arith) (λ _. omega arith)
 
-  pub upper-right : (x y : A) → key y ≤ key (upper x y)
-  upper-right x y = walk (λ (z : A). key y ≤ key z) (ltb (key x) (key y)) y x (λ _. omega arith) (ltb-false (key x) (key y))
+  pub upper_right : (x y : A) → key y ≤ key (upper x y)
+  upper_right x y = walk (λ (z : A). key y ≤ key z) (ltb (key x) (key y)) y x (λ _. omega arith) (ltb-false (key x) (key y))
 
   pub upper-one : (x y : A) → (upper x y ≡ x) ⊎ (upper x y ≡ y)
   upper-one x y = walk (λ (z : A). (z ≡ x) ⊎ (z ≡ y)) (ltb (key x) (key y)) y x (λ _. inr refl) (λ _. inl refl)
@@ -63,10 +63,10 @@ module _ {A : Type 0} (p : A → Bool) where
   every_of [] d h = refl
   every_of (x ∷ xs) d h = rw (h 0 (omega arith), every_of xs d (λ i k. h (suc i) (omega arith))) refl
 
-  pub every-so : (q : A → Bool) → ((x : A) → q x ≡ true → p x ≡ true) → (l : List A) → every q l ≡ true → every p l ≡ true
+  pub every_so : (q : A → Bool) → ((x : A) → q x ≡ true → p x ≡ true) → (l : List A) → every q l ≡ true → every p l ≡ true
   unfolding every
-  every-so q f [] h = refl
-  every-so q f (x ∷ xs) h = let b = both (q x) (every q xs) h in and-true (p x) (every p xs) (f x b.0) (every-so q f xs b.1)
+  every_so q f [] h = refl
+  every_so q f (x ∷ xs) h = let b = both (q x) (every q xs) h in and_true (p x) (every p xs) (f x b.0) (every_so q f xs b.1)
 
   pub none-every : (l : List A) → not (some p l) ≡ every (λ x. not (p x)) l
   unfolding some every
@@ -237,8 +237,8 @@ module _ {A : Type 0} (d : A) (n : ℕ) (l : List A) where
       go (no k) = get_or-append l (replicate n d) d i (omega arith)
 
 module _ {A : Type 0} (d : A) (n : ℕ) (l : List A) (room : length l ≤ n) where
-  pub filled-any : (i : ℕ) → get_or (filled n d l) i d ≡ get_or l i d
-  filled-any i = go (dec_le n i)
+  pub filled_any : (i : ℕ) → get_or (filled n d l) i d ≡ get_or l i d
+  filled_any i = go (dec_le n i)
     where
       go : Dec (n ≤ i) → get_or (filled n d l) i d ≡ get_or l i d
       go (yes k) =
@@ -246,7 +246,7 @@ module _ {A : Type 0} (d : A) (n : ℕ) (l : List A) (room : length l ≤ n) whe
       go (no k) = filled_at d n l i (omega arith)
 
   pub filled-past : (i : ℕ) → length l ≤ i → get_or (filled n d l) i d ≡ d
-  filled-past i h = filled-any i ∙ get_or-eq_default l d h
+  filled-past i h = filled_any i ∙ get_or-eq_default l d h
 
   pub filled-take : take (length l) (filled n d l) ≡ l
   filled-take = take-take (length l) n (l ++ replicate n d) room ∙ take-append_seam l (replicate n d)
@@ -272,10 +272,10 @@ implies false b h = refl
 
 -- ---- every, through the words that make lists
 
-pub those-short : {A : Type 0} (p : A → Bool) (l : List A) → length (those p l) ≤ length l
+pub those_short : {A : Type 0} (p : A → Bool) (l : List A) → length (those p l) ≤ length l
 unfolding those
-those-short p [] = omega arith
-those-short p (x ∷ xs) = go (p x) (those-short p xs)
+those_short p [] = omega arith
+those_short p (x ∷ xs) = go (p x) (those_short p xs)
   where
     go : (b : Bool) → length (those p xs) ≤ length xs → length (cond b (x ∷ those p xs) (those p xs)) ≤ suc (length xs)
     go true h = omega arith
@@ -287,7 +287,7 @@ take_short n l = omega (arith, length-take n l)
 module _ {A : Type 0} (p : A → Bool) where
   pub every_one : (x : A) → p x ≡ true → every p (x ∷ []) ≡ true
   unfolding every
-  every_one x h = and-true (p x) true h refl
+  every_one x h = and_true (p x) true h refl
 
   pub every_append : (k l : List A) → every p (k ++ l) ≡ (every p k && every p l)
   unfolding every
@@ -312,15 +312,15 @@ module _ {A : Type 0} (p : A → Bool) where
       → every p l ≡ true → every p (set l i (f (get_or l i d))) ≡ true
   unfolding every
   every-change f k [] i d h = h
-  every-change f k (x ∷ xs) zero d h = let b = both (p x) (every p xs) h in and-true (p (f x)) (every p xs) (k x b.0) b.1
+  every-change f k (x ∷ xs) zero d h = let b = both (p x) (every p xs) h in and_true (p (f x)) (every p xs) (k x b.0) b.1
   every-change f k (x ∷ xs) (suc i) d h =
       let b = both (p x) (every p xs) h in
-      and-true (p x) (every p (set xs i (f (get_or xs i d)))) b.0 (every-change f k xs i d b.1)
+      and_true (p x) (every p (set xs i (f (get_or xs i d)))) b.0 (every-change f k xs i d b.1)
 
   pub every-joined : (ls : List (List A)) → every (every p) ls ≡ true → every p (joined ls) ≡ true
   unfolding every joined
   every-joined [] h = refl
-  every-joined (l ∷ ls) h = let b = both (every p l) (every (every p) ls) h in every_append l (joined ls) ∙ and-true (every p l) (every p (joined ls)) b.0 (every-joined ls b.1)
+  every-joined (l ∷ ls) h = let b = both (every p l) (every (every p) ls) h in every_append l (joined ls) ∙ and_true (every p l) (every p (joined ls)) b.0 (every-joined ls b.1)
 
   -- those that are q are p exactly when each that is q is p
   pub every-those : (q : A → Bool) (l : List A) → every p (those q l) ≡ every (λ x. not (q x) || p x) l
@@ -333,14 +333,14 @@ module _ {A : Type 0} (p : A → Bool) where
       go false h = h
 
   -- those that are q, where each is p
-  pub every-of-all : (q : A → Bool) (l : List A) → every p l ≡ true → every p (those q l) ≡ true
+  pub every_of_all : (q : A → Bool) (l : List A) → every p l ≡ true → every p (those q l) ≡ true
   unfolding every those
-  every-of-all q [] h = refl
-  every-of-all q (x ∷ xs) h =
+  every_of_all q [] h = refl
+  every_of_all q (x ∷ xs) h =
       let b = both (p x) (every p xs) h in
       walk (λ (l : List A). every p l ≡ true) (q x) (x ∷ those q xs) (those q xs)
-      (λ _. and-true (p x) (every p (those q xs)) b.0 (every-of-all q xs b.1))
-      (λ _. every-of-all q xs b.1)
+      (λ _. and_true (p x) (every p (those q xs)) b.0 (every_of_all q xs b.1))
+      (λ _. every_of_all q xs b.1)
 
   pub every-each : {B : Type 0} (q : B → Bool) (f : B → A) (l : List B)
       → ((x : B) → q x ≡ true → p (f x) ≡ true) → every q l ≡ true → every p (each f l) ≡ true
@@ -348,7 +348,7 @@ module _ {A : Type 0} (p : A → Bool) where
   every-each q f [] g h = refl
   every-each q f (x ∷ xs) g h =
       let b = both (q x) (every q xs) h in
-      and-true (p (f x)) (every p (each f xs)) (g x b.0) (every-each q f xs g b.1)
+      and_true (p (f x)) (every p (each f xs)) (g x b.0) (every-each q f xs g b.1)
 
   pub every-each-number : (f : ℕ → A) (n : ℕ) → ((i : ℕ) → i < n → p (f i) ≡ true) → every p (each f (numbers n)) ≡ true
   every-each-number f n h =
@@ -367,9 +367,9 @@ module _ (p z : ℕ → Bool) (n used : ℕ) where
   pub used-at : every (λ i. cond (ltb i used) (p i) (z i)) (numbers n) ≡ true → used ≤ n → (i : ℕ) → i < used → p i ≡ true
   used-at h m i l = rw (lt-ltb i used l) at (every-number (λ i. cond (ltb i used) (p i) (z i)) n h i (omega arith))
 
-  pub used-of : ((i : ℕ) → i < used → p i ≡ true) → ((i : ℕ) → i < n → used ≤ i → z i ≡ true)
+  pub used_of : ((i : ℕ) → i < used → p i ≡ true) → ((i : ℕ) → i < n → used ≤ i → z i ≡ true)
       → every (λ i. cond (ltb i used) (p i) (z i)) (numbers n) ≡ true
-  used-of f g =
+  used_of f g =
       every-numbers (λ i. cond (ltb i used) (p i) (z i)) n (λ i l.
       walk (λ (b : Bool). b ≡ true) (ltb i used) (p i) (z i) (λ e. f i (ltb-true i used e)) (λ e. g i l (ltb-false i used e)))
 

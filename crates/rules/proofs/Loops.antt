@@ -127,9 +127,9 @@ take_whole n l m h k = rw length-take (omega arith)
 -- at the first that p takes: `some p (numbers i) ≡ false`
 
 module _ (p : ℕ → Bool) where
-  pub every-begin : every p (numbers 0) ≡ true
+  pub every_begin : every p (numbers 0) ≡ true
   unfolding every from
-  every-begin = refl
+  every_begin = refl
 
   pub every-next : (i : ℕ) → every p (numbers i) ≡ true → p i ≡ true → every p (numbers (i + 1)) ≡ true
   every-next i h k = every-numbers p (i + 1) (λ j l. go j l (dec_le i j))
@@ -138,16 +138,16 @@ module _ (p : ℕ → Bool) where
       go j l (yes q) = let e : j ≡ i = omega arith in rw e k
       go j l (no q) = every-number p i h j (omega arith)
 
-  pub every-stop : (n i : ℕ) → i < n → p i ≡ false → every p (numbers n) ≡ false
-  every-stop n i l h = go (every p (numbers n)) refl
+  pub every_stop : (n i : ℕ) → i < n → p i ≡ false → every p (numbers n) ≡ false
+  every_stop n i l h = go (every p (numbers n)) refl
     where
       go : (b : Bool) → every p (numbers n) ≡ b → b ≡ false
       go true e = absurd (true≢false (sym (every-number p n e i l) ∙ h))
       go false e = refl
 
-  pub some-begin : some p (numbers 0) ≡ false
+  pub some_begin : some p (numbers 0) ≡ false
   unfolding some from
-  some-begin = refl
+  some_begin = refl
 
   pub some_next : (i : ℕ) → some p (numbers i) ≡ false → p i ≡ false → some p (numbers (i + 1)) ≡ false
   some_next i h k = go (some p (numbers (i + 1))) refl
@@ -160,8 +160,8 @@ module _ (p : ℕ → Bool) where
       go false e = refl
       go true e = let r = some_number p (i + 1) e in absurd (true≢false (sym r.2 ∙ at r.0 r.1 (dec_le i r.0)))
 
-  pub some-stop : (n i : ℕ) → i < n → p i ≡ true → some p (numbers n) ≡ true
-  some-stop n i l h = go (some p (numbers n)) refl
+  pub some_stop : (n i : ℕ) → i < n → p i ≡ true → some p (numbers n) ≡ true
+  some_stop n i l h = go (some p (numbers n)) refl
     where
       go : (b : Bool) → some p (numbers n) ≡ b → b ≡ true
       go true e = refl
@@ -174,7 +174,7 @@ same_truth true b f g = sym (f refl)
 same_truth false true f g = g refl
 same_truth false false f g = refl
 
-module _ (p : ℕ → ℕ → Bool) (m n : ℕ) (some-columns : 0 < n) where
+module _ (p : ℕ → ℕ → Bool) (m n : ℕ) (some_columns : 0 < n) where
   abbrev flat : Bool
   flat = every (λ i. p (i / n) (i % n)) (numbers (m * n))
 
@@ -187,7 +187,7 @@ module _ (p : ℕ → ℕ → Bool) (m n : ℕ) (some-columns : 0 < n) where
 
   rows-flat : rows ≡ true → flat ≡ true
   rows-flat h = every-numbers (λ i. p (i / n) (i % n)) (m * n) (λ i k.
-      every-number (p (i / n)) n (every-number (λ r. every (p r) (numbers n)) m h (i / n) ((div-lt_iff_lt-mul some-columns).1 k)) (i % n) (mod-lt i some-columns))
+      every-number (p (i / n)) n (every-number (λ r. every (p r) (numbers n)) m h (i / n) ((div-lt_iff_lt-mul some_columns).1 k)) (i % n) (mod-lt i some_columns))
 
   pub every-flat : flat ≡ rows
   every-flat = same_truth flat rows flat_rows rows-flat
@@ -237,20 +237,20 @@ every-both p q (x ∷ xs) = go (p x) (q x) (every p xs) (every-both p q xs)
     go false b e h = refl
 
 -- a loop that puts f of each in its place: its invariant is that the first i are done
-abbrev pub eachTo : {A : Type 0} → (A → A) → ℕ → List A → List A
-eachTo f i l = each f (take i l) ++ drop i l
+abbrev pub each_to : {A : Type 0} → (A → A) → ℕ → List A → List A
+each_to f i l = each f (take i l) ++ drop i l
 
 module _ {A : Type 0} (f : A → A) (d : A) where
-  pub each_next : (l : List A) (i : ℕ) → i < length l → set (eachTo f i l) i (f (get_or l i d)) ≡ eachTo f (i + 1) l
+  pub each_next : (l : List A) (i : ℕ) → i < length l → set (each_to f i l) i (f (get_or l i d)) ≡ each_to f (i + 1) l
   unfolding each
   each_next l i h = rw add-one (go l i h)
     where
-      go : (l : List A) (i : ℕ) → i < length l → set (eachTo f i l) i (f (get_or l i d)) ≡ eachTo f (suc i) l
+      go : (l : List A) (i : ℕ) → i < length l → set (each_to f i l) i (f (get_or l i d)) ≡ each_to f (suc i) l
       go [] i h = absurd (omega arith)
       go (x ∷ xs) zero h = refl
       go (x ∷ xs) (suc i) h = ap (λ (t : List A). f x ∷ t) (go xs i (omega arith))
 
-  pub each-end : (l : List A) (i : ℕ) → length l ≤ i → eachTo f i l ≡ each f l
+  pub each-end : (l : List A) (i : ℕ) → length l ≤ i → each_to f i l ≡ each f l
   unfolding each
   each-end [] zero h = refl
   each-end [] (suc i) h = refl
@@ -314,8 +314,8 @@ module _ {A : Type 0} (d e : A) (l : List A) (p : ℕ) (ple : p ≤ length l) wh
   opened-here = get_or_at (take p l) e (drop p l) d p (length-take-le p l ple)
 
   -- rewriting l to it starts at p: before p they agree
-  pub opened-start : l ≡ mixed p (opened p e l) l
-  opened-start = rw (take_at (take p l) (e ∷ drop p l) p (length-take-le p l ple)) (sym (take-append-drop p l))
+  pub opened_start : l ≡ mixed p (opened p e l) l
+  opened_start = rw (take_at (take p l) (e ∷ drop p l) p (length-take-le p l ple)) (sym (take-append-drop p l))
 
   pub opened-length : length (opened p e l) ≡ length l + 1
   opened-length = simp (length-append, length-take-le p l ple, length-drop) (omega arith)
@@ -328,12 +328,12 @@ module _ {A : Type 0} (d e : A) (l : List A) (p : ℕ) (ple : p ≤ length l) wh
       rw (x, get_or-append-add (take p l) (e ∷ drop p l) (suc (i - p)) d) (rw (get_or-drop p l (i - p) d, y) refl)
 
 -- of the first n places, those after n tell nothing
-opened-cut : {A : Type 0} (e : A) (p n : ℕ) (l : List A) → take n (opened p e (take n l)) ≡ take n (opened p e l)
-opened-cut e zero zero l = refl
-opened-cut e zero (suc n) l = ap (λ (t : List _). e ∷ t) (take-take n (suc n) l (omega arith))
-opened-cut e (suc p) zero l = refl
-opened-cut e (suc p) (suc n) [] = refl
-opened-cut e (suc p) (suc n) (x ∷ xs) = ap (λ (t : List _). x ∷ t) (opened-cut e p n xs)
+opened_cut : {A : Type 0} (e : A) (p n : ℕ) (l : List A) → take n (opened p e (take n l)) ≡ take n (opened p e l)
+opened_cut e zero zero l = refl
+opened_cut e zero (suc n) l = ap (λ (t : List _). e ∷ t) (take-take n (suc n) l (omega arith))
+opened_cut e (suc p) zero l = refl
+opened_cut e (suc p) (suc n) [] = refl
+opened_cut e (suc p) (suc n) (x ∷ xs) = ap (λ (t : List _). x ∷ t) (opened_cut e p n xs)
 
 -- ---- an array with l in its first places and the others zero
 
@@ -346,7 +346,7 @@ module _ {A : Type 0} (d : A) (n : ℕ) (l : List A) where
 
   pub filled-opened : (e : A) (p : ℕ) → p ≤ length l → take n (opened p e (filled n d l)) ≡ filled n d (opened p e l)
   filled-opened e p h =
-      opened-cut e p n (l ++ replicate n d)
+      opened_cut e p n (l ++ replicate n d)
       ∙ rw (take-append-le p l (replicate n d) h, drop-append-le p l (replicate n d) h) (ap (take n) (sym (append_assoc (take p l) (e ∷ drop p l) (replicate n d))))
 
 -- what is filled in tells by its elements
@@ -366,9 +366,9 @@ module _ (situation : Bool) (k : ℕ) (rest : List Row) where
   unfolding code_of
   refused-later n h e = rw h e
 
-pub refused-nowhere : 0 ≡ code_of granted
+pub refused_nowhere : 0 ≡ code_of granted
 unfolding code_of
-refused-nowhere = refl
+refused_nowhere = refl
 
 -- ---- a loop that counts those that are p, and a loop over the numbers below n
 
@@ -418,15 +418,15 @@ each_append f [] l = refl
 each_append f (x ∷ k) l = ap (λ (t : List _). f x ∷ t) (each_append f k l)
 
 module _ {A : Type 0} (d x : A) where
-  replicate-cut : (n m : ℕ) → n ≤ m → take n (replicate m d) ≡ take n (replicate (suc m) d)
-  replicate-cut zero m h = refl
-  replicate-cut (suc n) zero h = absurd (omega arith)
-  replicate-cut (suc n) (suc m) h = ap (λ (t : List A). d ∷ t) (replicate-cut n m (omega arith))
+  replicate_cut : (n m : ℕ) → n ≤ m → take n (replicate m d) ≡ take n (replicate (suc m) d)
+  replicate_cut zero m h = refl
+  replicate_cut (suc n) zero h = absurd (omega arith)
+  replicate_cut (suc n) (suc m) h = ap (λ (t : List A). d ∷ t) (replicate_cut n m (omega arith))
 
   set_past : (l : List A) (n m : ℕ) → n ≤ m → set (take n (l ++ replicate m d)) (length l) x ≡ take n ((l ++ x ∷ []) ++ replicate m d)
   set_past [] zero m h = refl
   set_past [] (suc n) zero h = absurd (omega arith)
-  set_past [] (suc n) (suc m) h = ap (λ (t : List A). x ∷ t) (replicate-cut n m (omega arith))
+  set_past [] (suc n) (suc m) h = ap (λ (t : List A). x ∷ t) (replicate_cut n m (omega arith))
   set_past (y ∷ l) zero m h = refl
   set_past (y ∷ l) (suc n) m h = ap (λ (t : List A). y ∷ t) (set_past l n m (omega arith))
 
@@ -484,8 +484,8 @@ module _ {A : Type 0} (f g : ℕ → A) (n : ℕ) where
   made-length : (i : ℕ) → length (made i) ≡ n
   made-length i = each-length (λ j. cond (ltb j i) (f j) (g j)) (numbers n) ∙ numbers-length n
 
-  pub made-begin : (d : A) (l : List A) → length l ≡ n → ((i : ℕ) → i < n → get_or l i d ≡ g i) → l ≡ made 0
-  made-begin d l e h = each_of d (λ j. cond (ltb j 0) (f j) (g j)) n l e (λ i k. h i k ∙ rw (le-ltb i 0 (omega arith)) refl)
+  pub made_begin : (d : A) (l : List A) → length l ≡ n → ((i : ℕ) → i < n → get_or l i d ≡ g i) → l ≡ made 0
+  made_begin d l e h = each_of d (λ j. cond (ltb j 0) (f j) (g j)) n l e (λ i k. h i k ∙ rw (le-ltb i 0 (omega arith)) refl)
 
   pub made-next : (i : ℕ) → i < n → set (made i) i (f i) ≡ made (i + 1)
   made-next i h =
@@ -502,7 +502,7 @@ module _ {A : Type 0} (f g : ℕ → A) (n : ℕ) where
 
 -- .. from the same in every place
 pub made-blank : {A : Type 0} (f : ℕ → A) (x : A) (n : ℕ) → replicate n x ≡ made f (λ _. x) n 0
-made-blank f x n = made-begin f (λ _. x) n x (replicate n x) (length-replicate n x) (λ i h. get_or-replicate n i x x h)
+made-blank f x n = made_begin f (λ _. x) n x (replicate n x) (length-replicate n x) (λ i h. get_or-replicate n i x x h)
 
 -- m rows of n, one behind the other
 rows-length : {A : Type 0} (f : ℕ → List A) (n : ℕ) → ((i : ℕ) → length (f i) ≡ n) → (i m : ℕ) → length (joined (each f (from i m))) ≡ m * n
@@ -519,21 +519,21 @@ module _ {A : Type 0} (m n : ℕ) where
   grid-length f = rows-length (λ c. each (f c) (numbers n)) n (λ i. each-length (f i) (numbers n) ∙ numbers-length n) 0 m
 
   -- an array of rows is told by what it has in each row and column
-  pub grid-of : (d : A) (f : ℕ → ℕ → A) (l : List A) → length l ≡ m * n → ((c b : ℕ) → c < m → b < n → get_or l (c * n + b) d ≡ f c b) → l ≡ grid f
-  grid-of d f l e h = ext_get_or d l (grid f) (e ∙ sym (grid-length f)) (λ i k. at i (rw e at k) (columns n (rw e at k)))
+  pub grid_of : (d : A) (f : ℕ → ℕ → A) (l : List A) → length l ≡ m * n → ((c b : ℕ) → c < m → b < n → get_or l (c * n + b) d ≡ f c b) → l ≡ grid f
+  grid_of d f l e h = ext_get_or d l (grid f) (e ∙ sym (grid-length f)) (λ i k. at i (rw e at k) (columns n (rw e at k)))
     where
       columns : (n : ℕ) {i : ℕ} → i < m * n → 0 < n
       columns zero k = absurd (omega arith)
       columns (suc n) k = omega arith
 
       at : (i : ℕ) → i < m * n → 0 < n → get_or l i d ≡ get_or (grid f) i d
-      at i k some-columns =
+      at i k some_columns =
           let c = i / n in
           let b = i % n in
-          let r : c < m = (div-lt_iff_lt-mul some-columns).1 k in
-          let q : b < n = mod-lt i some-columns in
+          let r : c < m = (div-lt_iff_lt-mul some_columns).1 k in
+          let q : b < n = mod-lt i some_columns in
           let z : c * n + b ≡ i = div-add-mod' i n in
           rw (← z) (h c b r q ∙ sym (grid-at f m n c b d r q))
 
   pub grid-same : A → (f g : ℕ → ℕ → A) → ((c b : ℕ) → c < m → b < n → f c b ≡ g c b) → grid f ≡ grid g
-  grid-same d f g h = grid-of d g (grid f) (grid-length f) (λ c b k q. grid-at f m n c b d k q ∙ h c b k q)
+  grid-same d f g h = grid_of d g (grid f) (grid-length f) (λ c b k q. grid-at f m n c b d k q ∙ h c b k q)

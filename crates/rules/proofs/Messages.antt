@@ -6,21 +6,21 @@ use lib.Dec.{ltb, leb}
 use lib.Seq.{set-get_or}
 use borrow.Author.Tests.{ltb-true, leb-false, eqb-true, not-false}
 use Rattle.rules.specs.Types.{Epoch, Kind, Record, Attempt, Host, Header, Message, Request, Refusal, Sort, Arrived, Chunk, Entry, Table}
-use Rattle.rules.specs.Chunks.{withWaiting, refusing, silent, isOutOfOrder, waits, arrived, decides, atChunk, arrives, ran, runs}
-use Rattle.rules.specs.Events.{withArrived}
-use Rattle.rules.specs.Hosts.{answeredBy, heard, counts, atHost, hears}
-use Rattle.rules.specs.Kinds.{isNormal}
-use Rattle.rules.specs.Limits.{waitingLimit}
-use Rattle.rules.specs.Messages.{headerOf, sortOf, messageOf}
+use Rattle.rules.specs.Chunks.{with_waiting, refusing, silent, is_out_of_order, waits, arrived, decides, at_chunk, arrives, ran, runs}
+use Rattle.rules.specs.Events.{with_arrived}
+use Rattle.rules.specs.Hosts.{answered_by, heard, counts, at_host, hears}
+use Rattle.rules.specs.Kinds.{is_normal}
+use Rattle.rules.specs.Limits.{waiting_limit}
+use Rattle.rules.specs.Messages.{header_of, sort_of, message_of}
 use Rattle.rules.specs.Network.{replied}
-use Rattle.rules.specs.Tables.{chunk_of, withRecord, withPlaces}
+use Rattle.rules.specs.Tables.{chunk_of, with_record, with_places}
 use Rattle.rules.specs.Timestamps.{◌below◌, ◌same◌}
-use Rattle.rules.specs.Waiting.{head, headRemoved, marked}
+use Rattle.rules.specs.Waiting.{head, head_removed, marked}
 use Rattle.rules.specs.Zero.{no_chunk}
 use Rattle.rules.proofs.Lists.{walk}
 
 -- the message of a sort with a header has that header and is of that sort
-pub made : (h : Header) (s : Sort) → (headerOf (messageOf h s) ≡ h) × (sortOf (messageOf h s) ≡ s)
+pub made : (h : Header) (s : Sort) → (header_of (message_of h s) ≡ h) × (sort_of (message_of h s) ≡ s)
 made h (Sort.Request e Request.Read) = (refl, refl)
 made h (Sort.Request e (Request.Prewrite v)) = (refl, refl)
 made h (Sort.Request e Request.Commit) = (refl, refl)
@@ -38,8 +38,8 @@ made h Sort.PrewriteReply = (refl, refl)
 pub record Passed (blocks : ℕ) (c : Chunk) (r : Record) (header : Header) (epoch : Epoch) (kind : Kind) : Type 0 where
   pub current : epoch.0 ≡ c.epoch.0
   pub block : header.block < blocks
-  pub order : isOutOfOrder kind header.timestamp r ≡ false
-  pub room : r.waiting.count < waitingLimit
+  pub order : is_out_of_order kind header.timestamp r ≡ false
+  pub room : r.waiting.count < waiting_limit
 
 -- a read or a prewrite is refused, or it waits
 pub arrived-walk : (P : Arrived → Type 0) (blocks : ℕ) (c : Chunk) (r : Record) (header : Header) (epoch : Epoch) (kind : Kind)
@@ -49,18 +49,18 @@ unfolding arrived
 arrived-walk P blocks c r header epoch kind refuse wait =
     walk P (not (epoch same c.epoch)) _ _ (λ _. refuse Refusal.Mismatch) (λ e.
     walk P (not (ltb header.block blocks)) _ _ (λ _. refuse Refusal.Error) (λ l.
-    walk P (isOutOfOrder kind header.timestamp r) _ _ (λ _. refuse Refusal.OutOfOrder) (λ o.
-    walk P (leb waitingLimit r.waiting.count) _ _ (λ _. refuse Refusal.Busy) (λ n.
+    walk P (is_out_of_order kind header.timestamp r) _ _ (λ _. refuse Refusal.OutOfOrder) (λ o.
+    walk P (leb waiting_limit r.waiting.count) _ _ (λ _. refuse Refusal.Busy) (λ n.
     wait (record {
       current = eqb-true epoch.0 c.epoch.0 (not-false (epoch same c.epoch) e);
       block = ltb-true header.block blocks (not-false (ltb header.block blocks) l);
       order = o;
-      room = leb-false waitingLimit r.waiting.count n;
+      room = leb-false waiting_limit r.waiting.count n;
     })))))
 
 -- a commit or an abort marks, or does nothing
 pub decides-walk : (P : Arrived → Type 0) (blocks : ℕ) (c : Chunk) (r : Record) (header : Header) (commit : Bool)
-    → (header.block < blocks → P (silent c (withWaiting r (marked commit header.timestamp r.waiting)))) → P (silent c r)
+    → (header.block < blocks → P (silent c (with_waiting r (marked commit header.timestamp r.waiting)))) → P (silent c r)
     → P (decides blocks c r header commit)
 unfolding decides
 decides-walk P blocks c r header commit mark none =
@@ -73,8 +73,8 @@ module _ (c : Chunk) where
   abbrev Same : Arrived → Type 0
   Same a = a.chunk ≡ c
 
-  at-chunk-same : (blocks : ℕ) (r : Record) (header : Header) (s : Sort) → Same (atChunk blocks c r header s)
-  unfolding atChunk
+  at-chunk-same : (blocks : ℕ) (r : Record) (header : Header) (s : Sort) → Same (at_chunk blocks c r header s)
+  unfolding at_chunk
   at-chunk-same blocks r header (Sort.Request epoch Request.Read) = arrived-walk Same blocks c r header epoch Kind.Read (λ _. refl) (λ _. refl)
   at-chunk-same blocks r header (Sort.Request epoch (Request.Prewrite v)) =
       arrived-walk Same blocks c r header epoch (Kind.Undecided v) (λ _. refl) (λ _. refl)
@@ -85,7 +85,7 @@ module _ (c : Chunk) where
   at-chunk-same blocks r header Sort.PrewriteReply = refl
 
   pub arrives-same : (blocks : ℕ) (r : Record) (m : Message) → Same (arrives blocks c r m)
-  arrives-same blocks r m = walk Same (isNormal c.state) _ _ (λ _. at-chunk-same blocks r (headerOf m) (sortOf m)) (λ _. refl)
+  arrives-same blocks r m = walk Same (is_normal c.state) _ _ (λ _. at-chunk-same blocks r (header_of m) (sort_of m)) (λ _. refl)
 
   runs_same : (chunk block : ℕ) (r : Record) (e : Entry) (k : Kind) → Same (runs chunk block c r e k)
   runs_same chunk block r e (Kind.Aborted v) = refl
@@ -96,11 +96,11 @@ module _ (c : Chunk) where
   pub ran-same : (chunk block : ℕ) (r : Record) → Same (ran chunk block c r)
   unfolding ran
   ran-same chunk block r =
-      runs_same chunk block (withWaiting r (headRemoved r.waiting)) (head r.waiting) (head r.waiting).kind
+      runs_same chunk block (with_waiting r (head_removed r.waiting)) (head r.waiting) (head r.waiting).kind
 
 -- so the record and the network are all that they leave changed
 pub left_as : (t : Table) (c b : ℕ) (a : Arrived) → a.chunk ≡ chunk_of t c
-    → withArrived t c b a ≡ withPlaces (withRecord t c b a.held) (replied t.places a.reply)
+    → with_arrived t c b a ≡ with_places (with_record t c b a.held) (replied t.places a.reply)
 left_as t c b a e = rw (e, set-get_or t.chunks c no_chunk) refl
 
 -- ---- at a host
@@ -114,11 +114,11 @@ pub record Refused (h : Host) (a : Attempt) (now : Host) : Type 0 where
   pub epoch : now.epoch ≡ h.epoch
   pub clock : now.clock ≡ h.clock
 
-pub heard-refusal : (h : Host) (a : Attempt) (x : Refusal) → Refused h a (heard h a (Sort.Refusal x))
-heard-refusal h a Refusal.Mismatch = record { queue = refl; timestamp = refl; outstanding = refl; okay = refl; epoch = refl; clock = refl }
-heard-refusal h a Refusal.Error = record { queue = refl; timestamp = refl; outstanding = refl; okay = refl; epoch = refl; clock = refl }
-heard-refusal h a Refusal.OutOfOrder = record { queue = refl; timestamp = refl; outstanding = refl; okay = refl; epoch = refl; clock = refl }
-heard-refusal h a Refusal.Busy = record { queue = refl; timestamp = refl; outstanding = refl; okay = refl; epoch = refl; clock = refl }
+pub heard_refusal : (h : Host) (a : Attempt) (x : Refusal) → Refused h a (heard h a (Sort.Refusal x))
+heard_refusal h a Refusal.Mismatch = record { queue = refl; timestamp = refl; outstanding = refl; okay = refl; epoch = refl; clock = refl }
+heard_refusal h a Refusal.Error = record { queue = refl; timestamp = refl; outstanding = refl; okay = refl; epoch = refl; clock = refl }
+heard_refusal h a Refusal.OutOfOrder = record { queue = refl; timestamp = refl; outstanding = refl; okay = refl; epoch = refl; clock = refl }
+heard_refusal h a Refusal.Busy = record { queue = refl; timestamp = refl; outstanding = refl; okay = refl; epoch = refl; clock = refl }
 
 -- a host that hears keeps its queue, its timestamp, its epoch and its clock
 pub record Hears (h now : Host) : Type 0 where
@@ -128,22 +128,22 @@ pub record Hears (h now : Host) : Type 0 where
   pub clock : now.clock ≡ h.clock
 
 -- .. one that hears nothing too
-hears-self : (h : Host) → Hears h h
-hears-self h = record { queue = refl; timestamp = refl; epoch = refl; clock = refl }
+hears_self : (h : Host) → Hears h h
+hears_self h = record { queue = refl; timestamp = refl; epoch = refl; clock = refl }
 
 -- what is heard, by its sort
-pub heard-keeps : (h : Host) (c : ℕ) (s : Sort) → Hears h (heard h (answeredBy h.attempt c) s)
+pub heard-keeps : (h : Host) (c : ℕ) (s : Sort) → Hears h (heard h (answered_by h.attempt c) s)
 heard-keeps h c (Sort.Refusal x) =
-    let r = heard-refusal h (answeredBy h.attempt c) x in
+    let r = heard_refusal h (answered_by h.attempt c) x in
     record { queue = r.queue; timestamp = r.timestamp; epoch = r.epoch; clock = r.clock }
 heard-keeps h c (Sort.ReadReply v) = record { queue = refl; timestamp = refl; epoch = refl; clock = refl }
 heard-keeps h c Sort.PrewriteReply = record { queue = refl; timestamp = refl; epoch = refl; clock = refl }
-heard-keeps h c (Sort.Request epoch q) = hears-self h
+heard-keeps h c (Sort.Request epoch q) = hears_self h
 
 -- any message
 pub hears-keeps : (h : Host) (m : Message) → Hears h (hears h m)
-unfolding atHost
+unfolding at_host
 hears-keeps h m =
     walk (Hears h) h.working _ _
-    (λ _. walk (Hears h) (counts h m) _ _ (λ _. heard-keeps h (headerOf m).chunk (sortOf m)) (λ _. hears-self h))
-    (λ _. hears-self h)
+    (λ _. walk (Hears h) (counts h m) _ _ (λ _. heard-keeps h (header_of m).chunk (sort_of m)) (λ _. hears_self h))
+    (λ _. hears_self h)

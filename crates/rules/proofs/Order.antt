@@ -8,19 +8,19 @@ use lib.ListN.{length, get_or, set, take, drop}
 use borrow.Author.Tests.{ltb-true, ltb-false, lt-ltb, le-ltb}
 use Rattle.rules.specs.Types.{Timestamp, Entry}
 use Rattle.rules.specs.Timestamps.{◌below◌}
-use Rattle.rules.specs.Waiting.{insert, mark, firstWith, decided}
+use Rattle.rules.specs.Waiting.{insert, mark, first_with, decided}
 use Rattle.rules.specs.Words.{those, each, every, place}
-use Rattle.rules.specs.Zero.{zeroEntry}
-use Rattle.rules.proofs.Lists.{both, and-true, walk}
+use Rattle.rules.specs.Zero.{zero_entry}
+use Rattle.rules.proofs.Lists.{both, and_true, walk}
 
 -- an entry's timestamp as a number
-abbrev stampOf : Entry → ℕ
-stampOf e = e.timestamp.0
+abbrev stamp_of : Entry → ℕ
+stamp_of e = e.timestamp.0
 
 -- the timestamps ascend, the first one is not below n
 abbrev pub OrderedFrom : ℕ → List Entry → Type 0
 OrderedFrom n [] = Unit {0}
-OrderedFrom n (x ∷ xs) = (n ≤ stampOf x) × OrderedFrom (stampOf x) xs
+OrderedFrom n (x ∷ xs) = (n ≤ stamp_of x) × OrderedFrom (stamp_of x) xs
 
 abbrev pub Ordered : List Entry → Type 0
 Ordered l = OrderedFrom 0 l
@@ -28,22 +28,22 @@ Ordered l = OrderedFrom 0 l
 -- ---- the same by index: no entry is below the one ahead of it
 
 abbrev pub Ascends : List Entry → Type 0
-Ascends l = (i : ℕ) → suc i < length l → stampOf (get_or l i zeroEntry) ≤ stampOf (get_or l (suc i) zeroEntry)
+Ascends l = (i : ℕ) → suc i < length l → stamp_of (get_or l i zero_entry) ≤ stamp_of (get_or l (suc i) zero_entry)
 
 -- the two say the same
-ascends-from : (x : Entry) (xs : List Entry) → Ascends (x ∷ xs) → OrderedFrom (stampOf x) xs
-ascends-from x [] h = tt
-ascends-from x (y ∷ ys) h = (h 0 (omega arith), ascends-from y ys (λ i l. h (suc i) (omega arith)))
+ascends_from : (x : Entry) (xs : List Entry) → Ascends (x ∷ xs) → OrderedFrom (stamp_of x) xs
+ascends_from x [] h = tt
+ascends_from x (y ∷ ys) h = (h 0 (omega arith), ascends_from y ys (λ i l. h (suc i) (omega arith)))
 
-pub ascends-ordered : (l : List Entry) → Ascends l → Ordered l
-ascends-ordered [] h = tt
-ascends-ordered (x ∷ xs) h = (omega arith, ascends-from x xs h)
+pub ascends_ordered : (l : List Entry) → Ascends l → Ordered l
+ascends_ordered [] h = tt
+ascends_ordered (x ∷ xs) h = (omega arith, ascends_from x xs h)
 
-pub ordered-ascends : (n : ℕ) (l : List Entry) → OrderedFrom n l → Ascends l
-ordered-ascends n [] o i h = absurd (omega arith)
-ordered-ascends n (x ∷ []) o i h = absurd (omega arith)
-ordered-ascends n (x ∷ y ∷ ys) o zero h = o.1.0
-ordered-ascends n (x ∷ y ∷ ys) o (suc i) h = ordered-ascends (stampOf x) (y ∷ ys) o.1 i (omega arith)
+pub ordered_ascends : (n : ℕ) (l : List Entry) → OrderedFrom n l → Ascends l
+ordered_ascends n [] o i h = absurd (omega arith)
+ordered_ascends n (x ∷ []) o i h = absurd (omega arith)
+ordered_ascends n (x ∷ y ∷ ys) o zero h = o.1.0
+ordered_ascends n (x ∷ y ∷ ys) o (suc i) h = ordered_ascends (stamp_of x) (y ∷ ys) o.1 i (omega arith)
 
 -- nothing that waits behind n is below it
 pub not-below : (n : ℕ) (t : Timestamp) (l : List Entry) → t.0 ≤ n → OrderedFrom n l → every (λ x. not (x.timestamp below t)) l ≡ true
@@ -51,19 +51,19 @@ unfolding every
 not-below n t [] h o = refl
 not-below n t (x ∷ xs) h o =
     let k = o.0 in
-    rw (le-ltb (stampOf x) t.0 (omega arith), not-below (stampOf x) t xs (omega arith) o.1) refl
+    rw (le-ltb (stamp_of x) t.0 (omega arith), not-below (stamp_of x) t xs (omega arith) o.1) refl
 
 -- ---- a new entry keeps the order
 
-pub insert-ordered : (n : ℕ) (e : Entry) (l : List Entry) → n ≤ stampOf e → OrderedFrom n l → OrderedFrom n (insert e l)
+pub insert_ordered : (n : ℕ) (e : Entry) (l : List Entry) → n ≤ stamp_of e → OrderedFrom n l → OrderedFrom n (insert e l)
 unfolding insert
-insert-ordered n e [] h o = (h, tt)
-insert-ordered n e (x ∷ xs) h o = go (e.timestamp below x.timestamp) refl (λ k. insert-ordered (stampOf x) e xs k o.1)
+insert_ordered n e [] h o = (h, tt)
+insert_ordered n e (x ∷ xs) h o = go (e.timestamp below x.timestamp) refl (λ k. insert_ordered (stamp_of x) e xs k o.1)
   where
-    go : (b : Bool) → e.timestamp below x.timestamp ≡ b → (stampOf x ≤ stampOf e → OrderedFrom (stampOf x) (insert e xs))
+    go : (b : Bool) → e.timestamp below x.timestamp ≡ b → (stamp_of x ≤ stamp_of e → OrderedFrom (stamp_of x) (insert e xs))
         → OrderedFrom n (cond b (e ∷ x ∷ xs) (x ∷ insert e xs))
-    go true q f = let k = ltb-true (stampOf e) (stampOf x) q in (h, (omega arith, o.1))
-    go false q f = (o.0, f (ltb-false (stampOf e) (stampOf x) q))
+    go true q f = let k = ltb-true (stamp_of e) (stamp_of x) q in (h, (omega arith, o.1))
+    go false q f = (o.0, f (ltb-false (stamp_of e) (stamp_of x) q))
 
 -- ---- it stands after its equals: at the first place with a greater timestamp, those before it not above it, those behind it above
 
@@ -90,21 +90,21 @@ ahead-not-above e (x ∷ xs) = go (e.timestamp below x.timestamp) refl (ahead-no
     go true d h = refl
     go false d h = rw (d, h) refl
 
-all_above : (e : Entry) (n : ℕ) (l : List Entry) → stampOf e < n → OrderedFrom n l → every (λ x. e.timestamp below x.timestamp) l ≡ true
+all_above : (e : Entry) (n : ℕ) (l : List Entry) → stamp_of e < n → OrderedFrom n l → every (λ x. e.timestamp below x.timestamp) l ≡ true
 unfolding every
 all_above e n [] h o = refl
 all_above e n (x ∷ xs) h o =
     let k = o.0 in
-    rw (lt-ltb (stampOf e) (stampOf x) (omega arith), all_above e (stampOf x) xs (omega arith) o.1) refl
+    rw (lt-ltb (stamp_of e) (stamp_of x) (omega arith), all_above e (stamp_of x) xs (omega arith) o.1) refl
 
 pub behind-above : (n : ℕ) (e : Entry) (l : List Entry) → OrderedFrom n l → every (λ x. e.timestamp below x.timestamp) (drop (behind e l) l) ≡ true
 unfolding every place
 behind-above n e [] o = refl
-behind-above n e (x ∷ xs) o = go (e.timestamp below x.timestamp) refl (behind-above (stampOf x) e xs o.1)
+behind-above n e (x ∷ xs) o = go (e.timestamp below x.timestamp) refl (behind-above (stamp_of x) e xs o.1)
   where
     go : (b : Bool) → (e.timestamp below x.timestamp) ≡ b → every (λ x. e.timestamp below x.timestamp) (drop (behind e xs) xs) ≡ true
         → every (λ x. e.timestamp below x.timestamp) (drop (cond b 0 (suc (behind e xs))) (x ∷ xs)) ≡ true
-    go true d h = rw (d, all_above e (stampOf x) xs (ltb-true (stampOf e) (stampOf x) d) o.1) refl
+    go true d h = rw (d, all_above e (stamp_of x) xs (ltb-true (stamp_of e) (stamp_of x) d) o.1) refl
     go false d h = h
 
 -- ---- nothing is lost or doubled: of entries of any sort there are as many as with e put in front
@@ -132,11 +132,11 @@ insert-length e (x ∷ xs) =
 
 pub insert-every : (p : Entry → Bool) (e : Entry) (l : List Entry) → p e ≡ true → every p l ≡ true → every p (insert e l) ≡ true
 unfolding insert every
-insert-every p e [] h k = and-true (p e) true h refl
+insert-every p e [] h k = and_true (p e) true h refl
 insert-every p e (x ∷ xs) h k =
     walk (λ (l : List Entry). every p l ≡ true) (e.timestamp below x.timestamp) (e ∷ x ∷ xs) (x ∷ insert e xs)
-    (λ _. and-true (p e) (p x && every p xs) h k)
-    (λ _. let b = both (p x) (every p xs) k in and-true (p x) (every p (insert e xs)) b.0 (insert-every p e xs h b.1))
+    (λ _. and_true (p e) (p x && every p xs) h k)
+    (λ _. let b = both (p x) (every p xs) k in and_true (p x) (every p (insert e xs)) b.0 (insert-every p e xs h b.1))
 
 -- ---- the head removed, or an entry decided: the order stays, and a decision changes no timestamp
 
@@ -145,26 +145,26 @@ lowered : (n m : ℕ) (l : List Entry) → n ≤ m → OrderedFrom m l → Order
 lowered n m [] h o = tt
 lowered n m (x ∷ xs) h o = let k = o.0 in (omega arith, o.1)
 
-pub tail-ordered : (l : List Entry) → Ordered l → Ordered (drop 1 l)
-tail-ordered [] o = tt
-tail-ordered (x ∷ xs) o = lowered 0 (stampOf x) xs (omega arith) o.1
+pub tail_ordered : (l : List Entry) → Ordered l → Ordered (drop 1 l)
+tail_ordered [] o = tt
+tail_ordered (x ∷ xs) o = lowered 0 (stamp_of x) xs (omega arith) o.1
 
 -- an entry changed in all but its timestamp
-change-ordered : (f : Entry → Entry) → ((x : Entry) → stampOf (f x) ≡ stampOf x) → (n : ℕ) (l : List Entry) (i : ℕ) → OrderedFrom n l
-    → OrderedFrom n (set l i (f (get_or l i zeroEntry)))
-change-ordered f k n [] i o = o
-change-ordered f k n (x ∷ xs) zero o = rw (k x) o
-change-ordered f k n (x ∷ xs) (suc i) o = (o.0, change-ordered f k (stampOf x) xs i o.1)
+change_ordered : (f : Entry → Entry) → ((x : Entry) → stamp_of (f x) ≡ stamp_of x) → (n : ℕ) (l : List Entry) (i : ℕ) → OrderedFrom n l
+    → OrderedFrom n (set l i (f (get_or l i zero_entry)))
+change_ordered f k n [] i o = o
+change_ordered f k n (x ∷ xs) zero o = rw (k x) o
+change_ordered f k n (x ∷ xs) (suc i) o = (o.0, change_ordered f k (stamp_of x) xs i o.1)
 
-pub mark-ordered : (commit : Bool) (t : Timestamp) (l : List Entry) → Ordered l → Ordered (mark commit t l)
+pub mark_ordered : (commit : Bool) (t : Timestamp) (l : List Entry) → Ordered l → Ordered (mark commit t l)
 unfolding mark
-mark-ordered commit t l o = change-ordered (decided commit) (λ x. refl) 0 l (firstWith t l) o
+mark_ordered commit t l o = change_ordered (decided commit) (λ x. refl) 0 l (first_with t l) o
 
-pub mark-timestamps : (commit : Bool) (t : Timestamp) (l : List Entry) → each (λ (e : Entry). e.timestamp) (mark commit t l) ≡ each (λ (e : Entry). e.timestamp) l
+pub mark_timestamps : (commit : Bool) (t : Timestamp) (l : List Entry) → each (λ (e : Entry). e.timestamp) (mark commit t l) ≡ each (λ (e : Entry). e.timestamp) l
 unfolding mark each
-mark-timestamps commit t l = go l _
+mark_timestamps commit t l = go l _
   where
-    go : (l : List Entry) (i : ℕ) → each (λ (e : Entry). e.timestamp) (set l i (decided commit (get_or l i zeroEntry))) ≡ each (λ (e : Entry). e.timestamp) l
+    go : (l : List Entry) (i : ℕ) → each (λ (e : Entry). e.timestamp) (set l i (decided commit (get_or l i zero_entry))) ≡ each (λ (e : Entry). e.timestamp) l
     go [] i = refl
     go (x ∷ xs) zero = refl
     go (x ∷ xs) (suc i) = ap (λ (l : List Timestamp). x.timestamp ∷ l) (go xs i)

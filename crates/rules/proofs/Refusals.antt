@@ -7,7 +7,7 @@ use mathlib.Core.List.{List, [], ◌∷◌}
 use native.Mathlib.Omega.{arith}
 use lib.ListN.{length, get_or}
 use Rattle.rules.specs.Codes.{Row, code_of}
-use Rattle.rules.specs.Limits.{oneTo}
+use Rattle.rules.specs.Limits.{one_to}
 use Rattle.rules.specs.Words.{every}
 use Rattle.rules.proofs.Lists.{both, walk, every-at}
 use Rattle.rules.proofs.Formed.{one-to}
@@ -30,7 +30,7 @@ Free rs = (j : ℕ) → j < length rs → (row rs j).holds ≡ false
 
 -- "0 done" is no refusal: a row's code is 1 to n
 abbrev pub coded : (n : ℕ) → List Row → Bool
-coded n rs = every (λ (r : Row). oneTo n r.code) rs
+coded n rs = every (λ (r : Row). one_to n r.code) rs
 
 later_first : (r : Row) (rs : List Row) (k : ℕ) → r.holds ≡ false → First rs k → First (r ∷ rs) k
 later_first r rs k h f = record { at = suc f.at; inside = let z = f.inside in omega arith; holds = f.holds; code = f.code; before = go }
@@ -39,9 +39,9 @@ later_first r rs k h f = record { at = suc f.at; inside = let z = f.inside in om
     go zero l = h
     go (suc j) l = f.before j (omega arith)
 
-later-free : (r : Row) (rs : List Row) → r.holds ≡ false → Free rs → Free (r ∷ rs)
-later-free r rs h f zero l = h
-later-free r rs h f (suc j) l = f j (omega arith)
+later_free : (r : Row) (rs : List Row) → r.holds ≡ false → Free rs → Free (r ∷ rs)
+later_free r rs h f zero l = h
+later_free r rs h f (suc j) l = f j (omega arith)
 
 -- the code is a first row's, or it is 0 and nothing holds
 pub code-first : (rs : List Row) → First rs (code_of rs) ⊎ ((code_of rs ≡ 0) × Free rs)
@@ -52,7 +52,7 @@ code-first (r ∷ rs) = go r.holds refl (code-first rs)
     go : (b : Bool) → r.holds ≡ b → First rs (code_of rs) ⊎ ((code_of rs ≡ 0) × Free rs) → First (r ∷ rs) (cond b r.code (code_of rs)) ⊎ ((cond b r.code (code_of rs) ≡ 0) × Free (r ∷ rs))
     go true h f = inl (record { at = 0; inside = omega arith; holds = h; code = refl; before = λ j l. absurd (omega arith) })
     go false h (inl f) = inl (later_first r rs (code_of rs) h f)
-    go false h (inr f) = inr (f.0, later-free r rs h f.1)
+    go false h (inr f) = inr (f.0, later_free r rs h f.1)
 
 -- and no other code is
 pub first_code : (rs : List Row) (k : ℕ) → First rs k → code_of rs ≡ k
@@ -69,18 +69,18 @@ pub code-most : (n : ℕ) (rs : List Row) → coded n rs ≡ true → code_of rs
 unfolding code_of every
 code-most n [] h = omega arith
 code-most n (r ∷ rs) h =
-    let b = both (oneTo n r.code) (coded n rs) h in
+    let b = both (one_to n r.code) (coded n rs) h in
     walk (λ (m : ℕ). m ≤ n) r.holds r.code (code_of rs) (λ _. (one-to n r.code b.0).1) (λ _. code-most n rs b.1)
 
 module _ (rs : List Row) (proper : coded 8 rs ≡ true) where
   -- a first row's code is 1 to 8
   pub first_range : (k : ℕ) → First rs k → (1 ≤ k) × (k ≤ 8)
   first_range k f =
-      one-to 8 k (rw f.code at (every-at (λ (r : Row). oneTo 8 r.code) rs f.at (record { holds = false; code = 0 }) proper f.inside))
+      one-to 8 k (rw f.code at (every-at (λ (r : Row). one_to 8 r.code) rs f.at (record { holds = false; code = 0 }) proper f.inside))
 
   -- code k, not 0: exactly when a situation of code k holds and none before it does
-  pub refused-exactly : (k : ℕ) → (k ≡ 0 → ⊥) → (code_of rs ≡ k) ↔ First rs k
-  refused-exactly k n = (there, first_code rs k)
+  pub refused_exactly : (k : ℕ) → (k ≡ 0 → ⊥) → (code_of rs ≡ k) ↔ First rs k
+  refused_exactly k n = (there, first_code rs k)
     where
       there : code_of rs ≡ k → First rs k
       there e = go (code-first rs)
@@ -90,8 +90,8 @@ module _ (rs : List Row) (proper : coded 8 rs ≡ true) where
           go (inr f) = absurd (n (sym e ∙ f.0))
 
   -- code 0: exactly when none holds
-  pub granted-exactly : (code_of rs ≡ 0) ↔ Free rs
-  granted-exactly = (there, back)
+  pub granted_exactly : (code_of rs ≡ 0) ↔ Free rs
+  granted_exactly = (there, back)
     where
       there : code_of rs ≡ 0 → Free rs
       there e = go (code-first rs)

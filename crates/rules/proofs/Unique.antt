@@ -1,7 +1,7 @@
 -- A promise `answer ≡ definition of the arguments` determines the answer
 use mathlib.Core.Path.{◌≡◌, sym, ap, ◌∙◌}
 use Rattle.rules.specs.Types.{Table, Event, Answer}
-use Rattle.rules.specs.Codes.{numbersOf}
+use Rattle.rules.specs.Codes.{numbers_of}
 use Rattle.rules.specs.Events.{step}
 
 -- whatever the definition
@@ -16,7 +16,7 @@ Determined {K} {Arguments} {Result} {Exit} learnt =
 
 -- of an event's answer: the complete table, the code and the numbers of the outcome
 pub step-unique : (t : Table) (e : Event) (a b : Answer) → a ≡ step t e → b ≡ step t e
-    → (a.table ≡ b.table) × (a.code ≡ b.code) × (numbersOf a.outcome ≡ numbersOf b.outcome)
+    → (a.table ≡ b.table) × (a.code ≡ b.code) × (numbers_of a.outcome ≡ numbers_of b.outcome)
 step-unique t e a b h k =
     let same : a ≡ b = unique h k in
-    (ap (λ (x : Answer). x.table) same, ap (λ (x : Answer). x.code) same, ap (λ (x : Answer). numbersOf x.outcome) same)
+    (ap (λ (x : Answer). x.table) same, ap (λ (x : Answer). x.code) same, ap (λ (x : Answer). numbers_of x.outcome) same)

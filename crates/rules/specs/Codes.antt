@@ -22,8 +22,8 @@ code_of [] = 0
 code_of (r ∷ rs) = if r.holds then r.code else code_of rs
 
 -- what a refusal leaves as it was, and a granted event changes: "same", or its effect
-abbrev pub unlessRefused : {A : Type 0} → List Row → (same effect : A) → A
-unlessRefused rows same effect = if eqb (code_of rows) 0 then effect else same
+abbrev pub unless_refused : {A : Type 0} → List Row → (same effect : A) → A
+unless_refused rows same effect = if eqb (code_of rows) 0 then effect else same
 
 -- ---- outcomes: "none 0, read done 1, write done 2, read failed 3, write failed 4;
 -- then host, block, value (all 0 for none; value 0 unless read done)"
@@ -34,9 +34,9 @@ pub record Numbers : Type 0 where
   pub block : ℕ
   pub value : ℕ
 
-abbrev pub numbersOf : Outcome → Numbers
-numbersOf Outcome.None = record { kind = 0; host = 0; block = 0; value = 0 }
-numbersOf (Outcome.ReadDone h b v) = record { kind = 1; host = h; block = b; value = v }
-numbersOf (Outcome.WriteDone h b) = record { kind = 2; host = h; block = b; value = 0 }
-numbersOf (Outcome.ReadFailed h b) = record { kind = 3; host = h; block = b; value = 0 }
-numbersOf (Outcome.WriteFailed h b) = record { kind = 4; host = h; block = b; value = 0 }
+abbrev pub numbers_of : Outcome → Numbers
+numbers_of Outcome.None = record { kind = 0; host = 0; block = 0; value = 0 }
+numbers_of (Outcome.ReadDone h b v) = record { kind = 1; host = h; block = b; value = v }
+numbers_of (Outcome.WriteDone h b) = record { kind = 2; host = h; block = b; value = 0 }
+numbers_of (Outcome.ReadFailed h b) = record { kind = 3; host = h; block = b; value = 0 }
+numbers_of (Outcome.WriteFailed h b) = record { kind = 4; host = h; block = b; value = 0 }

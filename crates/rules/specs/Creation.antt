@@ -3,56 +3,56 @@ use Rattle.std.specs.Prelude.{ℕ, ◌*◌, Bool, true, not, ◌&&◌, ◌||◌,
 use Rattle.rules.specs.Types.{Epoch, Set, Creation, State, Chunk, Host, Table, Created}
 use Rattle.rules.specs.Built.{blank}
 use Rattle.rules.specs.Codes.{Row, ◌gives◌⨾◌, granted, code_of}
-use Rattle.rules.specs.Hosts.{withWorking}
-use Rattle.rules.specs.Limits.{hostLimit, chunkLimit, blockLimit, placeLimit, greatestClock, up_to, oneTo}
-use Rattle.rules.specs.Tables.{isHost, isChunk, isBlock, setOf}
+use Rattle.rules.specs.Hosts.{with_working}
+use Rattle.rules.specs.Limits.{host_limit, chunk_limit, block_limit, place_limit, greatest_clock, up_to, one_to}
+use Rattle.rules.specs.Tables.{is_host, is_chunk, is_block, set_of}
 use Rattle.rules.specs.Words.{if◌then◌else◌, every, each, numbers}
-use Rattle.rules.specs.Zero.{◌among◌, is_empty, zeroRecord, zeroHost, zeroChunk, zeroPlace, zeroTable}
+use Rattle.rules.specs.Zero.{◌among◌, is_empty, zero_record, zero_host, zero_chunk, zero_place, zero_table}
 
 -- every chunk in the set is one of the store's
-abbrev pub ofStore : Creation → Set → Bool
-ofStore k s = every (λ c. not (c among s) || isChunk k c) (numbers chunkLimit)
+abbrev pub of_store : Creation → Set → Bool
+of_store k s = every (λ c. not (c among s) || is_chunk k c) (numbers chunk_limit)
 
 -- "Each block has a non-empty set of chunks that hold its copies"; a block that the store lacks has none
-abbrev pub isSetOf : Creation → (block : ℕ) → Bool
-isSetOf k b = if isBlock k b then not (is_empty (setOf k b)) && ofStore k (setOf k b) else is_empty (setOf k b)
+abbrev pub is_set_of : Creation → (block : ℕ) → Bool
+is_set_of k b = if is_block k b then not (is_empty (set_of k b)) && of_store k (set_of k b) else is_empty (set_of k b)
 
 -- "1 to 8 hosts, 1 to 8 chunks, 1 to 16 blocks. Each block has a non-empty set of chunks that hold its copies, given at
 -- creation with the age limit (0 to 4,294,967,295)"
-unfoldable pub isCreation : Creation → Bool
-isCreation k =
-    oneTo hostLimit k.hosts && oneTo chunkLimit k.chunks && oneTo blockLimit k.blocks
-    && every (isSetOf k) (numbers blockLimit) && up_to greatestClock k.age
+unfoldable pub is_creation : Creation → Bool
+is_creation k =
+    one_to host_limit k.hosts && one_to chunk_limit k.chunks && one_to block_limit k.blocks
+    && every (is_set_of k) (numbers block_limit) && up_to greatest_clock k.age
 
 -- ---- "Fresh: all values and timestamps 0, queues and network empty, epoch 1, chunks nolease and not lost, hosts working
 -- with map not current and epoch known 0"
 
-abbrev pub firstEpoch : Epoch
-firstEpoch = record { 0 = 1 }
+abbrev pub first_epoch : Epoch
+first_epoch = record { 0 = 1 }
 
-abbrev pub freshChunk : Chunk
-freshChunk = blank State.Nolease firstEpoch
+abbrev pub fresh_chunk : Chunk
+fresh_chunk = blank State.Nolease first_epoch
 
-abbrev pub freshHost : Host
-freshHost = withWorking zeroHost true
+abbrev pub fresh_host : Host
+fresh_host = with_working zero_host true
 
 unfoldable pub fresh : Creation → Table
 fresh k = record {
   creation = k;
-  epoch = firstEpoch;
-  hosts = each (λ h. if isHost k h then freshHost else zeroHost) (numbers hostLimit);
-  chunks = each (λ c. if isChunk k c then freshChunk else zeroChunk) (numbers chunkLimit);
-  records = replicate (chunkLimit * blockLimit) zeroRecord;
-  places = replicate placeLimit zeroPlace;
+  epoch = first_epoch;
+  hosts = each (λ h. if is_host k h then fresh_host else zero_host) (numbers host_limit);
+  chunks = each (λ c. if is_chunk k c then fresh_chunk else zero_chunk) (numbers chunk_limit);
+  records = replicate (chunk_limit * block_limit) zero_record;
+  places = replicate place_limit zero_place;
 }
 
 -- "Any other creation is refused with code 1 and gives no store"
-abbrev pub creationRefusals : Creation → List Row
-creationRefusals k =
-    not (isCreation k) gives 1 ⨾
+abbrev pub creation_refusals : Creation → List Row
+creation_refusals k =
+    not (is_creation k) gives 1 ⨾
     granted
 
 unfoldable pub created : Creation → Created
 created k =
-    if eqb (code_of (creationRefusals k)) 0 then record { table = fresh k; code = 0 }
-    else record { table = zeroTable; code = code_of (creationRefusals k) }
+    if eqb (code_of (creation_refusals k)) 0 then record { table = fresh k; code = 0 }
+    else record { table = zero_table; code = code_of (creation_refusals k) }

@@ -2,21 +2,21 @@
 use Rattle.std.specs.Prelude.{ℕ, Bool, not, ◌&&◌, List, [], get_or, eqb}
 use Rattle.rules.specs.Types.{Epoch, Set, Creation, Record, State, Chunk, Action, Operation, Host, Header, Message, Slot, Table, Arrived, Copy, Event, Operands, Outcome, Answer, Reply}
 use Rattle.rules.specs.declared.Operand.TheVariants.{Unknown as unknown, Unused as unused, Host as aHost, Chunk as aChunk, Block as aBlock, Place as aPlace, Clock as aClock, Now as aTime, Value as aValue}
-use Rattle.rules.specs.Built.{blank, copyWith, operationOf}
-use Rattle.rules.specs.Chunks.{runRefusals, ran, failRefusals, failed, emptied, recoverRefusals, recovered, takeLeaseRefusals, leaseTaken, giveLeaseRefusals, leaseGiven, overdueRefusals, overdue, arrives}
+use Rattle.rules.specs.Built.{blank, copy_with, operation_of}
+use Rattle.rules.specs.Chunks.{run_refusals, ran, fail_refusals, failed, emptied, recover_refusals, recovered, take_lease_refusals, lease_taken, give_lease_refusals, lease_given, overdue_refusals, overdue, arrives}
 use Rattle.rules.specs.Codes.{Row, ◌gives◌⨾◌, granted, code_of}
-use Rattle.rules.specs.Formed.{wellFormed}
-use Rattle.rules.specs.Hosts.{front, intakeRefusals, appended, startRefusals, openingTo, opening, started, finishRefusals, closingTo, closing, finishOutcome, finished, timeoutRefusals, timedOut, workingRefusals, refreshed, stopped, hears}
-use Rattle.rules.specs.Kinds.{isFailed}
-use Rattle.rules.specs.Limits.{chunkLimit, blockLimit, greatestClock}
-use Rattle.rules.specs.Messages.{headed, headerOf, sortOf, asking, isForChunk}
-use Rattle.rules.specs.Network.{freePlaces, removed, howMany, sentToEach, replied, placeRefusals, chunks_of}
-use Rattle.rules.specs.Operands.{◌∥◌∥◌, allInRange}
+use Rattle.rules.specs.Formed.{well_formed}
+use Rattle.rules.specs.Hosts.{front, intake_refusals, appended, start_refusals, opening_to, opening, started, finish_refusals, closing_to, closing, finish_outcome, finished, timeout_refusals, timed_out, working_refusals, refreshed, stopped, hears}
+use Rattle.rules.specs.Kinds.{is_failed}
+use Rattle.rules.specs.Limits.{chunk_limit, block_limit, greatest_clock}
+use Rattle.rules.specs.Messages.{headed, header_of, sort_of, asking, is_for_chunk}
+use Rattle.rules.specs.Network.{free_places, removed, how_many, sent_to_each, replied, place_refusals, chunks_of}
+use Rattle.rules.specs.Operands.{◌∥◌∥◌, all_in_range}
 use Rattle.rules.specs.Settlement.{settled}
-use Rattle.rules.specs.Tables.{isChunk, isBlock, setOf, hostOf, chunk_of, at, recordOf, recordsBy, slot_of, withEpoch, withChunks, withRecords, withPlaces, withHost, withChunk, withRecord}
+use Rattle.rules.specs.Tables.{is_chunk, is_block, set_of, host_of, chunk_of, at, record_of, records_by, slot_of, with_epoch, with_chunks, with_records, with_places, with_host, with_chunk, with_record}
 use Rattle.rules.specs.Timestamps.{stamp, next}
 use Rattle.rules.specs.Words.{if◌then◌else◌, Numbered, ◌⇒◌⨾◌, under, each, every, some, numbers}
-use Rattle.rules.specs.Zero.{◌among◌, noRecord, no_chunk, noCopy}
+use Rattle.rules.specs.Zero.{◌among◌, no_record, no_chunk, no_copy}
 
 -- what a granted event gives: the new table and the outcome
 pub record Effect : Type 0 where
@@ -39,205 +39,205 @@ abbrev pub refused : Table → (code : ℕ) → Answer
 refused t k = record { table = t; code = k; outcome = Outcome.None }
 
 -- the set of the block that a host's front operation is about
-abbrev pub holdersOf : Creation → Host → Set
-holdersOf k h = setOf k (front h).block
+abbrev pub holders_of : Creation → Host → Set
+holders_of k h = set_of k (front h).block
 
 -- "all its waiting entries .. go": the records, with those of one chunk emptied
-abbrev pub withoutWaiting : List Record → (chunk : ℕ) → List Record
-withoutWaiting records chunk =
-    recordsBy (λ c b.
-    let r = get_or records (at c b) noRecord in
+abbrev pub without_waiting : List Record → (chunk : ℕ) → List Record
+without_waiting records chunk =
+    records_by (λ c b.
+    let r = get_or records (at c b) no_record in
     if eqb c chunk then emptied r else r)
 
 module _ (t : Table) where
   -- ---- hosts: intake
 
-  abbrev pub intakeRule : (host : ℕ) → Operation → Rule
-  intakeRule host o = record {
-    refusals = intakeRefusals (hostOf t host);
-    effect = quietly (withHost t host (appended (hostOf t host) o));
+  abbrev pub intake_rule : (host : ℕ) → Operation → Rule
+  intake_rule host o = record {
+    refusals = intake_refusals (host_of t host);
+    effect = quietly (with_host t host (appended (host_of t host) o));
   }
 
   -- "1 read (host, block)"
-  abbrev pub readRule : (host block c : ℕ) → Rule
-  readRule host block _ = intakeRule host (operationOf block Action.Read)
+  abbrev pub read_rule : (host block c : ℕ) → Rule
+  read_rule host block _ = intake_rule host (operation_of block Action.Read)
 
   -- "2 write (host, block, value)"
-  abbrev pub writeRule : (host block value : ℕ) → Rule
-  writeRule host block value = intakeRule host (operationOf block (Action.Write value))
+  abbrev pub write_rule : (host block value : ℕ) → Rule
+  write_rule host block value = intake_rule host (operation_of block (Action.Write value))
 
   -- ---- hosts: start and finish
 
   -- "3 start (host, clock from 1, copy)"
-  abbrev pub startRule : (host clock copy : ℕ) → Rule
-  startRule host clock copy =
-      let h = hostOf t host in
+  abbrev pub start_rule : (host clock copy : ℕ) → Rule
+  start_rule host clock copy =
+      let h = host_of t host in
       let o = front h in
-      let to = openingTo o.action copy (holdersOf t.creation h) in
+      let to = opening_to o.action copy (holders_of t.creation h) in
       let now = stamp clock host in
       record {
-        refusals = startRefusals h clock copy (holdersOf t.creation h) (freePlaces t.places) (howMany to);
-        effect = quietly (withPlaces (withHost t host (started h now clock to))
-            (sentToEach t.places to (λ chunk. asking (headed host chunk o.block now) h.epoch (opening o.action))));
+        refusals = start_refusals h clock copy (holders_of t.creation h) (free_places t.places) (how_many to);
+        effect = quietly (with_places (with_host t host (started h now clock to))
+            (sent_to_each t.places to (λ chunk. asking (headed host chunk o.block now) h.epoch (opening o.action))));
       }
 
   -- "6 finish (host)"
-  abbrev pub finishRule : (host b c : ℕ) → Rule
-  finishRule host _ _ =
-      let h = hostOf t host in
+  abbrev pub finish_rule : (host b c : ℕ) → Rule
+  finish_rule host _ _ =
+      let h = host_of t host in
       let o = front h in
-      let to = closingTo o.action (holdersOf t.creation h) in
+      let to = closing_to o.action (holders_of t.creation h) in
       record {
-        refusals = finishRefusals h (freePlaces t.places) (howMany to);
+        refusals = finish_refusals h (free_places t.places) (how_many to);
         effect = record {
-          table = withPlaces (withHost t host (finished h))
-              (sentToEach t.places to (λ chunk. asking (headed host chunk o.block h.attempt.timestamp) h.epoch (closing h.attempt.okay)));
-          outcome = finishOutcome host h;
+          table = with_places (with_host t host (finished h))
+              (sent_to_each t.places to (λ chunk. asking (headed host chunk o.block h.attempt.timestamp) h.epoch (closing h.attempt.okay)));
+          outcome = finish_outcome host h;
         };
       }
 
   -- ---- hosts: the other events of one host
 
-  abbrev pub hostRule : (host : ℕ) → (Host → List Row) → (Host → Host) → Rule
-  hostRule host refusals change = record {
-    refusals = refusals (hostOf t host);
-    effect = quietly (withHost t host (change (hostOf t host)));
+  abbrev pub host_rule : (host : ℕ) → (Host → List Row) → (Host → Host) → Rule
+  host_rule host refusals change = record {
+    refusals = refusals (host_of t host);
+    effect = quietly (with_host t host (change (host_of t host)));
   }
 
   -- "7 timeout (host)"
-  abbrev pub timeoutRule : (host b c : ℕ) → Rule
-  timeoutRule host _ _ = hostRule host timeoutRefusals timedOut
+  abbrev pub timeout_rule : (host b c : ℕ) → Rule
+  timeout_rule host _ _ = host_rule host timeout_refusals timed_out
 
   -- "8 refresh (host)"
-  abbrev pub refreshRule : (host b c : ℕ) → Rule
-  refreshRule host _ _ = hostRule host workingRefusals (λ h. refreshed h t.epoch)
+  abbrev pub refresh_rule : (host b c : ℕ) → Rule
+  refresh_rule host _ _ = host_rule host working_refusals (λ h. refreshed h t.epoch)
 
   -- "10 stop (host)"
-  abbrev pub stopRule : (host b c : ℕ) → Rule
-  stopRule host _ _ = hostRule host workingRefusals stopped
+  abbrev pub stop_rule : (host b c : ℕ) → Rule
+  stop_rule host _ _ = host_rule host working_refusals stopped
 
   -- ---- the network
 
   -- what a message or a run leaves: the chunk, its record, and the reply, if any, in the network
-  abbrev pub withArrived : (chunk block : ℕ) → Arrived → Table
-  withArrived c b a = withPlaces (withRecord (withChunk t c a.chunk) c b a.held) (replied t.places a.reply)
+  abbrev pub with_arrived : (chunk block : ℕ) → Arrived → Table
+  with_arrived c b a = with_places (with_record (with_chunk t c a.chunk) c b a.held) (replied t.places a.reply)
 
   -- a request at its chunk, and its reply, if any
-  abbrev pub chunkTakes : Header → Message → Table
-  chunkTakes header m =
+  abbrev pub chunk_takes : Header → Message → Table
+  chunk_takes header m =
       let c = header.chunk in
       let b = header.block in
-      withArrived c b (arrives t.creation.blocks (chunk_of t c) (recordOf t c b) m)
+      with_arrived c b (arrives t.creation.blocks (chunk_of t c) (record_of t c b) m)
 
   -- a reply at its host
-  abbrev pub hostTakes : Header → Message → Table
-  hostTakes header m = withHost t header.host (hears (hostOf t header.host) m)
+  abbrev pub host_takes : Header → Message → Table
+  host_takes header m = with_host t header.host (hears (host_of t header.host) m)
 
   abbrev pub takes : Slot → Table
   takes Slot.Empty = t
-  takes (Slot.Full m) = if isForChunk (sortOf m) then chunkTakes (headerOf m) m else hostTakes (headerOf m) m
+  takes (Slot.Full m) = if is_for_chunk (sort_of m) then chunk_takes (header_of m) m else host_takes (header_of m) m
 
 module _ (t : Table) where
-  abbrev pub placeRule : (place : ℕ) → Table → Rule
-  placeRule place after = record {
-    refusals = placeRefusals (slot_of t.places place);
+  abbrev pub place_rule : (place : ℕ) → Table → Rule
+  place_rule place after = record {
+    refusals = place_refusals (slot_of t.places place);
     effect = quietly after;
   }
 
   -- "4 deliver (place)"
-  abbrev pub deliverRule : (place b c : ℕ) → Rule
-  deliverRule place _ _ = placeRule place (takes (withPlaces t (removed t.places place)) (slot_of t.places place))
+  abbrev pub deliver_rule : (place b c : ℕ) → Rule
+  deliver_rule place _ _ = place_rule place (takes (with_places t (removed t.places place)) (slot_of t.places place))
 
   -- "5 drop (place)"
-  abbrev pub dropRule : (place b c : ℕ) → Rule
-  dropRule place _ _ = placeRule place (withPlaces t (removed t.places place))
+  abbrev pub drop_rule : (place b c : ℕ) → Rule
+  drop_rule place _ _ = place_rule place (with_places t (removed t.places place))
 
   -- ---- chunks
 
   -- "9 run (chunk, block)"
-  abbrev pub runRule : (chunk block c : ℕ) → Rule
-  runRule chunk block _ =
+  abbrev pub run_rule : (chunk block c : ℕ) → Rule
+  run_rule chunk block _ =
       let c = chunk_of t chunk in
-      let r = recordOf t chunk block in
+      let r = record_of t chunk block in
       record {
-        refusals = runRefusals c.state r.waiting (freePlaces t.places);
-        effect = quietly (withArrived t chunk block (ran chunk block c r));
+        refusals = run_refusals c.state r.waiting (free_places t.places);
+        effect = quietly (with_arrived t chunk block (ran chunk block c r));
       }
 
   -- "11 fail (chunk)"
-  abbrev pub failRule : (chunk b c : ℕ) → Rule
-  failRule chunk _ _ = record {
-    refusals = failRefusals (chunk_of t chunk).state;
-    effect = quietly (withRecords (withChunk t chunk (failed (chunk_of t chunk))) (withoutWaiting t.records chunk));
+  abbrev pub fail_rule : (chunk b c : ℕ) → Rule
+  fail_rule chunk _ _ = record {
+    refusals = fail_refusals (chunk_of t chunk).state;
+    effect = quietly (with_records (with_chunk t chunk (failed (chunk_of t chunk))) (without_waiting t.records chunk));
   }
 
-  abbrev pub chunkRule : (chunk : ℕ) → (Chunk → List Row) → (Chunk → Chunk) → Rule
-  chunkRule chunk refusals change = record {
+  abbrev pub chunk_rule : (chunk : ℕ) → (Chunk → List Row) → (Chunk → Chunk) → Rule
+  chunk_rule chunk refusals change = record {
     refusals = refusals (chunk_of t chunk);
-    effect = quietly (withChunk t chunk (change (chunk_of t chunk)));
+    effect = quietly (with_chunk t chunk (change (chunk_of t chunk)));
   }
 
   -- "12 recover"
-  abbrev pub recoverRule : (chunk b c : ℕ) → Rule
-  recoverRule chunk _ _ = chunkRule chunk (λ c. recoverRefusals c.state) recovered
+  abbrev pub recover_rule : (chunk b c : ℕ) → Rule
+  recover_rule chunk _ _ = chunk_rule chunk (λ c. recover_refusals c.state) recovered
 
   -- "13 take lease"
-  abbrev pub takeLeaseRule : (chunk b c : ℕ) → Rule
-  takeLeaseRule chunk _ _ = chunkRule chunk (λ c. takeLeaseRefusals c.state) leaseTaken
+  abbrev pub take_lease_rule : (chunk b c : ℕ) → Rule
+  take_lease_rule chunk _ _ = chunk_rule chunk (λ c. take_lease_refusals c.state) lease_taken
 
   -- "14 give lease"
-  abbrev pub giveLeaseRule : (chunk b c : ℕ) → Rule
-  giveLeaseRule chunk _ _ = chunkRule chunk (λ c. giveLeaseRefusals c.state c.lost) leaseGiven
+  abbrev pub give_lease_rule : (chunk b c : ℕ) → Rule
+  give_lease_rule chunk _ _ = chunk_rule chunk (λ c. give_lease_refusals c.state c.lost) lease_given
 
   -- "16 overdue (chunk, block, now 0 to 4,294,967,295)"
-  abbrev pub overdueRule : (chunk block now : ℕ) → Rule
-  overdueRule chunk block now =
-      chunkRule chunk (λ c. overdueRefusals c.state (recordOf t chunk block).waiting now t.creation.age) (λ c. overdue c block)
+  abbrev pub overdue_rule : (chunk block now : ℕ) → Rule
+  overdue_rule chunk block now =
+      chunk_rule chunk (λ c. overdue_refusals c.state (record_of t chunk block).waiting now t.creation.age) (λ c. overdue c block)
 
 -- ---- the epoch change
 
 -- a block's copies, one a chunk
-abbrev pub copyIn : Creation → List Chunk → List Record → (block chunk : ℕ) → Copy
-copyIn k chunks records b c = copyWith (c among setOf k b) (get_or chunks c no_chunk).lost (get_or records (at c b) noRecord)
+abbrev pub copy_in : Creation → List Chunk → List Record → (block chunk : ℕ) → Copy
+copy_in k chunks records b c = copy_with (c among set_of k b) (get_or chunks c no_chunk).lost (get_or records (at c b) no_record)
 
-abbrev pub copiesIn : Creation → List Chunk → List Record → (block : ℕ) → List Copy
-copiesIn k chunks records b = each (copyIn k chunks records b) (numbers chunkLimit)
+abbrev pub copies_in : Creation → List Chunk → List Record → (block : ℕ) → List Copy
+copies_in k chunks records b = each (copy_in k chunks records b) (numbers chunk_limit)
 
-abbrev pub copiesOf : Table → (block : ℕ) → List Copy
-copiesOf t = copiesIn t.creation t.chunks t.records
+abbrev pub copies_of : Table → (block : ℕ) → List Copy
+copies_of t = copies_in t.creation t.chunks t.records
 
-abbrev pub settledIn : Creation → List Chunk → List Record → List Record
-settledIn k chunks records = recordsBy (λ c b. (get_or (settled (copiesIn k chunks records b)) c noCopy).held)
+abbrev pub settled_in : Creation → List Chunk → List Record → List Record
+settled_in k chunks records = records_by (λ c b. (get_or (settled (copies_in k chunks records b)) c no_copy).held)
 
 -- "reconciliation sets and lost marks cleared, the epoch grows by one in every chunk, and every chunk is normal"
 abbrev pub anew : (next : Epoch) → Chunk
 anew next = blank State.Normal next
 
 abbrev pub renewed : Creation → (next : Epoch) → List Chunk → (chunk : ℕ) → Chunk
-renewed k next chunks c = if isChunk k c then anew next else get_or chunks c no_chunk
+renewed k next chunks c = if is_chunk k c then anew next else get_or chunks c no_chunk
 
-abbrev pub epochChanged : Table → Table
-epochChanged t =
+abbrev pub epoch_changed : Table → Table
+epoch_changed t =
     let later = next t.epoch in
-    withEpoch (withChunks (withRecords t
-    (settledIn t.creation t.chunks t.records))
-    (each (renewed t.creation later t.chunks) (numbers chunkLimit)))
+    with_epoch (with_chunks (with_records t
+    (settled_in t.creation t.chunks t.records))
+    (each (renewed t.creation later t.chunks) (numbers chunk_limit)))
     later
 
 -- "every chunk of its set is lost"
-unfoldable pub allLost : Set → List Chunk → Bool
-allLost s chunks = every (λ c. (get_or chunks c no_chunk).lost) (chunks_of s)
+unfoldable pub all_lost : Set → List Chunk → Bool
+all_lost s chunks = every (λ c. (get_or chunks c no_chunk).lost) (chunks_of s)
 
 -- "15 epoch change: no chunk failed (2), then 7, then 6"
-abbrev pub epochRefusals : Creation → Epoch → List Chunk → List Row
-epochRefusals k epoch chunks =
-    some (λ c. isFailed (get_or chunks c no_chunk).state) (numbers chunkLimit) gives 2 ⨾
-    eqb epoch.0 greatestClock gives 7 ⨾
-    some (λ b. isBlock k b && allLost (setOf k b) chunks) (numbers blockLimit) gives 6 ⨾
+abbrev pub epoch_refusals : Creation → Epoch → List Chunk → List Row
+epoch_refusals k epoch chunks =
+    some (λ c. is_failed (get_or chunks c no_chunk).state) (numbers chunk_limit) gives 2 ⨾
+    eqb epoch.0 greatest_clock gives 7 ⨾
+    some (λ b. is_block k b && all_lost (set_of k b) chunks) (numbers block_limit) gives 6 ⨾
     granted
 
-abbrev pub epochRule : Table → (a b c : ℕ) → Rule
-epochRule t _ _ _ = record { refusals = epochRefusals t.creation t.epoch t.chunks; effect = quietly (epochChanged t) }
+abbrev pub epoch_rule : Table → (a b c : ℕ) → Rule
+epoch_rule t _ _ _ = record { refusals = epoch_refusals t.creation t.epoch t.chunks; effect = quietly (epoch_changed t) }
 
 -- ---- the events by their numbers
 
@@ -250,53 +250,53 @@ infix 6 ◌does◌
 abbrev pub ◌does◌ : Operands → (Table → (a b c : ℕ) → Rule) → EventKind
 operands does rule = record { operands = operands; rule = rule }
 
-abbrev pub eventKinds : List (Numbered EventKind)
-eventKinds =
-    1 ⇒ aHost ∥ aBlock ∥ unused does readRule ⨾  -- "read (host, block)"
-    2 ⇒ aHost ∥ aBlock ∥ aValue does writeRule ⨾  -- "write (host, block, value)"
-    3 ⇒ aHost ∥ aClock ∥ aChunk does startRule ⨾  -- "start (host, clock from 1, copy)": "the copy is a chunk's number"
-    4 ⇒ aPlace ∥ unused ∥ unused does deliverRule ⨾  -- "deliver (place)"
-    5 ⇒ aPlace ∥ unused ∥ unused does dropRule ⨾  -- "drop (place)"
-    6 ⇒ aHost ∥ unused ∥ unused does finishRule ⨾  -- "finish (host)"
-    7 ⇒ aHost ∥ unused ∥ unused does timeoutRule ⨾  -- "timeout (host)"
-    8 ⇒ aHost ∥ unused ∥ unused does refreshRule ⨾  -- "refresh (host)"
-    9 ⇒ aChunk ∥ aBlock ∥ unused does runRule ⨾  -- "run (chunk, block)"
-    10 ⇒ aHost ∥ unused ∥ unused does stopRule ⨾  -- "stop (host)"
-    11 ⇒ aChunk ∥ unused ∥ unused does failRule ⨾  -- "fail (chunk)"
-    12 ⇒ aChunk ∥ unused ∥ unused does recoverRule ⨾  -- "recover"
-    13 ⇒ aChunk ∥ unused ∥ unused does takeLeaseRule ⨾  -- "take lease"
-    14 ⇒ aChunk ∥ unused ∥ unused does giveLeaseRule ⨾  -- "give lease"
-    15 ⇒ unused ∥ unused ∥ unused does epochRule ⨾  -- "epoch change"
-    16 ⇒ aChunk ∥ aBlock ∥ aTime does overdueRule ⨾  -- "overdue (chunk, block, now 0 to 4,294,967,295)"
+abbrev pub event_kinds : List (Numbered EventKind)
+event_kinds =
+    1 ⇒ aHost ∥ aBlock ∥ unused does read_rule ⨾  -- "read (host, block)"
+    2 ⇒ aHost ∥ aBlock ∥ aValue does write_rule ⨾  -- "write (host, block, value)"
+    3 ⇒ aHost ∥ aClock ∥ aChunk does start_rule ⨾  -- "start (host, clock from 1, copy)": "the copy is a chunk's number"
+    4 ⇒ aPlace ∥ unused ∥ unused does deliver_rule ⨾  -- "deliver (place)"
+    5 ⇒ aPlace ∥ unused ∥ unused does drop_rule ⨾  -- "drop (place)"
+    6 ⇒ aHost ∥ unused ∥ unused does finish_rule ⨾  -- "finish (host)"
+    7 ⇒ aHost ∥ unused ∥ unused does timeout_rule ⨾  -- "timeout (host)"
+    8 ⇒ aHost ∥ unused ∥ unused does refresh_rule ⨾  -- "refresh (host)"
+    9 ⇒ aChunk ∥ aBlock ∥ unused does run_rule ⨾  -- "run (chunk, block)"
+    10 ⇒ aHost ∥ unused ∥ unused does stop_rule ⨾  -- "stop (host)"
+    11 ⇒ aChunk ∥ unused ∥ unused does fail_rule ⨾  -- "fail (chunk)"
+    12 ⇒ aChunk ∥ unused ∥ unused does recover_rule ⨾  -- "recover"
+    13 ⇒ aChunk ∥ unused ∥ unused does take_lease_rule ⨾  -- "take lease"
+    14 ⇒ aChunk ∥ unused ∥ unused does give_lease_rule ⨾  -- "give lease"
+    15 ⇒ unused ∥ unused ∥ unused does epoch_rule ⨾  -- "epoch change"
+    16 ⇒ aChunk ∥ aBlock ∥ aTime does overdue_rule ⨾  -- "overdue (chunk, block, now 0 to 4,294,967,295)"
     []
 
 -- no number is in range for an "unknown kind"
-abbrev pub unknownKind : EventKind
-unknownKind = unknown ∥ unknown ∥ unknown does (λ t _ _ _. record { refusals = granted; effect = quietly t })
+abbrev pub unknown_kind : EventKind
+unknown_kind = unknown ∥ unknown ∥ unknown does (λ t _ _ _. record { refusals = granted; effect = quietly t })
 
 unfoldable pub kind_of : (number : ℕ) → EventKind
-kind_of = under unknownKind eventKinds
+kind_of = under unknown_kind event_kinds
 
 unfoldable pub ranges : Creation → Event → Bool
-ranges k e = allInRange k (kind_of e.kind).operands e.a e.b e.c
+ranges k e = all_in_range k (kind_of e.kind).operands e.a e.b e.c
 
-unfoldable pub ruleOf : Table → Event → Rule
-ruleOf t e = (kind_of e.kind).rule t e.a e.b e.c
+unfoldable pub rule_of : Table → Event → Rule
+rule_of t e = (kind_of e.kind).rule t e.a e.b e.c
 
 -- ---- the step
 
 -- "Code 8 is looked for first, then ranges (1), then the order in each event"
 unfoldable pub rows : Table → Event → List Row
 rows t e =
-    not (wellFormed t) gives 8 ⨾
+    not (well_formed t) gives 8 ⨾
     not (ranges t.creation e) gives 1 ⨾
-    (ruleOf t e).refusals
+    (rule_of t e).refusals
 
 unfoldable pub step : Table → Event → Answer
 step t e =
     let code = code_of (rows t e) in
-    if eqb code 0 then done (ruleOf t e).effect else refused t code
+    if eqb code 0 then done (rule_of t e).effect else refused t code
 
 -- an answer without its table
-abbrev pub replyOf : Answer → Reply
-replyOf a = record { code = a.code; outcome = a.outcome }
+abbrev pub reply_of : Answer → Reply
+reply_of a = record { code = a.code; outcome = a.outcome }

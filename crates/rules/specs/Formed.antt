@@ -2,112 +2,112 @@
 -- in ascending timestamp order (equal allowed), all chunks have one epoch, the store's, and unused places are zero"
 use Rattle.std.specs.Prelude.{ℕ, ◌-◌, Bool, true, false, not, ◌&&◌, ◌||◌, List, get_or, ltb, leb}
 use Rattle.rules.specs.Types.{Epoch, Creation, Entry, Waiting, Record, Chunk, Operation, Queue, Attempt, Host, Header, Message, Sort, Slot, Table, Place}
-use Rattle.rules.specs.Creation.{isCreation, ofStore}
-use Rattle.rules.specs.Limits.{hostLimit, chunkLimit, blockLimit, operationLimit, waitingLimit, placeLimit, greatestClock, up_to}
-use Rattle.rules.specs.Messages.{headerOf, sortOf}
-use Rattle.rules.specs.Tables.{isHost, isChunk, isBlock, slot_of, at}
-use Rattle.rules.specs.Timestamps.{◌above◌, ◌same◌, never, isTimestamp, isEpoch}
+use Rattle.rules.specs.Creation.{is_creation, of_store}
+use Rattle.rules.specs.Limits.{host_limit, chunk_limit, block_limit, operation_limit, waiting_limit, place_limit, greatest_clock, up_to}
+use Rattle.rules.specs.Messages.{header_of, sort_of}
+use Rattle.rules.specs.Tables.{is_host, is_chunk, is_block, slot_of, at}
+use Rattle.rules.specs.Timestamps.{◌above◌, ◌same◌, never, is_timestamp, is_epoch}
 use Rattle.rules.specs.Words.{if◌then◌else◌, every, numbers}
-use Rattle.rules.specs.Zero.{zeroEntry, isZeroEntry, isZeroRecord, isZeroChunk, zeroOperation, isZeroOperation, isZeroAttempt, isZeroHost, noHost, no_chunk, noRecord}
+use Rattle.rules.specs.Zero.{zero_entry, is_zero_entry, is_zero_record, is_zero_chunk, zero_operation, is_zero_operation, is_zero_attempt, is_zero_host, no_host, no_chunk, no_record}
 
 -- of a message's own numbers the epoch has a range: "the first four also the epoch the host knows"
-abbrev pub sortFormed : Sort → Bool
-sortFormed (Sort.Request epoch q) = isEpoch epoch
-sortFormed (Sort.Refusal x) = true
-sortFormed (Sort.ReadReply v) = true
-sortFormed Sort.PrewriteReply = true
+abbrev pub sort_formed : Sort → Bool
+sort_formed (Sort.Request epoch q) = is_epoch epoch
+sort_formed (Sort.Refusal x) = true
+sort_formed (Sort.ReadReply v) = true
+sort_formed Sort.PrewriteReply = true
 
 module _ (k : Creation) where
   -- ---- a host: "up to 8 operations, counting the current one; .. epoch known; .. last clock drawn"
 
-  abbrev pub operationFormed : Operation → Bool
-  operationFormed o = isBlock k o.block
+  abbrev pub operation_formed : Operation → Bool
+  operation_formed o = is_block k o.block
 
   -- operation i of a queue: one of the count, or an unused place
-  abbrev pub operationAt : Queue → ℕ → Bool
-  operationAt q i =
-      let o = get_or q.operations i zeroOperation in
-      if ltb i q.count then operationFormed o else isZeroOperation o
+  abbrev pub operation_at : Queue → ℕ → Bool
+  operation_at q i =
+      let o = get_or q.operations i zero_operation in
+      if ltb i q.count then operation_formed o else is_zero_operation o
 
-  abbrev pub queueFormed : Queue → Bool
-  queueFormed q = leb q.count operationLimit && every (operationAt q) (numbers operationLimit)
+  abbrev pub queue_formed : Queue → Bool
+  queue_formed q = leb q.count operation_limit && every (operation_at q) (numbers operation_limit)
 
   -- "A host without a current operation has current timestamp, outstanding chunks, okay, restart and result value all zero or
   -- false. With one, the current timestamp is above 0"
-  abbrev pub attemptFormed : (count : ℕ) → Attempt → Bool
-  attemptFormed count a =
-      if a.timestamp above never then leb 1 count && isTimestamp a.timestamp && ofStore k a.outstanding else isZeroAttempt a
+  abbrev pub attempt_formed : (count : ℕ) → Attempt → Bool
+  attempt_formed count a =
+      if a.timestamp above never then leb 1 count && is_timestamp a.timestamp && of_store k a.outstanding else is_zero_attempt a
 
-  abbrev pub hostFormed : Host → Bool
-  hostFormed h =
-      queueFormed h.queue && attemptFormed h.queue.count h.attempt && isEpoch h.epoch && up_to greatestClock h.clock
+  abbrev pub host_formed : Host → Bool
+  host_formed h =
+      queue_formed h.queue && attempt_formed h.queue.count h.attempt && is_epoch h.epoch && up_to greatest_clock h.clock
 
   -- ---- a chunk: "all chunks have one epoch, the store's"; "the set of blocks needing reconciliation"
 
-  abbrev pub chunkFormed : Epoch → Chunk → Bool
-  chunkFormed epoch c =
-      c.epoch same epoch && every (λ b. not (get_or c.reconcile b false) || isBlock k b) (numbers blockLimit)
+  abbrev pub chunk_formed : Epoch → Chunk → Bool
+  chunk_formed epoch c =
+      c.epoch same epoch && every (λ b. not (get_or c.reconcile b false) || is_block k b) (numbers block_limit)
 
   -- ---- a record: "for each block a value, last read, last write, and up to 8 waiting entries in timestamp order"
 
-  abbrev pub entryFormed : Entry → Bool
-  entryFormed e = isTimestamp e.timestamp && isHost k e.sender && isEpoch e.epoch
+  abbrev pub entry_formed : Entry → Bool
+  entry_formed e = is_timestamp e.timestamp && is_host k e.sender && is_epoch e.epoch
 
   -- entry i of a waiting list: one of the count, not below the one ahead of it, or an unused place
-  abbrev pub entryAt : Waiting → ℕ → Bool
-  entryAt w i =
-      let e = get_or w.entries i zeroEntry in
-      let ahead = get_or w.entries (i - 1) zeroEntry in
-      if ltb i w.count then entryFormed e && not (ahead.timestamp above e.timestamp) else isZeroEntry e
+  abbrev pub entry_at : Waiting → ℕ → Bool
+  entry_at w i =
+      let e = get_or w.entries i zero_entry in
+      let ahead = get_or w.entries (i - 1) zero_entry in
+      if ltb i w.count then entry_formed e && not (ahead.timestamp above e.timestamp) else is_zero_entry e
 
-  abbrev pub waitingFormed : Waiting → Bool
-  waitingFormed w = leb w.count waitingLimit && every (entryAt w) (numbers waitingLimit)
+  abbrev pub waiting_formed : Waiting → Bool
+  waiting_formed w = leb w.count waiting_limit && every (entry_at w) (numbers waiting_limit)
 
-  abbrev pub recordFormed : Record → Bool
-  recordFormed r = isTimestamp r.read && isTimestamp r.write && waitingFormed r.waiting
+  abbrev pub record_formed : Record → Bool
+  record_formed r = is_timestamp r.read && is_timestamp r.write && waiting_formed r.waiting
 
   -- ---- a message: "a message's block may be 0 to 15 and a timestamp anything up to 34,359,738,367"
 
-  abbrev pub headerFormed : Header → Bool
-  headerFormed h = isHost k h.host && isChunk k h.chunk && ltb h.block blockLimit && isTimestamp h.timestamp
+  abbrev pub header_formed : Header → Bool
+  header_formed h = is_host k h.host && is_chunk k h.chunk && ltb h.block block_limit && is_timestamp h.timestamp
 
-  abbrev pub messageFormed : Message → Bool
-  messageFormed m = headerFormed (headerOf m) && sortFormed (sortOf m)
+  abbrev pub message_formed : Message → Bool
+  message_formed m = header_formed (header_of m) && sort_formed (sort_of m)
 
-  abbrev pub slotFormed : Slot → Bool
-  slotFormed Slot.Empty = true
-  slotFormed (Slot.Full m) = messageFormed m
+  abbrev pub slot_formed : Slot → Bool
+  slot_formed Slot.Empty = true
+  slot_formed (Slot.Full m) = message_formed m
 
   -- ---- the arrays: a part of the store's is formed, an unused place is zero
 
-  abbrev pub hostAt : ℕ → Host → Bool
-  hostAt i h = if isHost k i then hostFormed h else isZeroHost h
+  abbrev pub host_at : ℕ → Host → Bool
+  host_at i h = if is_host k i then host_formed h else is_zero_host h
 
-  abbrev pub hostsFormed : List Host → Bool
-  hostsFormed hosts = every (λ i. hostAt i (get_or hosts i noHost)) (numbers hostLimit)
+  abbrev pub hosts_formed : List Host → Bool
+  hosts_formed hosts = every (λ i. host_at i (get_or hosts i no_host)) (numbers host_limit)
 
-  abbrev pub chunkAt : Epoch → ℕ → Chunk → Bool
-  chunkAt epoch i c = if isChunk k i then chunkFormed epoch c else isZeroChunk c
+  abbrev pub chunk_at : Epoch → ℕ → Chunk → Bool
+  chunk_at epoch i c = if is_chunk k i then chunk_formed epoch c else is_zero_chunk c
 
-  abbrev pub chunksFormed : Epoch → List Chunk → Bool
-  chunksFormed epoch chunks = every (λ i. chunkAt epoch i (get_or chunks i no_chunk)) (numbers chunkLimit)
+  abbrev pub chunks_formed : Epoch → List Chunk → Bool
+  chunks_formed epoch chunks = every (λ i. chunk_at epoch i (get_or chunks i no_chunk)) (numbers chunk_limit)
 
   -- "A chunk has a record for every block, held or not"
-  abbrev pub recordAt : (chunk block : ℕ) → Record → Bool
-  recordAt c b r = if isChunk k c && isBlock k b then recordFormed r else isZeroRecord r
+  abbrev pub record_at : (chunk block : ℕ) → Record → Bool
+  record_at c b r = if is_chunk k c && is_block k b then record_formed r else is_zero_record r
 
-  abbrev pub recordsFormed : List Record → Bool
-  recordsFormed records = every (λ c. every (λ b. recordAt c b (get_or records (at c b) noRecord)) (numbers blockLimit)) (numbers chunkLimit)
+  abbrev pub records_formed : List Record → Bool
+  records_formed records = every (λ c. every (λ b. record_at c b (get_or records (at c b) no_record)) (numbers block_limit)) (numbers chunk_limit)
 
-  abbrev pub placesFormed : List Place → Bool
-  placesFormed places = every (λ p. slotFormed (slot_of places p)) (numbers placeLimit)
+  abbrev pub places_formed : List Place → Bool
+  places_formed places = every (λ p. slot_formed (slot_of places p)) (numbers place_limit)
 
-unfoldable pub wellFormed : Table → Bool
-wellFormed t =
+unfoldable pub well_formed : Table → Bool
+well_formed t =
     let k = t.creation in
-    isCreation k
-    && isEpoch t.epoch
-    && hostsFormed k t.hosts
-    && chunksFormed k t.epoch t.chunks
-    && recordsFormed k t.records
-    && placesFormed k t.places
+    is_creation k
+    && is_epoch t.epoch
+    && hosts_formed k t.hosts
+    && chunks_formed k t.epoch t.chunks
+    && records_formed k t.records
+    && places_formed k t.places

@@ -4,26 +4,26 @@ use Rattle.rules.specs.Types.{Kind, State, Action, Slot}
 
 -- ---- an entry: "a read, an undecided write, a committed write or an aborted write; a write has its value"
 
-abbrev pub isRead : Kind → Bool
-isRead Kind.Read = true
-isRead (Kind.Undecided v) = false
-isRead (Kind.Committed v) = false
-isRead (Kind.Aborted v) = false
+abbrev pub is_read : Kind → Bool
+is_read Kind.Read = true
+is_read (Kind.Undecided v) = false
+is_read (Kind.Committed v) = false
+is_read (Kind.Aborted v) = false
 
-abbrev pub isUndecided : Kind → Bool
-isUndecided Kind.Read = false
-isUndecided (Kind.Undecided v) = true
-isUndecided (Kind.Committed v) = false
-isUndecided (Kind.Aborted v) = false
+abbrev pub is_undecided : Kind → Bool
+is_undecided Kind.Read = false
+is_undecided (Kind.Undecided v) = true
+is_undecided (Kind.Committed v) = false
+is_undecided (Kind.Aborted v) = false
 
-abbrev pub isAborted : Kind → Bool
-isAborted Kind.Read = false
-isAborted (Kind.Undecided v) = false
-isAborted (Kind.Committed v) = false
-isAborted (Kind.Aborted v) = true
+abbrev pub is_aborted : Kind → Bool
+is_aborted Kind.Read = false
+is_aborted (Kind.Undecided v) = false
+is_aborted (Kind.Committed v) = false
+is_aborted (Kind.Aborted v) = true
 
-abbrev pub isWrite : Kind → Bool
-isWrite k = not (isRead k)
+abbrev pub is_write : Kind → Bool
+is_write k = not (is_read k)
 
 abbrev pub value_of : Kind → ℕ
 value_of Kind.Read = 0
@@ -33,29 +33,29 @@ value_of (Kind.Aborted v) = v
 
 -- ---- a chunk: "normal, nolease or failed"
 
-abbrev pub isNormal : State → Bool
-isNormal State.Normal = true
-isNormal State.Nolease = false
-isNormal State.Failed = false
+abbrev pub is_normal : State → Bool
+is_normal State.Normal = true
+is_normal State.Nolease = false
+is_normal State.Failed = false
 
-abbrev pub isNolease : State → Bool
-isNolease State.Normal = false
-isNolease State.Nolease = true
-isNolease State.Failed = false
+abbrev pub is_nolease : State → Bool
+is_nolease State.Normal = false
+is_nolease State.Nolease = true
+is_nolease State.Failed = false
 
-abbrev pub isFailed : State → Bool
-isFailed State.Normal = false
-isFailed State.Nolease = false
-isFailed State.Failed = true
+abbrev pub is_failed : State → Bool
+is_failed State.Normal = false
+is_failed State.Nolease = false
+is_failed State.Failed = true
 
 -- ---- an operation: a read or a write
 
-abbrev pub isReading : Action → Bool
-isReading Action.Read = true
-isReading (Action.Write v) = false
+abbrev pub is_reading : Action → Bool
+is_reading Action.Read = true
+is_reading (Action.Write v) = false
 
 -- ---- a place of the network
 
-abbrev pub isEmptySlot : Slot → Bool
-isEmptySlot Slot.Empty = true
-isEmptySlot (Slot.Full m) = false
+abbrev pub is_empty_slot : Slot → Bool
+is_empty_slot Slot.Empty = true
+is_empty_slot (Slot.Full m) = false

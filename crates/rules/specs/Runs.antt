@@ -1,13 +1,13 @@
 -- A run, and what was begun in it: told by the events and their answers alone
 use Rattle.std.specs.Prelude.{ℕ, ◌+◌, ◌≡◌, Bool, true, false, not, ◌&&◌, List, [], ◌∷◌, ◌++◌, get_or, drop, eqb}
 use Rattle.rules.specs.Types.{Timestamp, Action, Operation, Host, Table, Event, Outcome, Answer}
-use Rattle.rules.specs.Built.{operationOf}
+use Rattle.rules.specs.Built.{operation_of}
 use Rattle.rules.specs.Events.{step}
-use Rattle.rules.specs.Hosts.{queueOf}
-use Rattle.rules.specs.Kinds.{isReading}
+use Rattle.rules.specs.Hosts.{queue_of}
+use Rattle.rules.specs.Kinds.{is_reading}
 use Rattle.rules.specs.Timestamps.{stamp, never, ◌is◌, ◌above◌}
 use Rattle.rules.specs.Words.{if◌then◌else◌, each, none, fold}
-use Rattle.rules.specs.Zero.{zeroOperation}
+use Rattle.rules.specs.Zero.{zero_operation}
 
 -- ---- a run: any list of events, refused ones too, one after the other
 
@@ -54,18 +54,18 @@ pub record Ledger : Type 0 where
   pub accounts : (host : ℕ) → Account
   pub begun : List Begun
 
-abbrev pub noTaken : Taken
-noTaken = record { number = 0; operation = zeroOperation }
+abbrev pub no_taken : Taken
+no_taken = record { number = 0; operation = zero_operation }
 
 abbrev pub nothing : Ledger
 nothing = record { accounts = λ host. record { count = 0; queue = []; trying = false }; begun = [] }
 
-abbrev pub withAccount : Ledger → (host : ℕ) → Account → Ledger
-withAccount l h x = record { accounts = λ host. if eqb host h then x else l.accounts host; begun = l.begun }
+abbrev pub with_account : Ledger → (host : ℕ) → Account → Ledger
+with_account l h x = record { accounts = λ host. if eqb host h then x else l.accounts host; begun = l.begun }
 
 -- a granted event 1 or 2 takes an operation in
-abbrev pub takenIn : Account → Operation → Account
-takenIn x o = record {
+abbrev pub taken_in : Account → Operation → Account
+taken_in x o = record {
   count = x.count + 1;
   queue = x.queue ++ record { number = x.count; operation = o } ∷ [];
   trying = x.trying;
@@ -76,7 +76,7 @@ abbrev pub tried : Account → Account
 tried x = record { count = x.count; queue = x.queue; trying = true }
 
 abbrev pub attempt : Timestamp → (host : ℕ) → Account → Begun
-attempt t h x = record { timestamp = t; host = h; taken = get_or x.queue 0 noTaken }
+attempt t h x = record { timestamp = t; host = h; taken = get_or x.queue 0 no_taken }
 
 -- a granted event 6 ends it: the operation goes, answered as done or failed, or stays at the front, where the outcome is none
 abbrev pub is_none : Outcome → Bool
@@ -86,8 +86,8 @@ is_none (Outcome.WriteDone h b) = false
 is_none (Outcome.ReadFailed h b) = false
 is_none (Outcome.WriteFailed h b) = false
 
-abbrev pub endedWith : Account → Outcome → Account
-endedWith x o = record { count = x.count; queue = if is_none o then x.queue else drop 1 x.queue; trying = false }
+abbrev pub ended_with : Account → Outcome → Account
+ended_with x o = record { count = x.count; queue = if is_none o then x.queue else drop 1 x.queue; trying = false }
 
 -- "1 read (host, block); 2 write (host, block, value)"; "3 start (host, clock from 1, copy)": the timestamp is clock x 8 + host;
 -- "6 finish (host)". Any other event, and a refused one, changes nothing here
@@ -99,13 +99,13 @@ noted l m =
     let c = m.event.c in
     let x = l.accounts host in
     if not (eqb m.code 0) then l else
-    if eqb kind 1 then withAccount l host (takenIn x (operationOf b Action.Read)) else
-    if eqb kind 2 then withAccount l host (takenIn x (operationOf b (Action.Write c))) else
+    if eqb kind 1 then with_account l host (taken_in x (operation_of b Action.Read)) else
+    if eqb kind 2 then with_account l host (taken_in x (operation_of b (Action.Write c))) else
     if eqb kind 3 then record {
-      accounts = (withAccount l host (tried x)).accounts;
+      accounts = (with_account l host (tried x)).accounts;
       begun = l.begun ++ attempt (stamp b host) host x ∷ [];
     } else
-    if eqb kind 6 then withAccount l host (endedWith x m.outcome) else
+    if eqb kind 6 then with_account l host (ended_with x m.outcome) else
     l
 
 unfoldable pub ledger : List Told → Ledger
@@ -116,22 +116,22 @@ abbrev pub begun : List Told → List Begun
 begun ms = (ledger ms).begun
 
 -- a host's last attempt
-abbrev pub noAttempt : Begun
-noAttempt = record { timestamp = never; host = 0; taken = noTaken }
+abbrev pub no_attempt : Begun
+no_attempt = record { timestamp = never; host = 0; taken = no_taken }
 
 unfoldable pub last_of : (host : ℕ) → List Begun → Begun
-last_of h l = fold (λ last x. if eqb x.host h then x else last) noAttempt l
+last_of h l = fold (λ last x. if eqb x.host h then x else last) no_attempt l
 
 -- ---- the table agrees with it
 
 -- a host of the table agrees with its account and its last attempt
 pub record Agrees (host : ℕ) (x : Account) (last : Begun) (h : Host) : Type 0 where
   -- its queue holds the operations that it still has, in their order, and no others
-  pub queue : h.queue ≡ queueOf (each (λ o. o.operation) x.queue)
+  pub queue : h.queue ≡ queue_of (each (λ o. o.operation) x.queue)
   -- its current timestamp is its last attempt's while that has not ended, and 0 otherwise
   pub timestamp : h.attempt.timestamp ≡ (if x.trying then last.timestamp else never)
   -- and 0 only then: the attempt has a timestamp above 0; it is the host's own, at the front operation
-  pub current : x.trying ≡ true → (last.timestamp above never ≡ true) × (last.host ≡ host) × (last.taken ≡ get_or x.queue 0 noTaken)
+  pub current : x.trying ≡ true → (last.timestamp above never ≡ true) × (last.host ≡ host) × (last.taken ≡ get_or x.queue 0 no_taken)
 
 -- timestamps that are above 0 and all different
 unfoldable pub distinct : List Timestamp → Bool
@@ -139,9 +139,9 @@ distinct [] = true
 distinct (t ∷ ts) = t above never && none (λ u. u is t) ts && distinct ts
 
 -- an outcome tells of an attempt: its host, its block, and whether it reads or writes; none tells of nothing
-abbrev pub tellsOf : Begun → Outcome → Bool
-tellsOf x Outcome.None = true
-tellsOf x (Outcome.ReadDone h b v) = eqb x.host h && eqb x.taken.operation.block b && isReading x.taken.operation.action
-tellsOf x (Outcome.WriteDone h b) = eqb x.host h && eqb x.taken.operation.block b && not (isReading x.taken.operation.action)
-tellsOf x (Outcome.ReadFailed h b) = eqb x.host h && eqb x.taken.operation.block b && isReading x.taken.operation.action
-tellsOf x (Outcome.WriteFailed h b) = eqb x.host h && eqb x.taken.operation.block b && not (isReading x.taken.operation.action)
+abbrev pub tells_of : Begun → Outcome → Bool
+tells_of x Outcome.None = true
+tells_of x (Outcome.ReadDone h b v) = eqb x.host h && eqb x.taken.operation.block b && is_reading x.taken.operation.action
+tells_of x (Outcome.WriteDone h b) = eqb x.host h && eqb x.taken.operation.block b && not (is_reading x.taken.operation.action)
+tells_of x (Outcome.ReadFailed h b) = eqb x.host h && eqb x.taken.operation.block b && is_reading x.taken.operation.action
+tells_of x (Outcome.WriteFailed h b) = eqb x.host h && eqb x.taken.operation.block b && not (is_reading x.taken.operation.action)

@@ -1,16 +1,16 @@
 -- What zero is for each type: numbers 0, bools false, an enum's first case. Unused places hold it
 use Rattle.std.specs.Prelude.{ℕ, ◌*◌, Bool, false, ◌&&◌, not, [], get_or, replicate, eqb}
 use Rattle.rules.specs.Types.{Set, Creation, Kind, Entry, Waiting, Record, State, Chunk, Action, Operation, Queue, Attempt, Host, Slot, Place, Table, Copy}
-use Rattle.rules.specs.Built.{creationOf, entryWith, blank, copyWith, operationOf}
-use Rattle.rules.specs.Kinds.{isRead, isNormal, isReading}
-use Rattle.rules.specs.Limits.{hostLimit, chunkLimit, blockLimit, operationLimit, waitingLimit, placeLimit}
-use Rattle.rules.specs.Timestamps.{never, noEpoch, ◌is◌, ◌same◌}
+use Rattle.rules.specs.Built.{creation_of, entry_with, blank, copy_with, operation_of}
+use Rattle.rules.specs.Kinds.{is_read, is_normal, is_reading}
+use Rattle.rules.specs.Limits.{host_limit, chunk_limit, block_limit, operation_limit, waiting_limit, place_limit}
+use Rattle.rules.specs.Timestamps.{never, no_epoch, ◌is◌, ◌same◌}
 use Rattle.rules.specs.Words.{none, every, numbers}
 
 -- ---- a set of chunks
 
-abbrev pub zeroSet : Set
-zeroSet = record { chunks = replicate chunkLimit false }
+abbrev pub zero_set : Set
+zero_set = record { chunks = replicate chunk_limit false }
 
 -- chunk c is in the set
 infix 40 ◌among◌
@@ -18,104 +18,104 @@ abbrev pub ◌among◌ : ℕ → Set → Bool
 c among s = get_or s.chunks c false
 
 abbrev pub is_empty : Set → Bool
-is_empty s = none (λ c. c among s) (numbers chunkLimit)
+is_empty s = none (λ c. c among s) (numbers chunk_limit)
 
 -- ---- an entry, a waiting list, a record
 
-abbrev pub zeroEntry : Entry
-zeroEntry = entryWith never 0 noEpoch Kind.Read
+abbrev pub zero_entry : Entry
+zero_entry = entry_with never 0 no_epoch Kind.Read
 
-abbrev pub isZeroEntry : Entry → Bool
-isZeroEntry e = e.timestamp is never && eqb e.sender 0 && e.epoch same noEpoch && isRead e.kind
+abbrev pub is_zero_entry : Entry → Bool
+is_zero_entry e = e.timestamp is never && eqb e.sender 0 && e.epoch same no_epoch && is_read e.kind
 
-abbrev pub zeroWaiting : Waiting
-zeroWaiting = record { count = 0; entries = replicate waitingLimit zeroEntry }
+abbrev pub zero_waiting : Waiting
+zero_waiting = record { count = 0; entries = replicate waiting_limit zero_entry }
 
-abbrev pub zeroRecord : Record
-zeroRecord = record { value = 0; read = never; write = never; waiting = zeroWaiting }
+abbrev pub zero_record : Record
+zero_record = record { value = 0; read = never; write = never; waiting = zero_waiting }
 
-abbrev pub isZeroRecord : Record → Bool
-isZeroRecord r =
+abbrev pub is_zero_record : Record → Bool
+is_zero_record r =
     eqb r.value 0 && r.read is never && r.write is never && eqb r.waiting.count 0
-    && every (λ i. isZeroEntry (get_or r.waiting.entries i zeroEntry)) (numbers waitingLimit)
+    && every (λ i. is_zero_entry (get_or r.waiting.entries i zero_entry)) (numbers waiting_limit)
 
 -- ---- a chunk
 
-abbrev pub zeroChunk : Chunk
-zeroChunk = blank State.Normal noEpoch
+abbrev pub zero_chunk : Chunk
+zero_chunk = blank State.Normal no_epoch
 
-abbrev pub isZeroChunk : Chunk → Bool
-isZeroChunk c =
-    isNormal c.state && not c.lost && c.epoch same noEpoch
-    && none (λ b. get_or c.reconcile b false) (numbers blockLimit)
+abbrev pub is_zero_chunk : Chunk → Bool
+is_zero_chunk c =
+    is_normal c.state && not c.lost && c.epoch same no_epoch
+    && none (λ b. get_or c.reconcile b false) (numbers block_limit)
 
 -- ---- an operation, an attempt, a host
 
-abbrev pub zeroOperation : Operation
-zeroOperation = operationOf 0 Action.Read
+abbrev pub zero_operation : Operation
+zero_operation = operation_of 0 Action.Read
 
-abbrev pub isZeroOperation : Operation → Bool
-isZeroOperation o = eqb o.block 0 && isReading o.action
+abbrev pub is_zero_operation : Operation → Bool
+is_zero_operation o = eqb o.block 0 && is_reading o.action
 
-abbrev pub zeroQueue : Queue
-zeroQueue = record { count = 0; operations = replicate operationLimit zeroOperation }
+abbrev pub zero_queue : Queue
+zero_queue = record { count = 0; operations = replicate operation_limit zero_operation }
 
 -- "current timestamp, outstanding chunks, okay, restart and result value all zero or false"
-abbrev pub zeroAttempt : Attempt
-zeroAttempt = record { timestamp = never; outstanding = zeroSet; okay = false; restart = false; result = 0 }
+abbrev pub zero_attempt : Attempt
+zero_attempt = record { timestamp = never; outstanding = zero_set; okay = false; restart = false; result = 0 }
 
-abbrev pub isZeroAttempt : Attempt → Bool
-isZeroAttempt a = a.timestamp is never && is_empty a.outstanding && not a.okay && not a.restart && eqb a.result 0
+abbrev pub is_zero_attempt : Attempt → Bool
+is_zero_attempt a = a.timestamp is never && is_empty a.outstanding && not a.okay && not a.restart && eqb a.result 0
 
-abbrev pub zeroHost : Host
-zeroHost = record { working = false; queue = zeroQueue; attempt = zeroAttempt; epoch = noEpoch; mapped = false; clock = 0 }
+abbrev pub zero_host : Host
+zero_host = record { working = false; queue = zero_queue; attempt = zero_attempt; epoch = no_epoch; mapped = false; clock = 0 }
 
-abbrev pub isZeroHost : Host → Bool
-isZeroHost h =
+abbrev pub is_zero_host : Host → Bool
+is_zero_host h =
     not h.working && eqb h.queue.count 0
-    && every (λ i. isZeroOperation (get_or h.queue.operations i zeroOperation)) (numbers operationLimit)
-    && isZeroAttempt h.attempt && h.epoch same noEpoch && not h.mapped && eqb h.clock 0
+    && every (λ i. is_zero_operation (get_or h.queue.operations i zero_operation)) (numbers operation_limit)
+    && is_zero_attempt h.attempt && h.epoch same no_epoch && not h.mapped && eqb h.clock 0
 
 -- ---- a place of the network: empty
 
-abbrev pub zeroPlace : Place
-zeroPlace = record { slot = Slot.Empty }
+abbrev pub zero_place : Place
+zero_place = record { slot = Slot.Empty }
 
 -- ---- the whole table
 
-abbrev pub zeroCreation : Creation
-zeroCreation = creationOf 0 0 0 0 (replicate blockLimit zeroSet)
+abbrev pub zero_creation : Creation
+zero_creation = creation_of 0 0 0 0 (replicate block_limit zero_set)
 
-abbrev pub zeroTable : Table
-zeroTable = record {
-  creation = zeroCreation;
-  epoch = noEpoch;
-  hosts = replicate hostLimit zeroHost;
-  chunks = replicate chunkLimit zeroChunk;
-  records = replicate (chunkLimit * blockLimit) zeroRecord;
-  places = replicate placeLimit zeroPlace;
+abbrev pub zero_table : Table
+zero_table = record {
+  creation = zero_creation;
+  epoch = no_epoch;
+  hosts = replicate host_limit zero_host;
+  chunks = replicate chunk_limit zero_chunk;
+  records = replicate (chunk_limit * block_limit) zero_record;
+  places = replicate place_limit zero_place;
 }
 
--- ---- beyond an array's end: zero, with arrays of no places. No rule looks there on a well-formed table
+-- ---- beyond an array's end: zero, with arrays of no places. No rule looks there on a well_formed_lem table
 
-abbrev pub noSet : Set
-noSet = record { chunks = [] }
+abbrev pub no_set : Set
+no_set = record { chunks = [] }
 
-abbrev pub noRecord : Record
-noRecord = record { value = 0; read = never; write = never; waiting = record { count = 0; entries = [] } }
+abbrev pub no_record : Record
+no_record = record { value = 0; read = never; write = never; waiting = record { count = 0; entries = [] } }
 
-abbrev pub noCopy : Copy
-noCopy = copyWith false false noRecord
+abbrev pub no_copy : Copy
+no_copy = copy_with false false no_record
 
 abbrev pub no_chunk : Chunk
-no_chunk = record { state = State.Normal; lost = false; epoch = noEpoch; reconcile = [] }
+no_chunk = record { state = State.Normal; lost = false; epoch = no_epoch; reconcile = [] }
 
-abbrev pub noHost : Host
-noHost = record {
+abbrev pub no_host : Host
+no_host = record {
   working = false;
   queue = record { count = 0; operations = [] };
-  attempt = record { timestamp = never; outstanding = noSet; okay = false; restart = false; result = 0 };
-  epoch = noEpoch;
+  attempt = record { timestamp = never; outstanding = no_set; okay = false; restart = false; result = 0 };
+  epoch = no_epoch;
   mapped = false;
   clock = 0;
 }

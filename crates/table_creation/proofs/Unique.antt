@@ -1,6 +1,6 @@
 -- Each public function's promise determines its answer
 use Rattle.rules.proofs.Unique.{unique, Determined}
-use Rattle.table_creation.proofs.create.Reads as create-contract
+use Rattle.table_creation.proofs.create.Reads as create_contract
 
-create-unique : Determined create-contract.Learnt
-create-unique κs a x y s u = unique
+create_unique : Determined create_contract.Learnt
+create_unique κs a x y s u = unique

@@ -5,15 +5,15 @@ use Rattle.rules.specs.declared.Creation.{Creation}
 use Rattle.rules.specs.declared.Chunk.{Chunk}
 use Rattle.rules.specs.declared.Host.{Host}
 use Rattle.rules.specs.declared.Table.{Table}
-use Rattle.rules.specs.Limits.{chunkLimit, blockLimit, placeLimit}
-use Rattle.rules.specs.Zero.{zeroRecord, zeroPlace}
+use Rattle.rules.specs.Limits.{chunk_limit, block_limit, place_limit}
+use Rattle.rules.specs.Zero.{zero_record, zero_place}
 
-abbrev pub emptyTable : Creation → Epoch → List Host → List Chunk → Table
-emptyTable k epoch hosts chunks = record {
+abbrev pub empty_table : Creation → Epoch → List Host → List Chunk → Table
+empty_table k epoch hosts chunks = record {
   creation = k;
   epoch = epoch;
   hosts = hosts;
   chunks = chunks;
-  records = replicate (chunkLimit * blockLimit) zeroRecord;
-  places = replicate placeLimit zeroPlace;
+  records = replicate (chunk_limit * block_limit) zero_record;
+  places = replicate place_limit zero_place;
 }

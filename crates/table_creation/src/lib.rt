@@ -1,14 +1,14 @@
 // What a created store begins with: fresh parts, and zero in unused places.
 ghost use Rattle.std.specs.Prelude.{◌≡◌, true};
-ghost use Rattle.rules.specs.Creation.{isCreation, fresh, created};
-ghost use Rattle.rules.specs.Zero.{zeroTable};
-ghost use Rattle.table_creation.specs.Fresh.{emptyTable};
+ghost use Rattle.rules.specs.Creation.{is_creation, fresh, created};
+ghost use Rattle.rules.specs.Zero.{zero_table};
+ghost use Rattle.table_creation.specs.Fresh.{empty_table};
 
 use rules::{Chunk, Created, Creation, Epoch, Host, Place, Slot, State, Table};
 
 // "hosts working with map not current and epoch known 0".
 fn fresh_hosts(k: Creation) -> [Host; rules::HOSTS]
-    requires { isCreation k ≡ true }
+    requires { is_creation k ≡ true }
     ensures { result ≡ (fresh k).hosts }
 {
     let unused = table_zero::host();
@@ -26,7 +26,7 @@ fn fresh_hosts(k: Creation) -> [Host; rules::HOSTS]
 
 // "epoch 1, chunks nolease and not lost".
 fn fresh_chunks(k: Creation) -> [Chunk; rules::CHUNKS]
-    requires { isCreation k ≡ true }
+    requires { is_creation k ≡ true }
     ensures { result ≡ (fresh k).chunks }
 {
     let unused = table_zero::chunk();
@@ -54,7 +54,7 @@ fn empty(
     hosts: [Host; rules::HOSTS],
     chunks: [Chunk; rules::CHUNKS],
 ) -> Table
-    ensures { result ≡ emptyTable k epoch hosts chunks }
+    ensures { result ≡ empty_table k epoch hosts chunks }
 {
     let r = table_zero::record();
     let p = Place { slot: Slot::Empty };
@@ -69,7 +69,7 @@ fn empty(
 }
 
 fn fresh(k: Creation) -> Table
-    requires { isCreation k ≡ true }
+    requires { is_creation k ≡ true }
     ensures { result ≡ fresh k }
 {
     let hosts = fresh_hosts(k);
@@ -79,7 +79,7 @@ fn fresh(k: Creation) -> Table
 
 // A refused creation "gives no store": a table of zeros.
 fn no_store() -> Table
-    ensures { result ≡ zeroTable }
+    ensures { result ≡ zero_table }
 {
     let k = table_zero::creation();
     let h = table_zero::host();

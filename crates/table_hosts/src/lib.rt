@@ -1,13 +1,13 @@
 // A host of a lent table, read and written where it lies.
 ghost use Rattle.std.specs.Prelude.{◌≡◌, get_or};
-ghost use Rattle.rules.specs.Tables.{withHost};
-ghost use Rattle.rules.specs.Zero.{zeroHost};
+ghost use Rattle.rules.specs.Tables.{with_host};
+ghost use Rattle.rules.specs.Zero.{zero_host};
 
 use rules::{Host, Table};
 
 // Beyond the last host there is none: zero.
 pub fn host_in(t: &Table, i: u64) -> Host
-    ensures { result ≡ get_or t.now.hosts i zeroHost }
+    ensures { result ≡ get_or t.now.hosts i zero_host }
 {
     let k = i as usize;
     if k < rules::HOSTS {
@@ -18,7 +18,7 @@ pub fn host_in(t: &Table, i: u64) -> Host
 
 // Beyond the last host nothing is written.
 pub fn put_host(t: &mut Table, i: u64, x: Host)
-    ensures { t.new ≡ withHost t.old i x }
+    ensures { t.new ≡ with_host t.old i x }
 {
     let at = i as usize;
     if at < rules::HOSTS {

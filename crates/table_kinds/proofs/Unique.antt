@@ -1,22 +1,22 @@
 -- Each public function's promise determines its answer
 use Rattle.rules.proofs.Unique.{unique, Determined}
-use Rattle.table_kinds.proofs.is_read.Reads as is-read-contract
-use Rattle.table_kinds.proofs.is_aborted.Reads as is-aborted-contract
-use Rattle.table_kinds.proofs.value_of.Reads as value-of-contract
-use Rattle.table_kinds.proofs.is_normal.Reads as is-normal-contract
-use Rattle.table_kinds.proofs.is_reading.Reads as is-reading-contract
+use Rattle.table_kinds.proofs.is_read.Reads as is_read_contract
+use Rattle.table_kinds.proofs.is_aborted.Reads as is_aborted_contract
+use Rattle.table_kinds.proofs.value_of.Reads as value_of_contract
+use Rattle.table_kinds.proofs.is_normal.Reads as is_normal_contract
+use Rattle.table_kinds.proofs.is_reading.Reads as is_reading_contract
 
-is-read-unique : Determined is-read-contract.Learnt
-is-read-unique κs a x y s u = unique
+is_read_unique : Determined is_read_contract.Learnt
+is_read_unique κs a x y s u = unique
 
-is-aborted-unique : Determined is-aborted-contract.Learnt
-is-aborted-unique κs a x y s u = unique
+is_aborted_unique : Determined is_aborted_contract.Learnt
+is_aborted_unique κs a x y s u = unique
 
-value-of-unique : Determined value-of-contract.Learnt
-value-of-unique κs a x y s u = unique
+value_of_unique : Determined value_of_contract.Learnt
+value_of_unique κs a x y s u = unique
 
-is-normal-unique : Determined is-normal-contract.Learnt
-is-normal-unique κs a x y s u = unique
+is_normal_unique : Determined is_normal_contract.Learnt
+is_normal_unique κs a x y s u = unique
 
-is-reading-unique : Determined is-reading-contract.Learnt
-is-reading-unique κs a x y s u = unique
+is_reading_unique : Determined is_reading_contract.Learnt
+is_reading_unique κs a x y s u = unique

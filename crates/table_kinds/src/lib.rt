@@ -1,12 +1,12 @@
 // What an entry, a chunk's state or an operation is: an enum looked at case by case.
 ghost use Rattle.std.specs.Prelude.{◌≡◌};
-ghost use Rattle.rules.specs.Kinds.{isRead, isAborted, value_of, isNormal, isReading};
+ghost use Rattle.rules.specs.Kinds.{is_read, is_aborted, value_of, is_normal, is_reading};
 
 use rules::{Action, Kind, State};
 
 // A waiting entry is a read, or a write that is undecided, committed or aborted.
 pub fn is_read(k: Kind) -> bool
-    ensures { result ≡ isRead k }
+    ensures { result ≡ is_read k }
 {
     match k {
         Kind::Read => true,
@@ -17,7 +17,7 @@ pub fn is_read(k: Kind) -> bool
 }
 
 pub fn is_aborted(k: Kind) -> bool
-    ensures { result ≡ isAborted k }
+    ensures { result ≡ is_aborted k }
 {
     match k {
         Kind::Read => false,
@@ -41,7 +41,7 @@ pub fn value_of(k: Kind) -> u64
 
 // The chunk has its lease.
 pub fn is_normal(state: State) -> bool
-    ensures { result ≡ isNormal state }
+    ensures { result ≡ is_normal state }
 {
     match state {
         State::Normal => true,
@@ -52,7 +52,7 @@ pub fn is_normal(state: State) -> bool
 
 // An operation is a read or a write.
 pub fn is_reading(a: Action) -> bool
-    ensures { result ≡ isReading a }
+    ensures { result ≡ is_reading a }
 {
     match a {
         Action::Read => true,

@@ -14,8 +14,8 @@ use borrow.Struct.Behind.{put_at}
 use borrow.Struct.Items.{cut-records}
 use borrow.Struct.Inner.{Cut-record}
 use lib.Seq.{set-get_or, set_out}
-use Rattle.rules.specs.Tables.{withEpoch, withHosts, withChunks, withRecords, withPlaces}
-use Rattle.rules.specs.Zero.{zeroHost, zeroChunk, zeroRecord, zeroPlace}
+use Rattle.rules.specs.Tables.{with_epoch, with_hosts, with_chunks, with_records, with_places}
+use Rattle.rules.specs.Zero.{zero_host, zero_chunk, zero_record, zero_place}
 use Rattle.rules.specs.contracts.Table as TableR
 use Rattle.rules.proofs.Table.TheLaws as TableL
 use Rattle.rules.specs.declared.Table.{Table}
@@ -34,122 +34,122 @@ use Rattle.table_lent.proofs.Hole.{Hole, within, element, sized}
 
 -- ---- creation
 module _ {M : Type 1} {𝓤 : Ura M} (𝓛 : Logic 𝓤) (q : Share) where
-  pub creation-hole : (h : Table) (b o : ℕ) → Hole 𝓛 q TableR.the_row CreationR.the_row h h h.creation h.creation b o (o + 0)
-  creation-hole h b o =
+  pub creation_hole : (h : Table) (b o : ℕ) → Hole 𝓛 q TableR.the_row CreationR.the_row h h h.creation h.creation b o (o + 0)
+  creation_hole h b o =
       Cut-record 𝓛 q TableR.the_row CreationR.the_type 0 h h h.creation h.creation (b, o)
       (put_at 𝓛 q TableR.the_type TableL.the_laws 0 0 refl refl (b, o) h h ((TableR.struct).as_values h) h.creation refl refl)
 
 -- ---- epoch
 module _ {M : Type 1} {𝓤 : Ura M} (𝓛 : Logic 𝓤) (q : Share) where
-  pub epoch-hole : (h : Table) (x : Epoch) (b o : ℕ) → Hole 𝓛 q TableR.the_row EpochR.the_row h (withEpoch h x) h.epoch x b o (o + 160)
-  epoch-hole h x b o =
-      Cut-record 𝓛 q TableR.the_row EpochR.the_type 160 h (withEpoch h x) h.epoch x (b, o)
-      (put_at 𝓛 q TableR.the_type TableL.the_laws 1 160 refl refl (b, o) h (withEpoch h x) ((TableR.struct).as_values h) x refl refl)
+  pub epoch_hole : (h : Table) (x : Epoch) (b o : ℕ) → Hole 𝓛 q TableR.the_row EpochR.the_row h (with_epoch h x) h.epoch x b o (o + 160)
+  epoch_hole h x b o =
+      Cut-record 𝓛 q TableR.the_row EpochR.the_type 160 h (with_epoch h x) h.epoch x (b, o)
+      (put_at 𝓛 q TableR.the_type TableL.the_laws 1 160 refl refl (b, o) h (with_epoch h x) ((TableR.struct).as_values h) x refl refl)
 
 -- ---- hosts
 abbrev pub hosts-at : ℕ → ℕ → ℕ
 hosts-at o k = at (o + 168) 264 k
 
-pub host-same : (h : Table) (k : ℕ) → withHosts h (set h.hosts k (get_or h.hosts k zeroHost)) ≡ h
-host-same h k = ap (withHosts h) (set-get_or h.hosts k zeroHost)
+pub host-same : (h : Table) (k : ℕ) → with_hosts h (set h.hosts k (get_or h.hosts k zero_host)) ≡ h
+host-same h k = ap (with_hosts h) (set-get_or h.hosts k zero_host)
 
-pub host-beyond : (h : Table) (k : ℕ) → length h.hosts ≡ 8 → 8 ≤ k → zeroHost ≡ get_or h.hosts k zeroHost
-host-beyond h k l le = sym (get_or-eq_default h.hosts zeroHost (subst (λ (j : ℕ). j ≤ k) (sym l) le))
+pub host-beyond : (h : Table) (k : ℕ) → length h.hosts ≡ 8 → 8 ≤ k → zero_host ≡ get_or h.hosts k zero_host
+host-beyond h k l le = sym (get_or-eq_default h.hosts zero_host (subst (λ (j : ℕ). j ≤ k) (sym l) le))
 
-pub host-unset : (h : Table) (k : ℕ) (x : Host) → length h.hosts ≡ 8 → 8 ≤ k → h ≡ withHosts h (set h.hosts k x)
-host-unset h k x l le = sym (ap (withHosts h) (set_out h.hosts k x (subst (λ (j : ℕ). j ≤ k) (sym l) le)))
+pub host_unset : (h : Table) (k : ℕ) (x : Host) → length h.hosts ≡ 8 → 8 ≤ k → h ≡ with_hosts h (set h.hosts k x)
+host_unset h k x l le = sym (ap (with_hosts h) (set_out h.hosts k x (subst (λ (j : ℕ). j ≤ k) (sym l) le)))
 
 module _ {M : Type 1} {𝓤 : Ura M} (𝓛 : Logic 𝓤) (q : Share) where
-  hosts-hole : (h : Table) (xs : List Host) (b o : ℕ) → Hole 𝓛 q TableR.the_row (Array HostR.the_row 8) h (withHosts h xs) h.hosts xs b o (o + 168)
-  hosts-hole h xs b o =
-      cut-records 𝓛 q TableR.the_row HostR.the_type 8 168 h (withHosts h xs) h.hosts xs (b, o)
-      (put_at 𝓛 q TableR.the_type TableL.the_laws 2 168 refl refl (b, o) h (withHosts h xs) ((TableR.struct).as_values h) xs refl refl)
+  hosts_hole : (h : Table) (xs : List Host) (b o : ℕ) → Hole 𝓛 q TableR.the_row (Array HostR.the_row 8) h (with_hosts h xs) h.hosts xs b o (o + 168)
+  hosts_hole h xs b o =
+      cut-records 𝓛 q TableR.the_row HostR.the_type 8 168 h (with_hosts h xs) h.hosts xs (b, o)
+      (put_at 𝓛 q TableR.the_type TableL.the_laws 2 168 refl refl (b, o) h (with_hosts h xs) ((TableR.struct).as_values h) xs refl refl)
 
-  pub host-hole : (h : Table) (k : ℕ) (x : Host) (b o : ℕ) → k < 8 → Hole 𝓛 q TableR.the_row HostR.the_row h (withHosts h (set h.hosts k x)) (get_or h.hosts k zeroHost) x b o (hosts-at o k)
-  host-hole h k x b o lt =
-      within 𝓛 q TableR.the_row (Array HostR.the_row 8) HostR.the_row h (withHosts h (set h.hosts k x)) h.hosts (set h.hosts k x) (get_or h.hosts k zeroHost) x b o (o + 168) (hosts-at o k)
-      (hosts-hole h (set h.hosts k x) b o) (element 𝓛 q HostR.the_row tt 8 h.hosts k zeroHost x b (o + 168) lt)
+  pub host_hole : (h : Table) (k : ℕ) (x : Host) (b o : ℕ) → k < 8 → Hole 𝓛 q TableR.the_row HostR.the_row h (with_hosts h (set h.hosts k x)) (get_or h.hosts k zero_host) x b o (hosts-at o k)
+  host_hole h k x b o lt =
+      within 𝓛 q TableR.the_row (Array HostR.the_row 8) HostR.the_row h (with_hosts h (set h.hosts k x)) h.hosts (set h.hosts k x) (get_or h.hosts k zero_host) x b o (o + 168) (hosts-at o k)
+      (hosts_hole h (set h.hosts k x) b o) (element 𝓛 q HostR.the_row tt 8 h.hosts k zero_host x b (o + 168) lt)
 
   pub hosts-sized : (h : Table) (b o : ℕ) → ent 𝓤 (sem 𝓛 (part_at TableR.the_row q h b o)) (guard 𝓤 (length h.hosts ≡ 8) (sem 𝓛 (part_at TableR.the_row q h b o)))
-  hosts-sized h b o = sized 𝓛 q TableR.the_row HostR.the_row tt 8 h h.hosts b o (o + 168) (hosts-hole h h.hosts b o)
+  hosts-sized h b o = sized 𝓛 q TableR.the_row HostR.the_row tt 8 h h.hosts b o (o + 168) (hosts_hole h h.hosts b o)
 
 -- ---- chunks
 abbrev pub chunks-at : ℕ → ℕ → ℕ
 chunks-at o k = at (o + 2280) 32 k
 
-pub chunk-same : (h : Table) (k : ℕ) → withChunks h (set h.chunks k (get_or h.chunks k zeroChunk)) ≡ h
-chunk-same h k = ap (withChunks h) (set-get_or h.chunks k zeroChunk)
+pub chunk-same : (h : Table) (k : ℕ) → with_chunks h (set h.chunks k (get_or h.chunks k zero_chunk)) ≡ h
+chunk-same h k = ap (with_chunks h) (set-get_or h.chunks k zero_chunk)
 
-pub chunk-beyond : (h : Table) (k : ℕ) → length h.chunks ≡ 8 → 8 ≤ k → zeroChunk ≡ get_or h.chunks k zeroChunk
-chunk-beyond h k l le = sym (get_or-eq_default h.chunks zeroChunk (subst (λ (j : ℕ). j ≤ k) (sym l) le))
+pub chunk-beyond : (h : Table) (k : ℕ) → length h.chunks ≡ 8 → 8 ≤ k → zero_chunk ≡ get_or h.chunks k zero_chunk
+chunk-beyond h k l le = sym (get_or-eq_default h.chunks zero_chunk (subst (λ (j : ℕ). j ≤ k) (sym l) le))
 
-pub chunk-unset : (h : Table) (k : ℕ) (x : Chunk) → length h.chunks ≡ 8 → 8 ≤ k → h ≡ withChunks h (set h.chunks k x)
-chunk-unset h k x l le = sym (ap (withChunks h) (set_out h.chunks k x (subst (λ (j : ℕ). j ≤ k) (sym l) le)))
+pub chunk_unset : (h : Table) (k : ℕ) (x : Chunk) → length h.chunks ≡ 8 → 8 ≤ k → h ≡ with_chunks h (set h.chunks k x)
+chunk_unset h k x l le = sym (ap (with_chunks h) (set_out h.chunks k x (subst (λ (j : ℕ). j ≤ k) (sym l) le)))
 
 module _ {M : Type 1} {𝓤 : Ura M} (𝓛 : Logic 𝓤) (q : Share) where
-  chunks-hole : (h : Table) (xs : List Chunk) (b o : ℕ) → Hole 𝓛 q TableR.the_row (Array ChunkR.the_row 8) h (withChunks h xs) h.chunks xs b o (o + 2280)
-  chunks-hole h xs b o =
-      cut-records 𝓛 q TableR.the_row ChunkR.the_type 8 2280 h (withChunks h xs) h.chunks xs (b, o)
-      (put_at 𝓛 q TableR.the_type TableL.the_laws 3 2280 refl refl (b, o) h (withChunks h xs) ((TableR.struct).as_values h) xs refl refl)
+  chunks_hole : (h : Table) (xs : List Chunk) (b o : ℕ) → Hole 𝓛 q TableR.the_row (Array ChunkR.the_row 8) h (with_chunks h xs) h.chunks xs b o (o + 2280)
+  chunks_hole h xs b o =
+      cut-records 𝓛 q TableR.the_row ChunkR.the_type 8 2280 h (with_chunks h xs) h.chunks xs (b, o)
+      (put_at 𝓛 q TableR.the_type TableL.the_laws 3 2280 refl refl (b, o) h (with_chunks h xs) ((TableR.struct).as_values h) xs refl refl)
 
-  pub chunk-hole : (h : Table) (k : ℕ) (x : Chunk) (b o : ℕ) → k < 8 → Hole 𝓛 q TableR.the_row ChunkR.the_row h (withChunks h (set h.chunks k x)) (get_or h.chunks k zeroChunk) x b o (chunks-at o k)
-  chunk-hole h k x b o lt =
-      within 𝓛 q TableR.the_row (Array ChunkR.the_row 8) ChunkR.the_row h (withChunks h (set h.chunks k x)) h.chunks (set h.chunks k x) (get_or h.chunks k zeroChunk) x b o (o + 2280) (chunks-at o k)
-      (chunks-hole h (set h.chunks k x) b o) (element 𝓛 q ChunkR.the_row tt 8 h.chunks k zeroChunk x b (o + 2280) lt)
+  pub chunk_hole : (h : Table) (k : ℕ) (x : Chunk) (b o : ℕ) → k < 8 → Hole 𝓛 q TableR.the_row ChunkR.the_row h (with_chunks h (set h.chunks k x)) (get_or h.chunks k zero_chunk) x b o (chunks-at o k)
+  chunk_hole h k x b o lt =
+      within 𝓛 q TableR.the_row (Array ChunkR.the_row 8) ChunkR.the_row h (with_chunks h (set h.chunks k x)) h.chunks (set h.chunks k x) (get_or h.chunks k zero_chunk) x b o (o + 2280) (chunks-at o k)
+      (chunks_hole h (set h.chunks k x) b o) (element 𝓛 q ChunkR.the_row tt 8 h.chunks k zero_chunk x b (o + 2280) lt)
 
   pub chunks-sized : (h : Table) (b o : ℕ) → ent 𝓤 (sem 𝓛 (part_at TableR.the_row q h b o)) (guard 𝓤 (length h.chunks ≡ 8) (sem 𝓛 (part_at TableR.the_row q h b o)))
-  chunks-sized h b o = sized 𝓛 q TableR.the_row ChunkR.the_row tt 8 h h.chunks b o (o + 2280) (chunks-hole h h.chunks b o)
+  chunks-sized h b o = sized 𝓛 q TableR.the_row ChunkR.the_row tt 8 h h.chunks b o (o + 2280) (chunks_hole h h.chunks b o)
 
 -- ---- records
 abbrev pub records-at : ℕ → ℕ → ℕ
 records-at o k = at (o + 2536) 352 k
 
-pub record_same : (h : Table) (k : ℕ) → withRecords h (set h.records k (get_or h.records k zeroRecord)) ≡ h
-record_same h k = ap (withRecords h) (set-get_or h.records k zeroRecord)
+pub record_same : (h : Table) (k : ℕ) → with_records h (set h.records k (get_or h.records k zero_record)) ≡ h
+record_same h k = ap (with_records h) (set-get_or h.records k zero_record)
 
-pub record-beyond : (h : Table) (k : ℕ) → length h.records ≡ 128 → 128 ≤ k → zeroRecord ≡ get_or h.records k zeroRecord
-record-beyond h k l le = sym (get_or-eq_default h.records zeroRecord (subst (λ (j : ℕ). j ≤ k) (sym l) le))
+pub record_beyond : (h : Table) (k : ℕ) → length h.records ≡ 128 → 128 ≤ k → zero_record ≡ get_or h.records k zero_record
+record_beyond h k l le = sym (get_or-eq_default h.records zero_record (subst (λ (j : ℕ). j ≤ k) (sym l) le))
 
-pub record-unset : (h : Table) (k : ℕ) (x : Record) → length h.records ≡ 128 → 128 ≤ k → h ≡ withRecords h (set h.records k x)
-record-unset h k x l le = sym (ap (withRecords h) (set_out h.records k x (subst (λ (j : ℕ). j ≤ k) (sym l) le)))
+pub record_unset : (h : Table) (k : ℕ) (x : Record) → length h.records ≡ 128 → 128 ≤ k → h ≡ with_records h (set h.records k x)
+record_unset h k x l le = sym (ap (with_records h) (set_out h.records k x (subst (λ (j : ℕ). j ≤ k) (sym l) le)))
 
 module _ {M : Type 1} {𝓤 : Ura M} (𝓛 : Logic 𝓤) (q : Share) where
-  records-hole : (h : Table) (xs : List Record) (b o : ℕ) → Hole 𝓛 q TableR.the_row (Array RecordR.the_row 128) h (withRecords h xs) h.records xs b o (o + 2536)
-  records-hole h xs b o =
-      cut-records 𝓛 q TableR.the_row RecordR.the_type 128 2536 h (withRecords h xs) h.records xs (b, o)
-      (put_at 𝓛 q TableR.the_type TableL.the_laws 4 2536 refl refl (b, o) h (withRecords h xs) ((TableR.struct).as_values h) xs refl refl)
+  records_hole : (h : Table) (xs : List Record) (b o : ℕ) → Hole 𝓛 q TableR.the_row (Array RecordR.the_row 128) h (with_records h xs) h.records xs b o (o + 2536)
+  records_hole h xs b o =
+      cut-records 𝓛 q TableR.the_row RecordR.the_type 128 2536 h (with_records h xs) h.records xs (b, o)
+      (put_at 𝓛 q TableR.the_type TableL.the_laws 4 2536 refl refl (b, o) h (with_records h xs) ((TableR.struct).as_values h) xs refl refl)
 
-  pub record-hole : (h : Table) (k : ℕ) (x : Record) (b o : ℕ) → k < 128 → Hole 𝓛 q TableR.the_row RecordR.the_row h (withRecords h (set h.records k x)) (get_or h.records k zeroRecord) x b o (records-at o k)
-  record-hole h k x b o lt =
-      within 𝓛 q TableR.the_row (Array RecordR.the_row 128) RecordR.the_row h (withRecords h (set h.records k x)) h.records (set h.records k x) (get_or h.records k zeroRecord) x b o (o + 2536) (records-at o k)
-      (records-hole h (set h.records k x) b o) (element 𝓛 q RecordR.the_row tt 128 h.records k zeroRecord x b (o + 2536) lt)
+  pub record_hole : (h : Table) (k : ℕ) (x : Record) (b o : ℕ) → k < 128 → Hole 𝓛 q TableR.the_row RecordR.the_row h (with_records h (set h.records k x)) (get_or h.records k zero_record) x b o (records-at o k)
+  record_hole h k x b o lt =
+      within 𝓛 q TableR.the_row (Array RecordR.the_row 128) RecordR.the_row h (with_records h (set h.records k x)) h.records (set h.records k x) (get_or h.records k zero_record) x b o (o + 2536) (records-at o k)
+      (records_hole h (set h.records k x) b o) (element 𝓛 q RecordR.the_row tt 128 h.records k zero_record x b (o + 2536) lt)
 
   pub records-sized : (h : Table) (b o : ℕ) → ent 𝓤 (sem 𝓛 (part_at TableR.the_row q h b o)) (guard 𝓤 (length h.records ≡ 128) (sem 𝓛 (part_at TableR.the_row q h b o)))
-  records-sized h b o = sized 𝓛 q TableR.the_row RecordR.the_row tt 128 h h.records b o (o + 2536) (records-hole h h.records b o)
+  records-sized h b o = sized 𝓛 q TableR.the_row RecordR.the_row tt 128 h h.records b o (o + 2536) (records_hole h h.records b o)
 
 -- ---- places
 abbrev pub places-at : ℕ → ℕ → ℕ
 places-at o k = at (o + 47592) 64 k
 
-pub place_same : (h : Table) (k : ℕ) → withPlaces h (set h.places k (get_or h.places k zeroPlace)) ≡ h
-place_same h k = ap (withPlaces h) (set-get_or h.places k zeroPlace)
+pub place_same : (h : Table) (k : ℕ) → with_places h (set h.places k (get_or h.places k zero_place)) ≡ h
+place_same h k = ap (with_places h) (set-get_or h.places k zero_place)
 
-pub place-beyond : (h : Table) (k : ℕ) → length h.places ≡ 64 → 64 ≤ k → zeroPlace ≡ get_or h.places k zeroPlace
-place-beyond h k l le = sym (get_or-eq_default h.places zeroPlace (subst (λ (j : ℕ). j ≤ k) (sym l) le))
+pub place-beyond : (h : Table) (k : ℕ) → length h.places ≡ 64 → 64 ≤ k → zero_place ≡ get_or h.places k zero_place
+place-beyond h k l le = sym (get_or-eq_default h.places zero_place (subst (λ (j : ℕ). j ≤ k) (sym l) le))
 
-pub place-unset : (h : Table) (k : ℕ) (x : Place) → length h.places ≡ 64 → 64 ≤ k → h ≡ withPlaces h (set h.places k x)
-place-unset h k x l le = sym (ap (withPlaces h) (set_out h.places k x (subst (λ (j : ℕ). j ≤ k) (sym l) le)))
+pub place_unset : (h : Table) (k : ℕ) (x : Place) → length h.places ≡ 64 → 64 ≤ k → h ≡ with_places h (set h.places k x)
+place_unset h k x l le = sym (ap (with_places h) (set_out h.places k x (subst (λ (j : ℕ). j ≤ k) (sym l) le)))
 
 module _ {M : Type 1} {𝓤 : Ura M} (𝓛 : Logic 𝓤) (q : Share) where
-  places-hole : (h : Table) (xs : List Place) (b o : ℕ) → Hole 𝓛 q TableR.the_row (Array PlaceR.the_row 64) h (withPlaces h xs) h.places xs b o (o + 47592)
-  places-hole h xs b o =
-      cut-records 𝓛 q TableR.the_row PlaceR.the_type 64 47592 h (withPlaces h xs) h.places xs (b, o)
-      (put_at 𝓛 q TableR.the_type TableL.the_laws 5 47592 refl refl (b, o) h (withPlaces h xs) ((TableR.struct).as_values h) xs refl refl)
+  places_hole : (h : Table) (xs : List Place) (b o : ℕ) → Hole 𝓛 q TableR.the_row (Array PlaceR.the_row 64) h (with_places h xs) h.places xs b o (o + 47592)
+  places_hole h xs b o =
+      cut-records 𝓛 q TableR.the_row PlaceR.the_type 64 47592 h (with_places h xs) h.places xs (b, o)
+      (put_at 𝓛 q TableR.the_type TableL.the_laws 5 47592 refl refl (b, o) h (with_places h xs) ((TableR.struct).as_values h) xs refl refl)
 
-  pub place-hole : (h : Table) (k : ℕ) (x : Place) (b o : ℕ) → k < 64 → Hole 𝓛 q TableR.the_row PlaceR.the_row h (withPlaces h (set h.places k x)) (get_or h.places k zeroPlace) x b o (places-at o k)
-  place-hole h k x b o lt =
-      within 𝓛 q TableR.the_row (Array PlaceR.the_row 64) PlaceR.the_row h (withPlaces h (set h.places k x)) h.places (set h.places k x) (get_or h.places k zeroPlace) x b o (o + 47592) (places-at o k)
-      (places-hole h (set h.places k x) b o) (element 𝓛 q PlaceR.the_row tt 64 h.places k zeroPlace x b (o + 47592) lt)
+  pub place_hole : (h : Table) (k : ℕ) (x : Place) (b o : ℕ) → k < 64 → Hole 𝓛 q TableR.the_row PlaceR.the_row h (with_places h (set h.places k x)) (get_or h.places k zero_place) x b o (places-at o k)
+  place_hole h k x b o lt =
+      within 𝓛 q TableR.the_row (Array PlaceR.the_row 64) PlaceR.the_row h (with_places h (set h.places k x)) h.places (set h.places k x) (get_or h.places k zero_place) x b o (o + 47592) (places-at o k)
+      (places_hole h (set h.places k x) b o) (element 𝓛 q PlaceR.the_row tt 64 h.places k zero_place x b (o + 47592) lt)
 
   pub places-sized : (h : Table) (b o : ℕ) → ent 𝓤 (sem 𝓛 (part_at TableR.the_row q h b o)) (guard 𝓤 (length h.places ≡ 64) (sem 𝓛 (part_at TableR.the_row q h b o)))
-  places-sized h b o = sized 𝓛 q TableR.the_row PlaceR.the_row tt 64 h h.places b o (o + 47592) (places-hole h h.places b o)
+  places-sized h b o = sized 𝓛 q TableR.the_row PlaceR.the_row tt 64 h h.places b o (o + 47592) (places_hole h h.places b o)

@@ -1,6 +1,6 @@
 // The creation numbers and the epoch of a lent table, read and written where they lie.
 ghost use Rattle.std.specs.Prelude.{◌≡◌};
-ghost use Rattle.rules.specs.Tables.{withEpoch};
+ghost use Rattle.rules.specs.Tables.{with_epoch};
 
 use rules::{Creation, Epoch, Table};
 
@@ -17,7 +17,7 @@ pub fn epoch_in(t: &Table) -> Epoch
 }
 
 pub fn put_epoch(t: &mut Table, x: Epoch)
-    ensures { t.new ≡ withEpoch t.old x }
+    ensures { t.new ≡ with_epoch t.old x }
 {
     t.epoch = x;
 }

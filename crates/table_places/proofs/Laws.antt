@@ -11,18 +11,18 @@ use native.Mathlib.Nat.{lt_of_le_of_lt}
 use Rattle.rules.specs.declared.Place.{Place}
 use Rattle.rules.specs.declared.Slot.{Slot}
 use Rattle.rules.specs.declared.Table.{Table}
-use Rattle.rules.specs.Kinds.{isEmptySlot}
-use Rattle.rules.specs.Network.{isFree, freePlaces, sent, replied}
-use Rattle.rules.specs.Tables.{withPlaces}
+use Rattle.rules.specs.Kinds.{is_empty_slot}
+use Rattle.rules.specs.Network.{is_free, free_places, sent, replied}
+use Rattle.rules.specs.Tables.{with_places}
 use Rattle.rules.specs.Words.{those, place}
-use Rattle.rules.specs.Zero.{zeroPlace}
+use Rattle.rules.specs.Zero.{zero_place}
 use Rattle.rules.proofs.Loops.{drop_more, place_other, place_here, place_end, count-here, count-other, count-end}
 
 module _ (l : List Place) where
   -- ---- `free_in`: how many are free from i on, and before i
 
   abbrev left : ℕ → ℕ
-  left i = length (those isFree (drop i l))
+  left i = length (those is_free (drop i l))
 
   abbrev pub so_far : ℕ → ℕ
   so_far i = left 0 - left i
@@ -30,90 +30,90 @@ module _ (l : List Place) where
   abbrev pub Counting : ℕ → Type 0
   Counting i = (i ≤ 64) × (left i ≤ left 0) × (left 0 - left i ≤ i)
 
-  pub counting-starts : Counting 0
-  counting-starts = (omega arith, omega arith, omega arith)
+  pub counting_starts : Counting 0
+  counting_starts = (omega arith, omega arith, omega arith)
 
   pub counted_none : 0 ≡ so_far 0
   counted_none = omega arith
 
-  pub so-far-fits : (i : ℕ) → Counting i → so_far i < 2 ^ 64
-  so-far-fits i c = lt_of_le_of_lt (omega (arith, c.0, c.2)) (lit< {m = 64} tt)
+  pub so_far_fits : (i : ℕ) → Counting i → so_far i < 2 ^ 64
+  so_far_fits i c = lt_of_le_of_lt (omega (arith, c.0, c.2)) (lit< {m = 64} tt)
 
-  pub so-far-below : (i : ℕ) → Counting i → i < 64 → so_far i < 64
-  so-far-below i c less = omega (arith, c.2)
+  pub so_far_below : (i : ℕ) → Counting i → i < 64 → so_far i < 64
+  so_far_below i c less = omega (arith, c.2)
 
   module _ (len : length l ≡ 64) (i : ℕ) where
-    pub counts-on : Counting i → i < 64 → (p : Place) → p ≡ get_or l i zeroPlace → (r : ℕ) → r ≡ cond (not (isFree p)) (so_far i) (so_far i + 1) → (r ≡ so_far (i + 1)) × Counting (i + 1)
-    counts-on c less p p-is r r-is = go (isFree (get_or l i zeroPlace)) refl
+    pub counts_on : Counting i → i < 64 → (p : Place) → p ≡ get_or l i zero_place → (r : ℕ) → r ≡ cond (not (is_free p)) (so_far i) (so_far i + 1) → (r ≡ so_far (i + 1)) × Counting (i + 1)
+    counts_on c less p p_is r r_is = go (is_free (get_or l i zero_place)) refl
       where
-        more : drop i l ≡ get_or l i zeroPlace ∷ drop (i + 1) l
-        more = drop_more zeroPlace l i (omega arith)
+        more : drop i l ≡ get_or l i zero_place ∷ drop (i + 1) l
+        more = drop_more zero_place l i (omega arith)
 
-        go : (b : Bool) → isFree (get_or l i zeroPlace) ≡ b → (r ≡ so_far (i + 1)) × Counting (i + 1)
+        go : (b : Bool) → is_free (get_or l i zero_place) ≡ b → (r ≡ so_far (i + 1)) × Counting (i + 1)
         go true e =
-            let k = count-here isFree _ _ _ more e in
-            let z : r ≡ so_far i + 1 = r-is ∙ ap (λ (q : Place). cond (not (isFree q)) (so_far i) (so_far i + 1)) p-is ∙ ap (λ (b : Bool). cond (not b) (so_far i) (so_far i + 1)) e in
+            let k = count-here is_free _ _ _ more e in
+            let z : r ≡ so_far i + 1 = r_is ∙ ap (λ (q : Place). cond (not (is_free q)) (so_far i) (so_far i + 1)) p_is ∙ ap (λ (b : Bool). cond (not b) (so_far i) (so_far i + 1)) e in
             (omega (arith, c.1), (omega arith, omega (arith, c.1), omega (arith, c.1, c.2)))
         go false e =
-            let k = count-other isFree _ _ _ more e in
-            let z : r ≡ so_far i = r-is ∙ ap (λ (q : Place). cond (not (isFree q)) (so_far i) (so_far i + 1)) p-is ∙ ap (λ (b : Bool). cond (not b) (so_far i) (so_far i + 1)) e in
+            let k = count-other is_free _ _ _ more e in
+            let z : r ≡ so_far i = r_is ∙ ap (λ (q : Place). cond (not (is_free q)) (so_far i) (so_far i + 1)) p_is ∙ ap (λ (b : Bool). cond (not b) (so_far i) (so_far i + 1)) e in
             (omega (arith, c.1), (omega arith, omega (arith, c.1), omega (arith, c.1, c.2)))
 
-    pub counted-all : 64 ≤ i → so_far i ≡ freePlaces l
-    unfolding freePlaces
+    pub counted-all : 64 ≤ i → so_far i ≡ free_places l
+    unfolding free_places
     counted-all over = omega (arith, ends)
       where
         ends : left i ≡ 0
-        ends = count-end isFree _ (drop_of_length-le l {i = i} (omega arith))
+        ends = count-end is_free _ (drop_of_length-le l {i = i} (omega arith))
         -- ---- `lowest_in`: none before i is free
 
   abbrev pub Looking : ℕ → Type 0
-  Looking i = (i ≤ 64) × (place isFree l ≡ i + place isFree (drop i l))
+  Looking i = (i ≤ 64) × (place is_free l ≡ i + place is_free (drop i l))
 
-  pub looking-starts : Looking 0
-  looking-starts = (omega arith, omega arith)
+  pub looking_starts : Looking 0
+  looking_starts = (omega arith, omega arith)
 
-  module _ (len : length l ≡ 64) (i : ℕ) (c : Looking i) (p : Place) (p-is : p ≡ get_or l i zeroPlace) (b : Bool) (b-is : b ≡ not (isFree p)) where
-    here : b ≡ not (isFree (get_or l i zeroPlace))
-    here = b-is ∙ ap (λ (q : Place). not (isFree q)) p-is
+  module _ (len : length l ≡ 64) (i : ℕ) (c : Looking i) (p : Place) (p_is : p ≡ get_or l i zero_place) (b : Bool) (b_is : b ≡ not (is_free p)) where
+    here : b ≡ not (is_free (get_or l i zero_place))
+    here = b_is ∙ ap (λ (q : Place). not (is_free q)) p_is
 
     pub taken-below : T b → i < 64
     taken-below t = go (dec_le 64 i)
       where
         go : Dec (64 ≤ i) → i < 64
-        go (yes k) = absurd (subst T (here ∙ ap (λ (q : Place). not (isFree q)) (get_or-eq_default l zeroPlace (omega arith))) t)
+        go (yes k) = absurd (subst T (here ∙ ap (λ (q : Place). not (is_free q)) (get_or-eq_default l zero_place (omega arith))) t)
         go (no k) = omega arith
 
     pub looks_on : T b → Looking (i + 1)
-    looks_on t = go (isFree (get_or l i zeroPlace)) refl
+    looks_on t = go (is_free (get_or l i zero_place)) refl
       where
         less : i < 64
         less = taken-below t
 
-        go : (f : Bool) → isFree (get_or l i zeroPlace) ≡ f → Looking (i + 1)
+        go : (f : Bool) → is_free (get_or l i zero_place) ≡ f → Looking (i + 1)
         go true e = absurd (subst T (here ∙ ap not e) t)
-        go false e = let k = place_other isFree zeroPlace l i (omega (arith, less)) e in (omega (arith, less), omega (arith, c.1))
+        go false e = let k = place_other is_free zero_place l i (omega (arith, less)) e in (omega (arith, less), omega (arith, c.1))
 
-    pub found : T (not b) → i ≡ place isFree l
-    found t = go (isFree (get_or l i zeroPlace)) refl
+    pub found : T (not b) → i ≡ place is_free l
+    found t = go (is_free (get_or l i zero_place)) refl
       where
-        go : (f : Bool) → isFree (get_or l i zeroPlace) ≡ f → i ≡ place isFree l
+        go : (f : Bool) → is_free (get_or l i zero_place) ≡ f → i ≡ place is_free l
         go true e = at (dec_le 64 i)
           where
-            at : Dec (64 ≤ i) → i ≡ place isFree l
-            at (yes k) = let z = place_end isFree zeroPlace l i (omega arith) in omega (arith, c.1)
-            at (no k) = let z = place_here isFree zeroPlace l i (omega arith) e in omega (arith, c.1)
+            at : Dec (64 ≤ i) → i ≡ place is_free l
+            at (yes k) = let z = place_end is_free zero_place l i (omega arith) in omega (arith, c.1)
+            at (no k) = let z = place_here is_free zero_place l i (omega arith) e in omega (arith, c.1)
         go false e = absurd (subst (λ (f : Bool). T (not f)) (here ∙ ap not e) t)
 
 -- ---- `send_in`
 
-pub sends_none : (h : Table) (s : Slot) (b : Bool) → b ≡ isEmptySlot s → T b → h ≡ withPlaces h (replied h.places s)
+pub sends_none : (h : Table) (s : Slot) (b : Bool) → b ≡ is_empty_slot s → T b → h ≡ with_places h (replied h.places s)
 unfolding replied
-sends_none h Slot.Empty b b-is t = refl
-sends_none h (Slot.Full m) b b-is t = absurd (subst T b-is t)
+sends_none h Slot.Empty b b_is t = refl
+sends_none h (Slot.Full m) b b_is t = absurd (subst T b_is t)
 
-pub sends : (h : Table) (s : Slot) (b : Bool) → b ≡ isEmptySlot s → T (not b) → (i : ℕ) → i ≡ place isFree h.places → (p : Place) → p ≡ record { slot = s } → (z : Table) → z ≡ withPlaces h (set h.places i p)
-    → z ≡ withPlaces h (replied h.places s)
+pub sends : (h : Table) (s : Slot) (b : Bool) → b ≡ is_empty_slot s → T (not b) → (i : ℕ) → i ≡ place is_free h.places → (p : Place) → p ≡ record { slot = s } → (z : Table) → z ≡ with_places h (set h.places i p)
+    → z ≡ with_places h (replied h.places s)
 unfolding replied sent
-sends h Slot.Empty b b-is t i i-is p p-is z z-is = absurd (subst (λ (c : Bool). T (not c)) b-is t)
-sends h (Slot.Full m) b b-is t i i-is p p-is z z-is = rw (z-is, i-is, p-is) refl
+sends h Slot.Empty b b_is t i i_is p p_is z z_is = absurd (subst (λ (c : Bool). T (not c)) b_is t)
+sends h (Slot.Full m) b b_is t i i_is p p_is z z_is = rw (z_is, i_is, p_is) refl

@@ -11,57 +11,57 @@ use contract.Monad.{Fun, fact}
 use contract.Lifetimes.{Lfts}
 use denote.Triple.Entry.{Args}
 use denote.Triple.Clauses.{AtExit}
-use Rattle.rules.specs.Network.{freePlaces, removed, replied}
-use Rattle.rules.specs.Tables.{withPlaces}
-use Rattle.rules.specs.Zero.{zeroPlace}
+use Rattle.rules.specs.Network.{free_places, removed, replied}
+use Rattle.rules.specs.Tables.{with_places}
+use Rattle.rules.specs.Zero.{zero_place}
 use Rattle.rules.specs.declared.Place.{Place}
 use Rattle.rules.specs.declared.Slot.{Slot}
 use Rattle.rules.specs.declared.Table.{Table}
 use Rattle.rules.proofs.Unique.{unique}
-use Rattle.table_places.specs.contracts.free_in as free-in-contract
-use Rattle.table_places.specs.contracts.place_in as place-in-contract
-use Rattle.table_places.specs.contracts.remove_in as remove-in-contract
-use Rattle.table_places.specs.contracts.send_in as send-in-contract
+use Rattle.table_places.specs.contracts.free_in as free_in_contract
+use Rattle.table_places.specs.contracts.place_in as place_in_contract
+use Rattle.table_places.specs.contracts.remove_in as remove_in_contract
+use Rattle.table_places.specs.contracts.send_in as send_in_contract
 
 -- what a caller of each learns
 abbrev Read : Table → (i : ℕ) → (out : Place) → Type 0
-Read t i out = out ≡ get_or t.places i zeroPlace
+Read t i out = out ≡ get_or t.places i zero_place
 
 abbrev Removed : Table → (i : ℕ) → (left : Table) → Type 0
-Removed t i left = left ≡ withPlaces t (removed t.places i)
+Removed t i left = left ≡ with_places t (removed t.places i)
 
 abbrev Free : Table → (out : ℕ) → Type 0
-Free t out = out ≡ freePlaces t.places
+Free t out = out ≡ free_places t.places
 
 abbrev Sent : Table → (s : Slot) → (left : Table) → Type 0
-Sent t s left = left ≡ withPlaces t (replied t.places s)
+Sent t s left = left ≡ with_places t (replied t.places s)
 
 module _ {M : Type 1} {𝓤 : Ura M} (𝓛 : Logic 𝓤) (at_mem : Memory → SProp 𝓤) (run : Routine → Fun 𝓤) (κs : Lfts 1) where
   -- it is all that the contract states
-  place-in-states : (a : Args place-in-contract.signature κs) (out : Place) (end : AtExit place-in-contract.ended κs)
-      → (place-in-contract.clauses 𝓛 at_mem run κs a).ensures tt out end ≡ fact 𝓤 (Read a.0.now a.1.0 out)
-  place-in-states a out end = refl
+  place_in_states : (a : Args place_in_contract.signature κs) (out : Place) (end : AtExit place_in_contract.ended κs)
+      → (place_in_contract.clauses 𝓛 at_mem run κs a).ensures tt out end ≡ fact 𝓤 (Read a.0.now a.1.0 out)
+  place_in_states a out end = refl
 
-  remove-in-states : (a : Args remove-in-contract.signature κs) (out : Unit {0}) (end : AtExit remove-in-contract.ended κs)
-      → (remove-in-contract.clauses 𝓛 at_mem run κs a).ensures tt out end ≡ fact 𝓤 (Removed a.0.now a.1.0 end.0.now)
-  remove-in-states a out end = refl
+  remove_in_states : (a : Args remove_in_contract.signature κs) (out : Unit {0}) (end : AtExit remove_in_contract.ended κs)
+      → (remove_in_contract.clauses 𝓛 at_mem run κs a).ensures tt out end ≡ fact 𝓤 (Removed a.0.now a.1.0 end.0.now)
+  remove_in_states a out end = refl
 
-  free-in-states : (a : Args free-in-contract.signature κs) (out : ℕ) (end : AtExit free-in-contract.ended κs)
-      → (free-in-contract.clauses 𝓛 at_mem run κs a).ensures tt out end ≡ fact 𝓤 (Free a.0.now out)
-  free-in-states a out end = refl
+  free_in_states : (a : Args free_in_contract.signature κs) (out : ℕ) (end : AtExit free_in_contract.ended κs)
+      → (free_in_contract.clauses 𝓛 at_mem run κs a).ensures tt out end ≡ fact 𝓤 (Free a.0.now out)
+  free_in_states a out end = refl
 
-  send-in-states : (a : Args send-in-contract.signature κs) (out : Unit {0}) (end : AtExit send-in-contract.ended κs)
-      → (send-in-contract.clauses 𝓛 at_mem run κs a).ensures tt out end ≡ fact 𝓤 (Sent a.0.now a.1.0 end.0.now)
-  send-in-states a out end = refl
+  send_in_states : (a : Args send_in_contract.signature κs) (out : Unit {0}) (end : AtExit send_in_contract.ended κs)
+      → (send_in_contract.clauses 𝓛 at_mem run κs a).ensures tt out end ≡ fact 𝓤 (Sent a.0.now a.1.0 end.0.now)
+  send_in_states a out end = refl
 
-place-in-unique : (t : Table) (i : ℕ) (x y : Place) → Read t i x → Read t i y → x ≡ y
-place-in-unique t i x y = unique
+place_in_unique : (t : Table) (i : ℕ) (x y : Place) → Read t i x → Read t i y → x ≡ y
+place_in_unique t i x y = unique
 
-remove-in-unique : (t : Table) (i : ℕ) (left right : Table) → Removed t i left → Removed t i right → left ≡ right
-remove-in-unique t i left right = unique
+remove_in_unique : (t : Table) (i : ℕ) (left right : Table) → Removed t i left → Removed t i right → left ≡ right
+remove_in_unique t i left right = unique
 
-free-in-unique : (t : Table) (x y : ℕ) → Free t x → Free t y → x ≡ y
-free-in-unique t x y = unique
+free_in_unique : (t : Table) (x y : ℕ) → Free t x → Free t y → x ≡ y
+free_in_unique t x y = unique
 
-send-in-unique : (t : Table) (s : Slot) (left right : Table) → Sent t s left → Sent t s right → left ≡ right
-send-in-unique t s left right = unique
+send_in_unique : (t : Table) (s : Slot) (left right : Table) → Sent t s left → Sent t s right → left ≡ right
+send_in_unique t s left right = unique

@@ -1,22 +1,22 @@
 // The network's places of a lent table, read and written where they lie.
 ghost use Rattle.std.specs.Prelude.{◌+◌, ◌<◌, cond, not, ◌≡◌, get_or, set};
-ghost use Rattle.rules.specs.Kinds.{isEmptySlot};
-ghost use Rattle.rules.specs.Network.{isFree, freePlaces, removed, replied};
-ghost use Rattle.rules.specs.Tables.{withPlaces};
+ghost use Rattle.rules.specs.Kinds.{is_empty_slot};
+ghost use Rattle.rules.specs.Network.{is_free, free_places, removed, replied};
+ghost use Rattle.rules.specs.Tables.{with_places};
 ghost use Rattle.rules.specs.Words.{place};
-ghost use Rattle.rules.specs.Zero.{zeroPlace};
+ghost use Rattle.rules.specs.Zero.{zero_place};
 
 use rules::{Place, Slot, Table};
 
 fn empty() -> Place
-    ensures { result ≡ zeroPlace }
+    ensures { result ≡ zero_place }
 {
     Place { slot: Slot::Empty }
 }
 
 // Beyond the last place there is none: empty.
 pub fn place_in(t: &Table, i: u64) -> Place
-    ensures { result ≡ get_or t.now.places i zeroPlace }
+    ensures { result ≡ get_or t.now.places i zero_place }
 {
     let k = i as usize;
     if k < rules::PLACES {
@@ -27,7 +27,7 @@ pub fn place_in(t: &Table, i: u64) -> Place
 
 // Beyond the last place nothing is written.
 fn put_place(t: &mut Table, i: u64, x: Place)
-    ensures { t.new ≡ withPlaces t.old (set t.old.places i x) }
+    ensures { t.new ≡ with_places t.old (set t.old.places i x) }
 {
     let at = i as usize;
     if at < rules::PLACES {
@@ -37,7 +37,7 @@ fn put_place(t: &mut Table, i: u64, x: Place)
 
 // "The message is removed"; beyond the last place there is none.
 pub fn remove_in(t: &mut Table, i: u64)
-    ensures { t.new ≡ withPlaces t.old (removed t.old.places i) }
+    ensures { t.new ≡ with_places t.old (removed t.old.places i) }
 {
     let none = empty();
     put_place(t, i, none);
@@ -45,7 +45,7 @@ pub fn remove_in(t: &mut Table, i: u64)
 
 // A slot holds a message or nothing.
 fn is_empty(s: Slot) -> bool
-    ensures { result ≡ isEmptySlot s }
+    ensures { result ≡ is_empty_slot s }
 {
     match s {
         Slot::Empty => true,
@@ -54,7 +54,7 @@ fn is_empty(s: Slot) -> bool
 }
 
 fn is_taken(p: Place) -> bool
-    ensures { result ≡ not (isFree p) }
+    ensures { result ≡ not (is_free p) }
 {
     let s = p.slot;
     !is_empty(s)
@@ -63,7 +63,7 @@ fn is_taken(p: Place) -> bool
 // One place more is looked at.
 fn counted(free: u64, p: Place) -> u64
     requires { free < 64 }
-    ensures { result ≡ cond (not (isFree p)) free (free + 1) }
+    ensures { result ≡ cond (not (is_free p)) free (free + 1) }
 {
     if is_taken(p) {
         return free;
@@ -73,7 +73,7 @@ fn counted(free: u64, p: Place) -> u64
 
 // How much room there is for a step's messages.
 pub fn free_in(t: &Table) -> u64
-    ensures { result ≡ freePlaces t.now.places }
+    ensures { result ≡ free_places t.now.places }
 {
     let mut free: u64 = 0;
     let mut i: u64 = 0;
@@ -86,7 +86,7 @@ pub fn free_in(t: &Table) -> u64
 
 // The lowest free place, or 64 where there is none: beyond the last place nothing is taken.
 fn lowest_in(t: &Table) -> u64
-    ensures { result ≡ place isFree t.now.places }
+    ensures { result ≡ place is_free t.now.places }
 {
     let mut at: u64 = 0;
     while is_taken(place_in(t, at)) {
@@ -103,7 +103,7 @@ fn holding(s: Slot) -> Place
 
 // "Its reply, if any, takes the lowest free place"; a full network stays as it is.
 pub fn send_in(t: &mut Table, s: Slot)
-    ensures { t.new ≡ withPlaces t.old (replied t.old.places s) }
+    ensures { t.new ≡ with_places t.old (replied t.old.places s) }
 {
     if is_empty(s) {
         return;

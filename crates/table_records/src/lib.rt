@@ -1,14 +1,14 @@
 // A chunk's record of a block of a lent table, read and written where it lies.
 ghost use Rattle.std.specs.Prelude.{◌≡◌, get_or, set};
-ghost use Rattle.rules.specs.Tables.{withRecords};
-ghost use Rattle.rules.specs.Zero.{zeroRecord};
-ghost use Rattle.table_records.specs.Numbers.{recordNumber};
+ghost use Rattle.rules.specs.Tables.{with_records};
+ghost use Rattle.rules.specs.Zero.{zero_record};
+ghost use Rattle.table_records.specs.Numbers.{record_number};
 
 use rules::{Record, Table};
 
 // The number of a chunk's record of a block; where there is no such chunk or block, the one beyond the last.
 pub fn record_number(chunk: u64, block: u64) -> u64
-    ensures { result ≡ recordNumber chunk block }
+    ensures { result ≡ record_number chunk block }
 {
     let blocks = rules::BLOCKS as u64;
     if (chunk < rules::CHUNKS as u64) & (block < blocks) {
@@ -19,7 +19,7 @@ pub fn record_number(chunk: u64, block: u64) -> u64
 
 // Beyond the last record there is none: zero.
 pub fn record_in(t: &Table, i: u64) -> Record
-    ensures { result ≡ get_or t.now.records i zeroRecord }
+    ensures { result ≡ get_or t.now.records i zero_record }
 {
     let k = i as usize;
     if k < rules::RECORDS {
@@ -30,7 +30,7 @@ pub fn record_in(t: &Table, i: u64) -> Record
 
 // Beyond the last record nothing is written.
 pub fn put_record(t: &mut Table, i: u64, x: Record)
-    ensures { t.new ≡ withRecords t.old (set t.old.records i x) }
+    ensures { t.new ≡ with_records t.old (set t.old.records i x) }
 {
     let at = i as usize;
     if at < rules::RECORDS {

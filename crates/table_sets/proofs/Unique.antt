@@ -1,14 +1,14 @@
 -- Each public function's promise determines its answer
 use Rattle.rules.proofs.Unique.{unique, Determined}
-use Rattle.table_sets.proofs.among.Reads as among-contract
-use Rattle.table_sets.proofs.how_many.Reads as how-many-contract
-use Rattle.table_sets.proofs.is_empty.Reads as is-empty-contract
+use Rattle.table_sets.proofs.among.Reads as among_contract
+use Rattle.table_sets.proofs.how_many.Reads as how_many_contract
+use Rattle.table_sets.proofs.is_empty.Reads as is_empty_contract
 
-among-unique : Determined among-contract.Learnt
-among-unique κs a x y s u = unique
+among_unique : Determined among_contract.Learnt
+among_unique κs a x y s u = unique
 
-is-empty-unique : Determined is-empty-contract.Learnt
-is-empty-unique κs a x y s u = unique
+is_empty_unique : Determined is_empty_contract.Learnt
+is_empty_unique κs a x y s u = unique
 
-how-many-unique : Determined how-many-contract.Learnt
-how-many-unique κs a x y s u = unique
+how_many_unique : Determined how_many_contract.Learnt
+how_many_unique κs a x y s u = unique

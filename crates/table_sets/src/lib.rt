@@ -1,6 +1,6 @@
 // Sets of chunks.
 ghost use Rattle.std.specs.Prelude.{◌≡◌};
-ghost use Rattle.rules.specs.Network.{howMany};
+ghost use Rattle.rules.specs.Network.{how_many};
 ghost use Rattle.rules.specs.Zero.{◌among◌, is_empty};
 
 use rules::Set;
@@ -32,7 +32,7 @@ pub fn is_empty(s: Set) -> bool
 
 // How many chunks a set has, and so how many messages go to it.
 pub fn how_many(to: Set) -> u64
-    ensures { result ≡ howMany to }
+    ensures { result ≡ how_many to }
 {
     let mut count: u64 = 0;
     let mut i: usize = 0;

@@ -14,17 +14,17 @@ use Rattle.rules.specs.declared.Epoch.{Epoch}
 use Rattle.rules.specs.declared.Host.{Host}
 use Rattle.rules.specs.declared.Record.{Record}
 use Rattle.rules.specs.declared.Table.{Table}
-use Rattle.rules.specs.Creation.{isCreation}
-use Rattle.rules.specs.Formed.{operationFormed, operationAt, entryAt, waitingFormed, recordFormed, hostAt, chunkAt, recordAt, hostsFormed, chunksFormed, recordsFormed, placesFormed, wellFormed}
-use Rattle.rules.specs.Limits.{chunkLimit, blockLimit, operationLimit, waitingLimit}
+use Rattle.rules.specs.Creation.{is_creation}
+use Rattle.rules.specs.Formed.{operation_formed, operation_at, entry_at, waiting_formed, record_formed, host_at, chunk_at, record_at, hosts_formed, chunks_formed, records_formed, places_formed, well_formed}
+use Rattle.rules.specs.Limits.{chunk_limit, block_limit, operation_limit, waiting_limit}
 use Rattle.rules.specs.Tables.{at}
-use Rattle.rules.specs.Timestamps.{never, ◌is◌, ◌same◌, noEpoch, isTimestamp, isEpoch}
+use Rattle.rules.specs.Timestamps.{never, ◌is◌, ◌same◌, no_epoch, is_timestamp, is_epoch}
 use Rattle.rules.specs.Words.{every, some, from, numbers}
-use Rattle.rules.specs.Zero.{zeroEntry, isZeroEntry, zeroOperation, isZeroOperation, isZeroAttempt, isZeroHost, zeroHost, zeroChunk, zeroRecord, noHost, no_chunk, noRecord}
+use Rattle.rules.specs.Zero.{zero_entry, is_zero_entry, zero_operation, is_zero_operation, is_zero_attempt, is_zero_host, zero_host, zero_chunk, zero_record, no_host, no_chunk, no_record}
 use Rattle.rules.proofs.Lists.{every-number, every-numbers}
-use Rattle.rules.proofs.Loops.{every-next, every-stop, every-same, every-flat}
+use Rattle.rules.proofs.Loops.{every-next, every_stop, every-same, every-flat}
 use Rattle.table_sound.specs.declared.Counts.{Counts}
-use Rattle.table_sound.specs.Parts.{counted, countsOf, allFormed, isOfStore, isQuiet, unusedEntries, quietAt, busyAt, hostInPlace, chunkInPlace, recordInPlace}
+use Rattle.table_sound.specs.Parts.{counted, counts_of, all_formed, is_of_store, is_quiet, unused_entries, quiet_at, busy_at, host_in_place, chunk_in_place, record_in_place}
 
 -- ---- unused places
 
@@ -52,10 +52,10 @@ none-used a count used unused l = go a (eqb count 0) refl
     go true true e = every-same (λ i. cond (ltb i count) (used i) (unused i)) unused (at (eqb-true count 0 e)) l
 
 module _ (k : Creation) where
-  pub zero-host : (h : Host) (operations attempt : Bool) → operations ≡ every (operationAt k h.queue) (numbers operationLimit) → attempt ≡ isZeroAttempt h.attempt
-      → not h.working && eqb h.queue.count 0 && operations && attempt && h.epoch same noEpoch && not h.mapped && eqb h.clock 0 ≡ isZeroHost h
+  pub zero-host : (h : Host) (operations attempt : Bool) → operations ≡ every (operation_at k h.queue) (numbers operation_limit) → attempt ≡ is_zero_attempt h.attempt
+      → not h.working && eqb h.queue.count 0 && operations && attempt && h.epoch same no_epoch && not h.mapped && eqb h.clock 0 ≡ is_zero_host h
   zero-host h operations attempt ho ha =
-      rw (ho, ha, none-used (not h.working) h.queue.count (λ i. operationFormed k (get_or h.queue.operations i zeroOperation)) (λ i. isZeroOperation (get_or h.queue.operations i zeroOperation)) (numbers operationLimit)) refl
+      rw (ho, ha, none-used (not h.working) h.queue.count (λ i. operation_formed k (get_or h.queue.operations i zero_operation)) (λ i. is_zero_operation (get_or h.queue.operations i zero_operation)) (numbers operation_limit)) refl
 
 -- ---- a loop that looks at every place
 
@@ -68,7 +68,7 @@ every_more p i ok r h k = go ok (sym h) r (sym k)
 
     go : (a : Bool) → every p (numbers i) ≡ a → (b : Bool) → p i ≡ b → a && b ≡ every p (numbers (i + 1))
     go true e true f = sym (every-next p i e f)
-    go true e false f = sym (every-stop p (i + 1) i (omega arith) f)
+    go true e false f = sym (every_stop p (i + 1) i (omega arith) f)
     go false e b f = none e (every p (numbers (i + 1))) refl
 
 pub every-end : (p : ℕ → Bool) (i m : ℕ) → i ≤ m → m ≤ i → every p (numbers i) ≡ every p (numbers m)
@@ -77,22 +77,22 @@ every-end p i m within over = ap (λ (j : ℕ). every p (numbers j)) (le_antisym
 -- ---- a record that nothing waits in, and another
 
 module _ (n : Counts) (i : ℕ) (x : Record) where
-  entries-are : isQuiet x ≡ true → every (entryAt (counted n) x.waiting) (numbers waitingLimit) ≡ unusedEntries x.waiting
-  entries-are h = every-same (entryAt (counted n) x.waiting) (λ j. isZeroEntry (get_or x.waiting.entries j zeroEntry)) (λ j. rw (le-ltb j x.waiting.count (omega (arith, eqb-true x.waiting.count 0 h))) refl) (numbers waitingLimit)
+  entries_are : is_quiet x ≡ true → every (entry_at (counted n) x.waiting) (numbers waiting_limit) ≡ unused_entries x.waiting
+  entries_are h = every-same (entry_at (counted n) x.waiting) (λ j. is_zero_entry (get_or x.waiting.entries j zero_entry)) (λ j. rw (le-ltb j x.waiting.count (omega (arith, eqb-true x.waiting.count 0 h))) refl) (numbers waiting_limit)
 
-  pub quiet_is : isQuiet x ≡ true → quietAt n i x ≡ recordAt (counted n) (i / blockLimit) (i % blockLimit) x
-  quiet_is h = rw (entries-are h, h, eqb-true x.waiting.count 0 h) (go (isOfStore n i) (eqb x.value 0 && x.read is never && x.write is never))
+  pub quiet_is : is_quiet x ≡ true → quiet_at n i x ≡ record_at (counted n) (i / block_limit) (i % block_limit) x
+  quiet_is h = rw (entries_are h, h, eqb-true x.waiting.count 0 h) (go (is_of_store n i) (eqb x.value 0 && x.read is never && x.write is never))
     where
-      go : (b z : Bool) → cond b (isTimestamp x.read && isTimestamp x.write) z && unusedEntries x.waiting
-          ≡ cond b (isTimestamp x.read && isTimestamp x.write && unusedEntries x.waiting) (z && true && unusedEntries x.waiting)
+      go : (b z : Bool) → cond b (is_timestamp x.read && is_timestamp x.write) z && unused_entries x.waiting
+          ≡ cond b (is_timestamp x.read && is_timestamp x.write && unused_entries x.waiting) (z && true && unused_entries x.waiting)
       go true z = refl
       go false true = refl
       go false false = refl
 
-  pub busy-is : isQuiet x ≡ false → busyAt n i x ≡ recordAt (counted n) (i / blockLimit) (i % blockLimit) x
-  busy-is h = rw h (go (isOfStore n i) (eqb x.value 0 && x.read is never && x.write is never))
+  pub busy_is : is_quiet x ≡ false → busy_at n i x ≡ record_at (counted n) (i / block_limit) (i % block_limit) x
+  busy_is h = rw h (go (is_of_store n i) (eqb x.value 0 && x.read is never && x.write is never))
     where
-      go : (b z : Bool) → b && isTimestamp x.read && isTimestamp x.write && waitingFormed (counted n) x.waiting ≡ cond b (recordFormed (counted n) x) (z && false && unusedEntries x.waiting)
+      go : (b z : Bool) → b && is_timestamp x.read && is_timestamp x.write && waiting_formed (counted n) x.waiting ≡ cond b (record_formed (counted n) x) (z && false && unused_entries x.waiting)
       go true z = refl
       go false true = refl
       go false false = refl
@@ -100,63 +100,63 @@ module _ (n : Counts) (i : ℕ) (x : Record) where
 -- ---- the records: chunk by chunk, and in them block by block
 
 module _ (n : Counts) (records : List Record) where
-  in_place : (i : ℕ) → recordInPlace n records i ≡ recordAt (counted n) (i / blockLimit) (i % blockLimit) (get_or records (at (i / blockLimit) (i % blockLimit)) noRecord)
-  in_place i = rw (div-add-mod' i blockLimit) refl
+  in_place : (i : ℕ) → record_in_place n records i ≡ record_at (counted n) (i / block_limit) (i % block_limit) (get_or records (at (i / block_limit) (i % block_limit)) no_record)
+  in_place i = rw (div-add-mod' i block_limit) refl
 
-  pub record-by-record : every (recordInPlace n records) (numbers (chunkLimit * blockLimit)) ≡ recordsFormed (counted n) records
-  record-by-record =
-      every-same _ _ in_place (numbers (chunkLimit * blockLimit))
-      ∙ every-flat (λ c b. recordAt (counted n) c b (get_or records (at c b) noRecord)) chunkLimit blockLimit (omega arith)
+  pub record_by_record : every (record_in_place n records) (numbers (chunk_limit * block_limit)) ≡ records_formed (counted n) records
+  record_by_record =
+      every-same _ _ in_place (numbers (chunk_limit * block_limit))
+      ∙ every-flat (λ c b. record_at (counted n) c b (get_or records (at c b) no_record)) chunk_limit block_limit (omega arith)
 
 -- ---- a part read where it lies: beyond its array it is zero, and there the rules' own default is as good
 
-held-true : (b : Bool) → T b → b ≡ true
-held-true true t = refl
-held-true false t = absurd t
+held_true : (b : Bool) → T b → b ≡ true
+held_true true t = refl
+held_true false t = absurd t
 
-failed-false : (b : Bool) → T (not b) → b ≡ false
-failed-false true t = absurd t
-failed-false false t = refl
+failed_false : (b : Bool) → T (not b) → b ≡ false
+failed_false true t = absurd t
+failed_false false t = refl
 
-other-default : {A : Type 0} (p : A → Bool) (d e : A) → p d ≡ p e → (l : List A) (i : ℕ) → p (get_or l i d) ≡ p (get_or l i e)
-other-default p d e h [] i = h
-other-default p d e h (x ∷ xs) zero = refl
-other-default p d e h (x ∷ xs) (suc i) = other-default p d e h xs i
+other_default : {A : Type 0} (p : A → Bool) (d e : A) → p d ≡ p e → (l : List A) (i : ℕ) → p (get_or l i d) ≡ p (get_or l i e)
+other_default p d e h [] i = h
+other_default p d e h (x ∷ xs) zero = refl
+other_default p d e h (x ∷ xs) (suc i) = other_default p d e h xs i
 
 module _ (n : Counts) where
-  pub host-is : (hosts : List Host) (i : ℕ) (x : Host) → x ≡ get_or hosts i zeroHost → hostAt (counted n) i x ≡ hostInPlace n hosts i
+  pub host_is : (hosts : List Host) (i : ℕ) (x : Host) → x ≡ get_or hosts i zero_host → host_at (counted n) i x ≡ host_in_place n hosts i
   unfolding every some from
-  host-is hosts i x h = ap (hostAt (counted n) i) h ∙ other-default (hostAt (counted n) i) zeroHost noHost refl hosts i
+  host_is hosts i x h = ap (host_at (counted n) i) h ∙ other_default (host_at (counted n) i) zero_host no_host refl hosts i
 
-  pub chunk-is : (epoch : Epoch) (chunks : List Chunk) (i : ℕ) (x : Chunk) → x ≡ get_or chunks i zeroChunk → chunkAt (counted n) epoch i x ≡ chunkInPlace n epoch chunks i
+  pub chunk_is : (epoch : Epoch) (chunks : List Chunk) (i : ℕ) (x : Chunk) → x ≡ get_or chunks i zero_chunk → chunk_at (counted n) epoch i x ≡ chunk_in_place n epoch chunks i
   unfolding every some from
-  chunk-is epoch chunks i x h = ap (chunkAt (counted n) epoch i) h ∙ other-default (chunkAt (counted n) epoch i) zeroChunk no_chunk refl chunks i
+  chunk_is epoch chunks i x h = ap (chunk_at (counted n) epoch i) h ∙ other_default (chunk_at (counted n) epoch i) zero_chunk no_chunk refl chunks i
 
   module _ (i : ℕ) (records : List Record) where
-    record_is : (x : Record) → x ≡ get_or records i zeroRecord → recordAt (counted n) (i / blockLimit) (i % blockLimit) x ≡ recordInPlace n records i
+    record_is : (x : Record) → x ≡ get_or records i zero_record → record_at (counted n) (i / block_limit) (i % block_limit) x ≡ record_in_place n records i
     unfolding every some from
-    record_is x h = ap test h ∙ other-default test zeroRecord noRecord refl records i
+    record_is x h = ap test h ∙ other_default test zero_record no_record refl records i
       where
         test : Record → Bool
-        test = recordAt (counted n) (i / blockLimit) (i % blockLimit)
+        test = record_at (counted n) (i / block_limit) (i % block_limit)
 
-    module _ (x : Record) (x-is : x ≡ get_or records i zeroRecord) (quiet : Bool) (quiet-is-so : quiet ≡ isQuiet x) where
-      pub quiet-in : T quiet → (y : Record) → y ≡ get_or records i zeroRecord → (r : Bool) → r ≡ quietAt n i y → r ≡ recordInPlace n records i
-      quiet-in h y y-is r r-is = r-is ∙ quiet_is n i y (ap isQuiet (y-is ∙ sym x-is) ∙ sym quiet-is-so ∙ held-true quiet h) ∙ record_is y y-is
+    module _ (x : Record) (x_is : x ≡ get_or records i zero_record) (quiet : Bool) (quiet_is_so : quiet ≡ is_quiet x) where
+      pub quiet_in : T quiet → (y : Record) → y ≡ get_or records i zero_record → (r : Bool) → r ≡ quiet_at n i y → r ≡ record_in_place n records i
+      quiet_in h y y_is r r_is = r_is ∙ quiet_is n i y (ap is_quiet (y_is ∙ sym x_is) ∙ sym quiet_is_so ∙ held_true quiet h) ∙ record_is y y_is
 
-      pub busy-in : T (not quiet) → (y : Record) → y ≡ get_or records i zeroRecord → (r : Bool) → r ≡ busyAt n i y → r ≡ recordInPlace n records i
-      busy-in h y y-is r r-is = r-is ∙ busy-is n i y (ap isQuiet (y-is ∙ sym x-is) ∙ sym quiet-is-so ∙ failed-false quiet h) ∙ record_is y y-is
+      pub busy_in : T (not quiet) → (y : Record) → y ≡ get_or records i zero_record → (r : Bool) → r ≡ busy_at n i y → r ≡ record_in_place n records i
+      busy_in h y y_is r r_is = r_is ∙ busy_is n i y (ap is_quiet (y_is ∙ sym x_is) ∙ sym quiet_is_so ∙ failed_false quiet h) ∙ record_is y y_is
 
 -- ---- the table: all of its parts
 
 pub whole_is : (t : Table)
-    → isCreation t.creation && isEpoch t.epoch && hostsFormed t.creation t.hosts && chunksFormed t.creation t.epoch t.chunks && recordsFormed t.creation t.records && placesFormed t.creation t.places
-    ≡ wellFormed t
-unfolding wellFormed
+    → is_creation t.creation && is_epoch t.epoch && hosts_formed t.creation t.hosts && chunks_formed t.creation t.epoch t.chunks && records_formed t.creation t.records && places_formed t.creation t.places
+    ≡ well_formed t
+unfolding well_formed
 whole_is t = refl
 
-pub scanned : (t : Table) (k : Creation) → k ≡ t.creation → (epoch : Epoch) → epoch ≡ t.epoch → (n : Counts) → n ≡ countsOf k → (hosts chunks records places : Bool)
-    → hosts ≡ hostsFormed (counted n) t.hosts → chunks ≡ chunksFormed (counted n) epoch t.chunks → records ≡ recordsFormed (counted n) t.records → places ≡ placesFormed (counted n) t.places
-    → (r : Bool) → r ≡ allFormed k epoch hosts chunks records places → r ≡ wellFormed t
-scanned t k k-is epoch epoch-is n n-is hosts chunks records places hosts-are chunks-are records-are places-are r r-is =
-    rw (r-is, hosts-are, chunks-are, records-are, places-are, n-is, k-is, epoch-is) (whole_is t)
+pub scanned : (t : Table) (k : Creation) → k ≡ t.creation → (epoch : Epoch) → epoch ≡ t.epoch → (n : Counts) → n ≡ counts_of k → (hosts chunks records places : Bool)
+    → hosts ≡ hosts_formed (counted n) t.hosts → chunks ≡ chunks_formed (counted n) epoch t.chunks → records ≡ records_formed (counted n) t.records → places ≡ places_formed (counted n) t.places
+    → (r : Bool) → r ≡ all_formed k epoch hosts chunks records places → r ≡ well_formed t
+scanned t k k_is epoch epoch_is n n_is hosts chunks records places hosts_are chunks_are records_are places_are r r_is =
+    rw (r_is, hosts_are, chunks_are, records_are, places_are, n_is, k_is, epoch_is) (whole_is t)

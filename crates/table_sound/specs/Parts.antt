@@ -7,60 +7,60 @@ use Rattle.rules.specs.declared.Host.{Host}
 use Rattle.rules.specs.declared.Place.{Place}
 use Rattle.rules.specs.declared.Record.{Record}
 use Rattle.rules.specs.declared.Waiting.{Waiting}
-use Rattle.rules.specs.Creation.{isCreation}
-use Rattle.rules.specs.Formed.{waitingFormed, hostAt, chunkAt, recordAt, slotFormed}
-use Rattle.rules.specs.Limits.{blockLimit, waitingLimit}
-use Rattle.rules.specs.Tables.{isChunk, isBlock, slot_of}
-use Rattle.rules.specs.Timestamps.{never, ◌is◌, isTimestamp, isEpoch}
+use Rattle.rules.specs.Creation.{is_creation}
+use Rattle.rules.specs.Formed.{waiting_formed, host_at, chunk_at, record_at, slot_formed}
+use Rattle.rules.specs.Limits.{block_limit, waiting_limit}
+use Rattle.rules.specs.Tables.{is_chunk, is_block, slot_of}
+use Rattle.rules.specs.Timestamps.{never, ◌is◌, is_timestamp, is_epoch}
 use Rattle.rules.specs.Words.{if◌then◌else◌, every, numbers}
-use Rattle.rules.specs.Zero.{zeroEntry, isZeroEntry, noHost, no_chunk, noRecord}
+use Rattle.rules.specs.Zero.{zero_entry, is_zero_entry, no_host, no_chunk, no_record}
 use Rattle.table_sound.specs.declared.Counts.{Counts}
 
 -- a creation of these counts: the rules about a store's parts look at no more of it
 abbrev pub counted : Counts → Creation
 counted n = record { hosts = n.hosts; chunks = n.chunks; blocks = n.blocks; age = 0; sets = [] }
 
-abbrev pub countsOf : Creation → Counts
-countsOf k = record { hosts = k.hosts; chunks = k.chunks; blocks = k.blocks }
+abbrev pub counts_of : Creation → Counts
+counts_of k = record { hosts = k.hosts; chunks = k.chunks; blocks = k.blocks }
 
-abbrev pub allFormed : Creation → Epoch → (hosts chunks records places : Bool) → Bool
-allFormed k epoch hosts chunks records places = isCreation k && isEpoch epoch && hosts && chunks && records && places
+abbrev pub all_formed : Creation → Epoch → (hosts chunks records places : Bool) → Bool
+all_formed k epoch hosts chunks records places = is_creation k && is_epoch epoch && hosts && chunks && records && places
 
 -- ---- one part of each array: host, chunk, record and place i
 
-abbrev pub hostInPlace : Counts → List Host → ℕ → Bool
-hostInPlace n hosts i = hostAt (counted n) i (get_or hosts i noHost)
+abbrev pub host_in_place : Counts → List Host → ℕ → Bool
+host_in_place n hosts i = host_at (counted n) i (get_or hosts i no_host)
 
-abbrev pub chunkInPlace : Counts → Epoch → List Chunk → ℕ → Bool
-chunkInPlace n epoch chunks i = chunkAt (counted n) epoch i (get_or chunks i no_chunk)
+abbrev pub chunk_in_place : Counts → Epoch → List Chunk → ℕ → Bool
+chunk_in_place n epoch chunks i = chunk_at (counted n) epoch i (get_or chunks i no_chunk)
 
-abbrev pub recordInPlace : Counts → List Record → ℕ → Bool
-recordInPlace n records i = recordAt (counted n) (i / blockLimit) (i % blockLimit) (get_or records i noRecord)
+abbrev pub record_in_place : Counts → List Record → ℕ → Bool
+record_in_place n records i = record_at (counted n) (i / block_limit) (i % block_limit) (get_or records i no_record)
 
-abbrev pub placeInPlace : Counts → List Place → ℕ → Bool
-placeInPlace n places i = slotFormed (counted n) (slot_of places i)
+abbrev pub place_in_place : Counts → List Place → ℕ → Bool
+place_in_place n places i = slot_formed (counted n) (slot_of places i)
 
 -- ---- a record: all that the tests of one that nothing waits in, and of another, look at
 
 -- record i is of a chunk and a block of the store's
-abbrev pub isOfStore : Counts → ℕ → Bool
-isOfStore n i = isChunk (counted n) (i / blockLimit) && isBlock (counted n) (i % blockLimit)
+abbrev pub is_of_store : Counts → ℕ → Bool
+is_of_store n i = is_chunk (counted n) (i / block_limit) && is_block (counted n) (i % block_limit)
 
-abbrev pub isQuiet : Record → Bool
-isQuiet x = eqb x.waiting.count 0
+abbrev pub is_quiet : Record → Bool
+is_quiet x = eqb x.waiting.count 0
 
-abbrev pub unusedEntries : Waiting → Bool
-unusedEntries w = every (λ i. isZeroEntry (get_or w.entries i zeroEntry)) (numbers waitingLimit)
+abbrev pub unused_entries : Waiting → Bool
+unused_entries w = every (λ i. is_zero_entry (get_or w.entries i zero_entry)) (numbers waiting_limit)
 
-abbrev pub numbersFormed : (used : Bool) → Record → Bool
-numbersFormed used x = if used then isTimestamp x.read && isTimestamp x.write else eqb x.value 0 && x.read is never && x.write is never
+abbrev pub numbers_formed : (used : Bool) → Record → Bool
+numbers_formed used x = if used then is_timestamp x.read && is_timestamp x.write else eqb x.value 0 && x.read is never && x.write is never
 
-abbrev pub quietAt : Counts → ℕ → Record → Bool
-quietAt n i x = numbersFormed (isOfStore n i) x && unusedEntries x.waiting
+abbrev pub quiet_at : Counts → ℕ → Record → Bool
+quiet_at n i x = numbers_formed (is_of_store n i) x && unused_entries x.waiting
 
-abbrev pub busyAt : Counts → ℕ → Record → Bool
-busyAt n i x = isOfStore n i && isTimestamp x.read && isTimestamp x.write && waitingFormed (counted n) x.waiting
+abbrev pub busy_at : Counts → ℕ → Record → Bool
+busy_at n i x = is_of_store n i && is_timestamp x.read && is_timestamp x.write && waiting_formed (counted n) x.waiting
 
 -- block b, where it needs reconciliation, is below the number of blocks
-abbrev pub ofBlocks : (blocks : ℕ) → Chunk → ℕ → Bool
-ofBlocks blocks c b = not (get_or c.reconcile b false) || ltb b blocks
+abbrev pub of_blocks : (blocks : ℕ) → Chunk → ℕ → Bool
+of_blocks blocks c b = not (get_or c.reconcile b false) || ltb b blocks

@@ -1,12 +1,12 @@
 // Code 8: the whole table is looked at. A part of the store's must be formed, an unused one zero.
 ghost use Rattle.std.specs.Prelude.{◌-◌, ◌≡◌, ◌&&◌, not};
-ghost use Rattle.rules.specs.Creation.{isCreation, ofStore, isSetOf};
-ghost use Rattle.rules.specs.Formed.{operationFormed, operationAt, queueFormed, attemptFormed, hostFormed, chunkFormed, entryFormed, entryAt, waitingFormed, hostAt, chunkAt, headerFormed, sortFormed, messageFormed, slotFormed, hostsFormed, chunksFormed, recordsFormed, placesFormed, wellFormed};
-ghost use Rattle.rules.specs.Limits.{blockLimit, operationLimit, waitingLimit};
+ghost use Rattle.rules.specs.Creation.{is_creation, of_store, is_set_of};
+ghost use Rattle.rules.specs.Formed.{operation_formed, operation_at, queue_formed, attempt_formed, host_formed, chunk_formed, entry_formed, entry_at, waiting_formed, host_at, chunk_at, header_formed, sort_formed, message_formed, slot_formed, hosts_formed, chunks_formed, records_formed, places_formed, well_formed};
+ghost use Rattle.rules.specs.Limits.{block_limit, operation_limit, waiting_limit};
 ghost use Rattle.rules.specs.Timestamps.{◌above◌};
 ghost use Rattle.rules.specs.Words.{if◌then◌else◌, every, numbers};
-ghost use Rattle.rules.specs.Zero.{is_empty, isZeroEntry, isZeroChunk, isZeroOperation, isZeroAttempt, isZeroHost};
-ghost use Rattle.table_sound.specs.Parts.{counted, countsOf, allFormed, ofBlocks, unusedEntries, numbersFormed, isOfStore, isQuiet, quietAt, busyAt, recordInPlace};
+ghost use Rattle.rules.specs.Zero.{is_empty, is_zero_entry, is_zero_chunk, is_zero_operation, is_zero_attempt, is_zero_host};
+ghost use Rattle.table_sound.specs.Parts.{counted, counts_of, all_formed, of_blocks, unused_entries, numbers_formed, is_of_store, is_quiet, quiet_at, busy_at, record_in_place};
 
 use rules::{
     Attempt, Chunk, Creation, Entry, Epoch, Header, Host, Message, Operation, Place, Queue, Record,
@@ -25,7 +25,7 @@ struct Counts {
 
 // Every chunk in the set is one of the store's.
 fn of_store(n: Counts, s: Set) -> bool
-    ensures { result ≡ ofStore (counted n) s }
+    ensures { result ≡ of_store (counted n) s }
 {
     let mut ok = true;
     let mut i: usize = 0;
@@ -38,7 +38,7 @@ fn of_store(n: Counts, s: Set) -> bool
 
 // "Each block has a non-empty set of chunks that hold its copies"; a block that the store lacks has none.
 fn is_set_of(n: Counts, used: bool, s: Set) -> bool
-    ensures { result ≡ if used then not (is_empty s) && ofStore (counted n) s else is_empty s }
+    ensures { result ≡ if used then not (is_empty s) && of_store (counted n) s else is_empty s }
 {
     let empty = table_sets::is_empty(s);
     if used {
@@ -49,7 +49,7 @@ fn is_set_of(n: Counts, used: bool, s: Set) -> bool
 
 // The set of every block, and of every place for one.
 fn sets_formed(k: Creation) -> bool
-    ensures { result ≡ every (isSetOf k) (numbers blockLimit) }
+    ensures { result ≡ every (is_set_of k) (numbers block_limit) }
 {
     let n = Counts {
         hosts: k.hosts,
@@ -68,7 +68,7 @@ fn sets_formed(k: Creation) -> bool
 
 // "1 to 8 hosts, 1 to 8 chunks, 1 to 16 blocks .. with the age limit (0 to 4,294,967,295)"
 pub fn is_creation(k: Creation) -> bool
-    ensures { result ≡ isCreation k }
+    ensures { result ≡ is_creation k }
 {
     ((1 <= k.hosts) & (k.hosts <= rules::HOSTS as u64))
         & ((1 <= k.chunks) & (k.chunks <= rules::CHUNKS as u64))
@@ -80,7 +80,7 @@ pub fn is_creation(k: Creation) -> bool
 // ---- a host
 
 fn is_zero_operation(o: Operation) -> bool
-    ensures { result ≡ isZeroOperation o }
+    ensures { result ≡ is_zero_operation o }
 {
     let a = o.action;
     (o.block == 0) & table_kinds::is_reading(a)
@@ -88,7 +88,7 @@ fn is_zero_operation(o: Operation) -> bool
 
 // One of the count, or an unused place.
 fn operation_at(n: Counts, used: bool, o: Operation) -> bool
-    ensures { result ≡ if used then operationFormed (counted n) o else isZeroOperation o }
+    ensures { result ≡ if used then operation_formed (counted n) o else is_zero_operation o }
 {
     if used {
         return o.block < n.blocks;
@@ -97,7 +97,7 @@ fn operation_at(n: Counts, used: bool, o: Operation) -> bool
 }
 
 fn operations_formed(n: Counts, q: Queue) -> bool
-    ensures { result ≡ every (operationAt (counted n) q) (numbers operationLimit) }
+    ensures { result ≡ every (operation_at (counted n) q) (numbers operation_limit) }
 {
     let mut ok = true;
     let mut i: usize = 0;
@@ -111,14 +111,14 @@ fn operations_formed(n: Counts, q: Queue) -> bool
 
 // "up to 8 operations, counting the current one"
 fn queue_formed(n: Counts, q: Queue) -> bool
-    ensures { result ≡ queueFormed (counted n) q }
+    ensures { result ≡ queue_formed (counted n) q }
 {
     (q.count <= rules::OPERATIONS as u64) & operations_formed(n, q)
 }
 
 // "current timestamp, outstanding chunks, okay, restart and result value all zero or false"
 fn is_zero_attempt(a: Attempt) -> bool
-    ensures { result ≡ isZeroAttempt a }
+    ensures { result ≡ is_zero_attempt a }
 {
     let s = a.outstanding;
     (a.timestamp.0 == 0) & table_sets::is_empty(s) & !a.okay & !a.restart & (a.result == 0)
@@ -126,7 +126,7 @@ fn is_zero_attempt(a: Attempt) -> bool
 
 // "A host without a current operation has [its attempt] zero .. With one, the current timestamp is above 0"
 fn attempt_formed(n: Counts, count: u64, a: Attempt) -> bool
-    ensures { result ≡ attemptFormed (counted n) count a }
+    ensures { result ≡ attempt_formed (counted n) count a }
 {
     if 0 < a.timestamp.0 {
         let s = a.outstanding;
@@ -137,7 +137,7 @@ fn attempt_formed(n: Counts, count: u64, a: Attempt) -> bool
 
 // "epoch known; .. last clock drawn", with the queue and the attempt.
 fn host_formed(n: Counts, h: Host) -> bool
-    ensures { result ≡ hostFormed (counted n) h }
+    ensures { result ≡ host_formed (counted n) h }
 {
     let q = h.queue;
     let a = h.attempt;
@@ -149,7 +149,7 @@ fn host_formed(n: Counts, h: Host) -> bool
 
 // A queue of none has every place unused.
 fn is_zero_host(n: Counts, h: Host) -> bool
-    ensures { result ≡ isZeroHost h }
+    ensures { result ≡ is_zero_host h }
 {
     let q = h.queue;
     let a = h.attempt;
@@ -164,7 +164,7 @@ fn is_zero_host(n: Counts, h: Host) -> bool
 
 // One of the store's, or an unused place.
 fn host_at(n: Counts, used: bool, h: Host) -> bool
-    ensures { result ≡ if used then hostFormed (counted n) h else isZeroHost h }
+    ensures { result ≡ if used then host_formed (counted n) h else is_zero_host h }
 {
     if used {
         return host_formed(n, h);
@@ -176,7 +176,7 @@ fn host_at(n: Counts, used: bool, h: Host) -> bool
 
 // Every block in the chunk's reconciliation set is one of the store's.
 fn blocks_of_store(blocks: u64, c: Chunk) -> bool
-    ensures { result ≡ every (ofBlocks blocks c) (numbers blockLimit) }
+    ensures { result ≡ every (of_blocks blocks c) (numbers block_limit) }
 {
     let mut ok = true;
     let mut i: usize = 0;
@@ -189,14 +189,14 @@ fn blocks_of_store(blocks: u64, c: Chunk) -> bool
 
 // "all chunks have one epoch, the store's"
 fn chunk_formed(n: Counts, epoch: Epoch, c: Chunk) -> bool
-    ensures { result ≡ chunkFormed (counted n) epoch c }
+    ensures { result ≡ chunk_formed (counted n) epoch c }
 {
     (c.epoch.0 == epoch.0) & blocks_of_store(n.blocks, c)
 }
 
 // The reconciliation set has only blocks of a store that has none: it is empty.
 fn is_zero_chunk(c: Chunk) -> bool
-    ensures { result ≡ isZeroChunk c }
+    ensures { result ≡ is_zero_chunk c }
 {
     let s = c.state;
     table_kinds::is_normal(s) & !c.lost & (c.epoch.0 == 0) & blocks_of_store(0, c)
@@ -204,7 +204,7 @@ fn is_zero_chunk(c: Chunk) -> bool
 
 // One of the store's, or an unused place.
 fn chunk_at(n: Counts, epoch: Epoch, used: bool, c: Chunk) -> bool
-    ensures { result ≡ if used then chunkFormed (counted n) epoch c else isZeroChunk c }
+    ensures { result ≡ if used then chunk_formed (counted n) epoch c else is_zero_chunk c }
 {
     if used {
         return chunk_formed(n, epoch, c);
@@ -215,7 +215,7 @@ fn chunk_at(n: Counts, epoch: Epoch, used: bool, c: Chunk) -> bool
 // ---- a record
 
 fn is_zero_entry(e: Entry) -> bool
-    ensures { result ≡ isZeroEntry e }
+    ensures { result ≡ is_zero_entry e }
 {
     let k = e.kind;
     (e.timestamp.0 == 0) & (e.sender == 0) & (e.epoch.0 == 0) & table_kinds::is_read(k)
@@ -223,7 +223,7 @@ fn is_zero_entry(e: Entry) -> bool
 
 // "Beside its timestamp, sender and epoch": a kind, of which any is right.
 fn entry_formed(n: Counts, e: Entry) -> bool
-    ensures { result ≡ entryFormed (counted n) e }
+    ensures { result ≡ entry_formed (counted n) e }
 {
     (e.timestamp.0 <= rules::GREATEST_TIMESTAMP)
         & (e.sender < n.hosts)
@@ -232,7 +232,7 @@ fn entry_formed(n: Counts, e: Entry) -> bool
 
 // One of the count, not below the one ahead of it, or an unused place.
 fn entry_at(n: Counts, used: bool, ahead: Timestamp, e: Entry) -> bool
-    ensures { result ≡ if used then entryFormed (counted n) e && not (ahead above e.timestamp) else isZeroEntry e }
+    ensures { result ≡ if used then entry_formed (counted n) e && not (ahead above e.timestamp) else is_zero_entry e }
 {
     if used {
         return entry_formed(n, e) & !(e.timestamp.0 < ahead.0);
@@ -248,7 +248,7 @@ fn before(i: usize) -> usize
 }
 
 fn entries_formed(n: Counts, w: Waiting) -> bool
-    ensures { result ≡ every (entryAt (counted n) w) (numbers waitingLimit) }
+    ensures { result ≡ every (entry_at (counted n) w) (numbers waiting_limit) }
 {
     let mut ok = true;
     let mut i: usize = 0;
@@ -264,14 +264,14 @@ fn entries_formed(n: Counts, w: Waiting) -> bool
 
 // "up to 8 waiting entries in timestamp order"
 fn waiting_formed(n: Counts, w: Waiting) -> bool
-    ensures { result ≡ waitingFormed (counted n) w }
+    ensures { result ≡ waiting_formed (counted n) w }
 {
     (w.count <= rules::WAITING as u64) & entries_formed(n, w)
 }
 
 // Every place is unused. A loop over all of them, with no way out, is unrolled: the entries are read where they lie, not copied.
 fn entries_unused(w: Waiting) -> bool
-    ensures { result ≡ unusedEntries w }
+    ensures { result ≡ unused_entries w }
 {
     let mut ok = true;
     let mut i: usize = 0;
@@ -285,7 +285,7 @@ fn entries_unused(w: Waiting) -> bool
 
 // "a value, last read, last write": a value is any 64-bit number; of an unused record all three are 0.
 fn numbers_formed(used: bool, x: Record) -> bool
-    ensures { result ≡ numbersFormed used x }
+    ensures { result ≡ numbers_formed used x }
 {
     if used {
         return (x.read.0 <= rules::GREATEST_TIMESTAMP) & (x.write.0 <= rules::GREATEST_TIMESTAMP);
@@ -295,7 +295,7 @@ fn numbers_formed(used: bool, x: Record) -> bool
 
 // Record i is of a chunk and a block of the store's: it stands at chunk x 16 + block.
 fn is_of_store(n: Counts, i: u64) -> bool
-    ensures { result ≡ isOfStore n i }
+    ensures { result ≡ is_of_store n i }
 {
     let blocks = rules::BLOCKS as u64;
     (i / blocks < n.chunks) & (i % blocks < n.blocks)
@@ -303,7 +303,7 @@ fn is_of_store(n: Counts, i: u64) -> bool
 
 // Nothing waits: the rule, so it is looked at first.
 fn is_quiet(x: Record) -> bool
-    ensures { result ≡ isQuiet x }
+    ensures { result ≡ is_quiet x }
 {
     let w = x.waiting;
     w.count == 0
@@ -311,7 +311,7 @@ fn is_quiet(x: Record) -> bool
 
 // A record that nothing waits in: every place for an entry is unused.
 fn quiet_at(n: Counts, i: u64, x: Record) -> bool
-    ensures { result ≡ quietAt n i x }
+    ensures { result ≡ quiet_at n i x }
 {
     let w = x.waiting;
     numbers_formed(is_of_store(n, i), x) & entries_unused(w)
@@ -319,7 +319,7 @@ fn quiet_at(n: Counts, i: u64, x: Record) -> bool
 
 // A record with waiting entries is one of the store's.
 fn busy_at(n: Counts, i: u64, x: Record) -> bool
-    ensures { result ≡ busyAt n i x }
+    ensures { result ≡ busy_at n i x }
 {
     let w = x.waiting;
     is_of_store(n, i)
@@ -332,7 +332,7 @@ fn busy_at(n: Counts, i: u64, x: Record) -> bool
 
 // "a message's block may be 0 to 15 and a timestamp anything up to 34,359,738,367"
 fn header_formed(n: Counts, h: Header) -> bool
-    ensures { result ≡ headerFormed (counted n) h }
+    ensures { result ≡ header_formed (counted n) h }
 {
     (h.host < n.hosts)
         & (h.chunk < n.chunks)
@@ -342,7 +342,7 @@ fn header_formed(n: Counts, h: Header) -> bool
 
 // "the first four also the epoch the host knows"
 fn sort_formed(s: Sort) -> bool
-    ensures { result ≡ sortFormed s }
+    ensures { result ≡ sort_formed s }
 {
     match s {
         Sort::Request(epoch, _) => epoch.0 <= rules::GREATEST_CLOCK,
@@ -353,7 +353,7 @@ fn sort_formed(s: Sort) -> bool
 }
 
 fn message_formed(n: Counts, m: Message) -> bool
-    ensures { result ≡ messageFormed (counted n) m }
+    ensures { result ≡ message_formed (counted n) m }
 {
     let header = network_messages::header_of(m);
     let sort = network_messages::sort_of(m);
@@ -361,7 +361,7 @@ fn message_formed(n: Counts, m: Message) -> bool
 }
 
 fn place_formed(n: Counts, p: Place) -> bool
-    ensures { result ≡ slotFormed (counted n) p.slot }
+    ensures { result ≡ slot_formed (counted n) p.slot }
 {
     let s = p.slot;
     match s {
@@ -375,7 +375,7 @@ fn place_formed(n: Counts, p: Place) -> bool
 // ---- the table where it lies
 
 fn counts_of(k: Creation) -> Counts
-    ensures { result ≡ countsOf k }
+    ensures { result ≡ counts_of k }
 {
     Counts {
         hosts: k.hosts,
@@ -386,19 +386,19 @@ fn counts_of(k: Creation) -> Counts
 
 // What was looked at before is formed, and so is one part more.
 fn host_next(ok: bool, n: Counts, i: u64, h: Host) -> bool
-    ensures { result ≡ ok && hostAt (counted n) i h }
+    ensures { result ≡ ok && host_at (counted n) i h }
 {
     ok & host_at(n, i < n.hosts, h)
 }
 
 fn chunk_next(ok: bool, n: Counts, epoch: Epoch, i: u64, c: Chunk) -> bool
-    ensures { result ≡ ok && chunkAt (counted n) epoch i c }
+    ensures { result ≡ ok && chunk_at (counted n) epoch i c }
 {
     ok & chunk_at(n, epoch, i < n.chunks, c)
 }
 
 fn place_next(ok: bool, n: Counts, p: Place) -> bool
-    ensures { result ≡ ok && slotFormed (counted n) p.slot }
+    ensures { result ≡ ok && slot_formed (counted n) p.slot }
 {
     ok & place_formed(n, p)
 }
@@ -410,7 +410,7 @@ fn record_next(ok: bool, formed: bool) -> bool
 }
 
 fn hosts_sound(t: &Table, n: Counts) -> bool
-    ensures { result ≡ hostsFormed (counted n) t.now.hosts }
+    ensures { result ≡ hosts_formed (counted n) t.now.hosts }
 {
     let mut ok = true;
     let mut i: u64 = 0;
@@ -422,7 +422,7 @@ fn hosts_sound(t: &Table, n: Counts) -> bool
 }
 
 fn chunks_sound(t: &Table, n: Counts, epoch: Epoch) -> bool
-    ensures { result ≡ chunksFormed (counted n) epoch t.now.chunks }
+    ensures { result ≡ chunks_formed (counted n) epoch t.now.chunks }
 {
     let mut ok = true;
     let mut i: u64 = 0;
@@ -435,7 +435,7 @@ fn chunks_sound(t: &Table, n: Counts, epoch: Epoch) -> bool
 
 // A record is read anew for the test that its count leads to: neither read is a copy.
 fn record_sound(t: &Table, n: Counts, i: u64) -> bool
-    ensures { result ≡ recordInPlace n t.now.records i }
+    ensures { result ≡ record_in_place n t.now.records i }
 {
     let quiet = is_quiet(table_records::record_in(t, i));
     if quiet {
@@ -446,7 +446,7 @@ fn record_sound(t: &Table, n: Counts, i: u64) -> bool
 }
 
 fn records_sound(t: &Table, n: Counts) -> bool
-    ensures { result ≡ recordsFormed (counted n) t.now.records }
+    ensures { result ≡ records_formed (counted n) t.now.records }
 {
     let mut ok = true;
     let mut i: u64 = 0;
@@ -458,7 +458,7 @@ fn records_sound(t: &Table, n: Counts) -> bool
 }
 
 fn places_sound(t: &Table, n: Counts) -> bool
-    ensures { result ≡ placesFormed (counted n) t.now.places }
+    ensures { result ≡ places_formed (counted n) t.now.places }
 {
     let mut ok = true;
     let mut i: u64 = 0;
@@ -477,14 +477,14 @@ fn all_formed(
     records: bool,
     places: bool,
 ) -> bool
-    ensures { result ≡ allFormed k epoch hosts chunks records places }
+    ensures { result ≡ all_formed k epoch hosts chunks records places }
 {
     is_creation(k) & (epoch.0 <= rules::GREATEST_CLOCK) & hosts & chunks & records & places
 }
 
 // As `well_formed`, of a table that lies elsewhere: each part is read there, and none of its arrays is copied.
 pub fn sound_in(t: &Table) -> bool
-    ensures { result ≡ wellFormed t.now }
+    ensures { result ≡ well_formed t.now }
 {
     let k = table_numbers::creation_in(t);
     let epoch = table_numbers::epoch_in(t);

@@ -1,7 +1,7 @@
 // What zero is for each type: unused places hold it, and a created store begins with it.
 ghost use Rattle.std.specs.Prelude.{◌≡◌};
-ghost use Rattle.rules.specs.Built.{creationOf, operationOf};
-ghost use Rattle.rules.specs.Zero.{zeroCreation, zeroSet, zeroEntry, zeroWaiting, zeroRecord, zeroChunk, zeroOperation, zeroAttempt, zeroHost};
+ghost use Rattle.rules.specs.Built.{creation_of, operation_of};
+ghost use Rattle.rules.specs.Zero.{zero_creation, zero_set, zero_entry, zero_waiting, zero_record, zero_chunk, zero_operation, zero_attempt, zero_host};
 
 use rules::{
     Action, Attempt, Chunk, Creation, Entry, Epoch, Host, Kind, Operation, Queue, Record, Set,
@@ -10,7 +10,7 @@ use rules::{
 
 // The set with no chunk in it.
 pub fn set() -> Set
-    ensures { result ≡ zeroSet }
+    ensures { result ≡ zero_set }
 {
     Set {
         chunks: [false; rules::CHUNKS],
@@ -25,7 +25,7 @@ pub fn creation_of(
     age: u64,
     sets: [Set; rules::BLOCKS],
 ) -> Creation
-    ensures { result ≡ creationOf hosts chunks blocks age sets }
+    ensures { result ≡ creation_of hosts chunks blocks age sets }
 {
     Creation {
         hosts: hosts,
@@ -37,14 +37,14 @@ pub fn creation_of(
 }
 
 pub fn creation() -> Creation
-    ensures { result ≡ zeroCreation }
+    ensures { result ≡ zero_creation }
 {
     let none = set();
     creation_of(0, 0, 0, 0, [none; rules::BLOCKS])
 }
 
 pub fn entry() -> Entry
-    ensures { result ≡ zeroEntry }
+    ensures { result ≡ zero_entry }
 {
     Entry {
         timestamp: Timestamp(0),
@@ -56,7 +56,7 @@ pub fn entry() -> Entry
 
 // The list in which nothing waits.
 pub fn waiting() -> Waiting
-    ensures { result ≡ zeroWaiting }
+    ensures { result ≡ zero_waiting }
 {
     let e = entry();
     Waiting {
@@ -66,7 +66,7 @@ pub fn waiting() -> Waiting
 }
 
 pub fn record() -> Record
-    ensures { result ≡ zeroRecord }
+    ensures { result ≡ zero_record }
 {
     let w = waiting();
     Record {
@@ -78,7 +78,7 @@ pub fn record() -> Record
 }
 
 pub fn chunk() -> Chunk
-    ensures { result ≡ zeroChunk }
+    ensures { result ≡ zero_chunk }
 {
     Chunk {
         state: State::Normal,
@@ -90,7 +90,7 @@ pub fn chunk() -> Chunk
 
 // What a host is asked to do. Every operation is made here.
 pub fn operation_of(block: u64, action: Action) -> Operation
-    ensures { result ≡ operationOf block action }
+    ensures { result ≡ operation_of block action }
 {
     Operation {
         block: block,
@@ -99,14 +99,14 @@ pub fn operation_of(block: u64, action: Action) -> Operation
 }
 
 pub fn operation() -> Operation
-    ensures { result ≡ zeroOperation }
+    ensures { result ≡ zero_operation }
 {
     operation_of(0, Action::Read)
 }
 
 // "current timestamp, outstanding chunks, okay, restart and result value all zero or false".
 pub fn attempt() -> Attempt
-    ensures { result ≡ zeroAttempt }
+    ensures { result ≡ zero_attempt }
 {
     let none = set();
     Attempt {
@@ -119,7 +119,7 @@ pub fn attempt() -> Attempt
 }
 
 pub fn host() -> Host
-    ensures { result ≡ zeroHost }
+    ensures { result ≡ zero_host }
 {
     let o = operation();
     let q = Queue {

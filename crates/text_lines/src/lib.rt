@@ -3,7 +3,7 @@
 ghost use Rattle.std.specs.Prelude.{min, ◌≡◌, [], ◌∷◌, ◌++◌};
 ghost use Rattle.rules.specs.Words.{fold};
 ghost use Rattle.text_numbers.specs.Lines.{line_of};
-ghost use Rattle.text_lines.specs.Texts.{decimal, lineWith, answerLine, text_of, followed, bytes_of, cut_at};
+ghost use Rattle.text_lines.specs.Texts.{decimal, line_with, answer_line, text_of, followed, bytes_of, cut_at};
 
 use rules::Outcome;
 use text_numbers::Line;
@@ -117,7 +117,7 @@ fn push_number(t: Text, n: u64, after: u8) -> Text
 
 // "Numbers are decimal, one space apart"
 fn numbers_text(code: u64, kind: u64, host: u64, block: u64, value: u64) -> Text
-    ensures { result ≡ text_of (lineWith (code ∷ kind ∷ host ∷ block ∷ value ∷ [])) }
+    ensures { result ≡ text_of (line_with (code ∷ kind ∷ host ∷ block ∷ value ∷ [])) }
 {
     let t1 = push_number(no_text(), code, SPACE);
     let t2 = push_number(t1, kind, SPACE);
@@ -128,7 +128,7 @@ fn numbers_text(code: u64, kind: u64, host: u64, block: u64, value: u64) -> Text
 
 // "code, outcome, host, block, value"
 pub fn answer_text(code: u64, o: Outcome) -> Text
-    ensures { result ≡ text_of (answerLine code o) }
+    ensures { result ≡ text_of (answer_line code o) }
 {
     match o {
         Outcome::None => numbers_text(code, 0, 0, 0, 0),

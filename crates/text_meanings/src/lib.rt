@@ -2,8 +2,8 @@
 // Document 01, "One session, whole".
 ghost use Rattle.std.specs.Prelude.{◌≡◌};
 ghost use Rattle.rules.specs.Words.{each, every};
-ghost use Rattle.rules.specs.Zero.{zeroCreation};
-ghost use Rattle.text_meanings.specs.Meanings.{askedBy, isSum, setWith, named_by};
+ghost use Rattle.rules.specs.Zero.{zero_creation};
+ghost use Rattle.text_meanings.specs.Meanings.{asked_by, is_sum, set_with, named_by};
 
 use rules::{Creation, Event, Set};
 use text_numbers::Line;
@@ -24,7 +24,7 @@ pub struct Named {
 
 // "an event a line, its number and then only its own operands"
 pub fn event_of(l: Line) -> Asked
-    ensures { result ≡ askedBy l }
+    ensures { result ≡ asked_by l }
 {
     let kind = l.numbers[0];
     let count = event_operands::count(kind);
@@ -53,7 +53,7 @@ pub fn event_of(l: Line) -> Asked
 
 // No number names a chunk above 7.
 fn all_sums(ns: [u64; text_numbers::NUMBERS]) -> bool
-    ensures { result ≡ every isSum ns }
+    ensures { result ≡ every is_sum ns }
 {
     let mut i: usize = 0;
     while i < text_numbers::NUMBERS {
@@ -67,7 +67,7 @@ fn all_sums(ns: [u64; text_numbers::NUMBERS]) -> bool
 
 // The chunks c whose 2 to the power c is in the sum.
 fn set_of(n: u64) -> Set
-    ensures { result ≡ setWith n }
+    ensures { result ≡ set_with n }
 {
     Set {
         chunks: [
@@ -85,7 +85,7 @@ fn set_of(n: u64) -> Set
 
 // "one number a block"
 fn sets_of(ns: [u64; text_numbers::NUMBERS]) -> [Set; rules::BLOCKS]
-    ensures { result ≡ each setWith ns }
+    ensures { result ≡ each set_with ns }
 {
     let none = set_of(0);
     let mut sets = [none; rules::BLOCKS];

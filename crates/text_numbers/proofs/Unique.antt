@@ -1,6 +1,6 @@
 -- Each public function's promise determines its answer
 use Rattle.rules.proofs.Unique.{unique, Determined}
-use Rattle.text_numbers.proofs.parse.Reads as parse-contract
+use Rattle.text_numbers.proofs.parse.Reads as parse_contract
 
-parse-unique : Determined parse-contract.Learnt
-parse-unique κs a x y s u = unique
+parse_unique : Determined parse_contract.Learnt
+parse_unique κs a x y s u = unique

@@ -1,8 +1,8 @@
 // A line of input to numbers: what a good line says, and which line is bad. On bytes alone.
 // Document 01, "One session, whole".
 ghost use Rattle.std.specs.Prelude.{◌<◌, ◌≡◌};
-ghost use Rattle.text_numbers.specs.Lines.{badLine, line_of};
-ghost use Rattle.text_numbers.specs.Steps.{betweenWords, badReading, newReading, saidAlso, ended, continued, taken};
+ghost use Rattle.text_numbers.specs.Lines.{bad_line, line_of};
+ghost use Rattle.text_numbers.specs.Steps.{between_words, bad_reading, new_reading, said_also, ended, continued, taken};
 
 // "longer than 120 bytes"
 pub const LIMIT: usize = 120;
@@ -29,7 +29,7 @@ struct Reading {
 }
 
 fn bad_line() -> Line
-    ensures { result ≡ badLine }
+    ensures { result ≡ bad_line }
 {
     Line {
         good: false,
@@ -40,7 +40,7 @@ fn bad_line() -> Line
 
 // A line while it is read, with no word begun.
 fn between(l: Line) -> Reading
-    ensures { result ≡ betweenWords l }
+    ensures { result ≡ between_words l }
 {
     Reading {
         line: l,
@@ -50,14 +50,14 @@ fn between(l: Line) -> Reading
 }
 
 fn bad_reading() -> Reading
-    ensures { result ≡ badReading }
+    ensures { result ≡ bad_reading }
 {
     between(bad_line())
 }
 
 // Before the first byte.
 fn new_reading() -> Reading
-    ensures { result ≡ newReading }
+    ensures { result ≡ new_reading }
 {
     let l = Line {
         good: true,
@@ -70,7 +70,7 @@ fn new_reading() -> Reading
 // A line with one number more.
 fn say_also(l: Line, n: u64) -> Line
     requires { l.count < 1000 }
-    ensures { result ≡ saidAlso l n }
+    ensures { result ≡ said_also l n }
 {
     let i = l.count as usize;
     let mut out = l;

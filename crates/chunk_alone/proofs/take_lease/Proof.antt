@@ -1,12 +1,12 @@
 -- `chunk_alone::take_lease` meets its contract
 use mathlib.Core.Path.{◌∙◌}
 use borrow.Author.Rules.{rules}
-use Rattle.chunk_alone.proofs.Laws.{changed-as}
+use Rattle.chunk_alone.proofs.Laws.{changed_as}
 use Rattle.chunk_alone.proofs.take_lease.Statement.{statement}
 use Rattle.chunk_alone.proofs.take_lease.Tie as tie
 
 returns : tie.Need-returns
-returns c = c.unless-refused.ensures ∙ changed-as _ _ c.before.before.take-lease-code.ensures _ _ _ c.before.with-state.ensures
+returns c = c.unless-refused.ensures ∙ changed_as _ _ c.before.before.take-lease-code.ensures _ _ _ c.before.with-state.ensures
 
 pub take-lease-spec : {M : Type 1} → statement M
 take-lease-spec =

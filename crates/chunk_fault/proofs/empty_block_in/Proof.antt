@@ -41,12 +41,12 @@ use Rattle.rules.specs.contracts.Record as RecordR
 use Rattle.rules.proofs.Record.TheLaws as RecordL
 use Rattle.rules.specs.declared.Table.{Table}
 use Rattle.rules.specs.contracts.Table as TableR
-use Rattle.rules.specs.Zero.{zeroRecord}
-use Rattle.rules.specs.Tables.{withRecords}
+use Rattle.rules.specs.Zero.{zero_record}
+use Rattle.rules.specs.Tables.{with_records}
 use Rattle.rules.specs.Chunks.{emptied}
-use Rattle.table_records.specs.Numbers.{recordNumber}
-use Rattle.chunk_fault.specs.Steps.{withEmptied}
-use Rattle.chunk_fault.proofs.Laws.{block-is}
+use Rattle.table_records.specs.Numbers.{record_number}
+use Rattle.chunk_fault.specs.Steps.{with_emptied}
+use Rattle.chunk_fault.proofs.Laws.{block_is}
 use Rattle.table_lent.proofs.Share.{SharedOut, shares_out, comes_home}
 use Rattle.table_records.specs.contracts.record_number as record-number
 use Rattle.table_records.proofs.record_number.Symbol as record-number-def
@@ -76,14 +76,14 @@ module _ {M : Type 1} {𝓤 : Ura M} (𝓛 : Logic 𝓤) (at_mem : Memory → SP
   abbrev C-record-number : Contract 𝓤
   C-record-number = triple_of 𝓛 record-number.signature (record-number.spec 𝓛 at_mem run)
 
-  said-record-number : (x0 : ℕ) (x1 : ℕ) (r : ℕ) → ent 𝓤 (ensured 𝓛 record-number.ended (record-number.clauses 𝓛 at_mem run) tt (x0, (x1, tt)) tt r) (fact 𝓤 (r ≡ recordNumber x0 x1))
-  said-record-number x0 x1 r = ex_e 𝓤 _ (λ ws. snd∗ 𝓤 (sem 𝓛 (lasts record-number.ended tt (x0, (x1, tt)) ws)) (fact 𝓤 (r ≡ recordNumber x0 x1)))
+  said-record-number : (x0 : ℕ) (x1 : ℕ) (r : ℕ) → ent 𝓤 (ensured 𝓛 record-number.ended (record-number.clauses 𝓛 at_mem run) tt (x0, (x1, tt)) tt r) (fact 𝓤 (r ≡ record_number x0 x1))
+  said-record-number x0 x1 r = ex_e 𝓤 _ (λ ws. snd∗ 𝓤 (sem 𝓛 (lasts record-number.ended tt (x0, (x1, tt)) ws)) (fact 𝓤 (r ≡ record_number x0 x1)))
 
   abbrev C-record-in : Contract 𝓤
   C-record-in = triple_of 𝓛 record-in.signature (record-in.spec 𝓛 at_mem run)
 
-  said-record-in : (κ : Lft) (t : Bor Table) (x0 : ℕ) (r : Record) → ent 𝓤 (ensured 𝓛 record-in.ended (record-in.clauses 𝓛 at_mem run) (κ, tt) (t, (x0, tt)) tt r) (fact 𝓤 (r ≡ get_or t.now.records x0 zeroRecord))
-  said-record-in κ t x0 r = ex_e 𝓤 _ (λ ws. snd∗ 𝓤 (sem 𝓛 (lasts record-in.ended (κ, tt) (t, (x0, tt)) ws)) (fact 𝓤 (r ≡ get_or t.now.records x0 zeroRecord)))
+  said-record-in : (κ : Lft) (t : Bor Table) (x0 : ℕ) (r : Record) → ent 𝓤 (ensured 𝓛 record-in.ended (record-in.clauses 𝓛 at_mem run) (κ, tt) (t, (x0, tt)) tt r) (fact 𝓤 (r ≡ get_or t.now.records x0 zero_record))
+  said-record-in κ t x0 r = ex_e 𝓤 _ (λ ws. snd∗ 𝓤 (sem 𝓛 (lasts record-in.ended (κ, tt) (t, (x0, tt)) ws)) (fact 𝓤 (r ≡ get_or t.now.records x0 zero_record)))
 
   abbrev C-fault-emptied : Contract 𝓤
   C-fault-emptied = triple_of 𝓛 fault-emptied.signature (fault-emptied.spec 𝓛 at_mem run)
@@ -139,7 +139,7 @@ module _ {M : Type 1} {𝓤 : Ura M} (𝓛 : Logic 𝓤) (at_mem : Memory → SP
   Post = (walk_of 𝓛 me.ended stayed (me.clauses 𝓛 at_mem run)).post (((κ, tt), (q, tt), tt, x, vs), tt)
 
   module _ (g2 : Is usize x2 ((vint w64 x2) ∷ [])) (g3 : Is usize x3 ((vint w64 x3) ∷ [])) where
-    exits : (z : Table) → z ≡ withEmptied x2 h x3 → ent 𝓤 (⋆ 𝓛 (‵ ((MutRef (named 0) κ TableR.the_row).own_val (rt γ z) (vptr b o ∷ [])) ∷ ‵ (flft κ q) ∷ [])) (Post vunit)
+    exits : (z : Table) → z ≡ with_emptied x2 h x3 → ent 𝓤 (⋆ 𝓛 (‵ ((MutRef (named 0) κ TableR.the_row).own_val (rt γ z) (vptr b o ∷ [])) ∷ ‵ (flft κ q) ∷ [])) (Post vunit)
     exits z eq =
         qed 𝓛 (‵ ((MutRef (named 0) κ TableR.the_row).own_val (rt γ z) (vptr b o ∷ [])) ∷ ‵ (flft κ q) ∷ []) ∵
         suffices ! _ (ends_at 𝓛 me.ended stayed (me.clauses 𝓛 at_mem run) (((κ, tt), (q, tt), tt, x, vs), tt) vunit tt (z, (tt, (tt, tt))) (tt, (tt, (tt, tt)))) $ says ! eq $
@@ -166,7 +166,7 @@ module _ {M : Type 1} {𝓤 : Ura M} (𝓛 : Logic 𝓤) (at_mem : Memory → SP
           nothing ! $ use1 𝓛 (raw ((C-record-number 𝓛 at_mem run).pre (to-record-number 𝓛 at_mem run x2 (vint w64 x2) x3 (vint w64 x3)))) (goes-record-number 𝓛 at_mem run x2 (vint w64 x2) x3 (vint w64 x3) g2 g3) $
           calls_at ! fm (C-record-number 𝓛 at_mem run) known-record-number (to-record-number 𝓛 at_mem run x2 (vint w64 x2) x3 (vint w64 x3)) (and_then ! (load ! (from ! (stop !)) (look ! 17 {q = full_share} {τ = ty_int w64} {b = l2} {o = 0} {v = (vint w64 x2)} refl)) (and_then ! (load ! (from ! (stop !)) (look ! 15 {q = full_share} {τ = ty_int w64} {b = l3} {o = 0} {v = (vint w64 x3)} refl)) (no_more !))) (λ w1.
           use1 𝓛 (later (some (λ (r : ℕ). (‵ ftrue ⊛ ‵ (usize.own_val r (w1 ∷ []))) ⊛ raw (ensured 𝓛 record-number.ended (record-number.clauses 𝓛 at_mem run) tt (x2, (x3, tt)) tt r)))) (id⊢ 𝓤 _) $ await ! tt $ pick ! (λ r1. split ! $ move ! (1 ∷ []) $
-          use1 𝓛 (raw (fact 𝓤 (r1 ≡ recordNumber x2 x3))) (said-record-number 𝓛 at_mem run x2 x3 r1) $ heard ! (r1 ≡ recordNumber x2 x3) (λ e1. split ! $ drop ! $ facts ! usize (Is usize) (shows 𝓛 usize) r1 (w1 ∷ []) (λ is1.
+          use1 𝓛 (raw (fact 𝓤 (r1 ≡ record_number x2 x3))) (said-record-number 𝓛 at_mem run x2 x3 r1) $ heard ! (r1 ≡ record_number x2 x3) (λ e1. split ! $ drop ! $ facts ! usize (Is usize) (shows 𝓛 usize) r1 (w1 ∷ []) (λ is1.
           land ! (from ! (stop !)) (init ! 12 {τ = ty_int w64} {v = w1} refl ((uint_Lawful 𝓛 w64).typed r1 _ is1).0) $
           assigns ! (addr ! (from ! (hop ! (look ! 18 refl) (stop !)))) (from ! (stop !)) (init ! 6 refl (tt, tt)) $
           -- _5 = table_records::record_in(_7, _4)
@@ -176,7 +176,7 @@ module _ {M : Type 1} {𝓤 : Ura M} (𝓛 : Logic 𝓤) (at_mem : Memory → SP
           use2 𝓛 (raw ((C-record-in 𝓛 at_mem run).pre (to-record-in 𝓛 at_mem run (ν2 ∷ []) full_share (rt δ2 h) r1 w1))) (goes-record-in 𝓛 at_mem run (ν2 ∷ []) full_share (rt δ2 h) r1 w1 is1) $
           calls_at ! fm (C-record-in 𝓛 at_mem run) known-record-in (to-record-in 𝓛 at_mem run (ν2 ∷ []) full_share (rt δ2 h) r1 w1) (and_then ! (load ! (from ! (stop !)) (look ! 6 refl)) (and_then ! (load ! (from ! (stop !)) (look ! 12 {q = full_share} {τ = ty_int w64} {b = l4} {o = 0} {v = w1} refl)) (no_more !))) (λ w2.
           use1 𝓛 (later (some (λ (r : Record). ((‵ (flft (ν2 ∷ []) full_share) ⊛ ‵ ftrue) ⊛ ‵ ((RecordR.the_row).own_val r (w2 ∷ []))) ⊛ raw (ensured 𝓛 record-in.ended (record-in.clauses 𝓛 at_mem run) ((ν2 ∷ []), tt) ((rt δ2 h), (r1, tt)) tt r)))) (id⊢ 𝓤 _) $ await ! tt $ pick ! (λ r2. split ! $ move ! (1 ∷ []) $
-          use1 𝓛 (raw (fact 𝓤 (r2 ≡ get_or h.records r1 zeroRecord))) (said-record-in 𝓛 at_mem run (ν2 ∷ []) (rt δ2 h) r1 r2) $ heard ! (r2 ≡ get_or h.records r1 zeroRecord) (λ e2. split ! $ move ! (1 ∷ []) $ facts ! RecordR.the_row (Is RecordR.the_row) (shows 𝓛 RecordR.the_row) r2 (w2 ∷ []) (λ is2.
+          use1 𝓛 (raw (fact 𝓤 (r2 ≡ get_or h.records r1 zero_record))) (said-record-in 𝓛 at_mem run (ν2 ∷ []) (rt δ2 h) r1 r2) $ heard ! (r2 ≡ get_or h.records r1 zero_record) (λ e2. split ! $ move ! (1 ∷ []) $ facts ! RecordR.the_row (Is RecordR.the_row) (shows 𝓛 RecordR.the_row) r2 (w2 ∷ []) (λ is2.
           land ! (from ! (stop !)) (init ! 10 {τ = RecordL.mir} {v = w2} refl ((LL.lawful RecordR.the_type RecordL.the_laws 𝓛).typed r2 _ is2).0) $
           split ! $ lft_end ! tt $ move ! (0 ∷ 2 ∷ []) $ use2 𝓛 (later (‵ ((MutRef (named 0) κ TableR.the_row).own_val (rt γ h) (vptr b o ∷ [])) ⊛ ‵ (flft κ q))) (comes_home 𝓛 TableR.the_row (named 0) κ (ν2 ∷ []) q γ b o h) $ await ! tt $ split ! $ move ! (2 ∷ []) $ drop ! $
           -- _6 = chunk_fault::emptied(_5)
@@ -193,7 +193,7 @@ module _ {M : Type 1} {𝓤 : Ura M} (𝓛 : Logic 𝓤) (at_mem : Memory → SP
           use2 𝓛 (raw ((C-put-record 𝓛 at_mem run).pre (to-put-record 𝓛 at_mem run (ν4 ∷ []) full_share (rt δ4 h) r1 w1 r3 w3))) (goes-put-record 𝓛 at_mem run (ν4 ∷ []) full_share (rt δ4 h) r1 w1 r3 w3 is1 is3) $
           calls_at ! fm (C-put-record 𝓛 at_mem run) known-put-record (to-put-record 𝓛 at_mem run (ν4 ∷ []) full_share (rt δ4 h) r1 w1 r3 w3) (and_then ! (load ! (from ! (stop !)) (look ! 2 refl)) (and_then ! (load ! (from ! (stop !)) (look ! 12 {q = full_share} {τ = ty_int w64} {b = l4} {o = 0} {v = w1} refl)) (and_then ! (load ! (from ! (stop !)) (look ! 8 {q = full_share} {τ = RecordL.mir} {b = l6} {o = 0} {v = w3} refl)) (no_more !)))) (λ w4.
           use1 𝓛 (later (some (λ (r : Unit {0}). ((‵ (flft (ν4 ∷ []) full_share) ⊛ ‵ ftrue) ⊛ ‵ (Nothing.own r (w4 ∷ []))) ⊛ raw (ensured 𝓛 put_record.ended (put_record.clauses 𝓛 at_mem run) ((ν4 ∷ []), tt) ((rt δ4 h), (r1, (r3, tt))) tt r)))) (id⊢ 𝓤 _) $ await ! tt $ pick ! (λ r4. split ! $ move ! (1 ∷ []) $
-          use1 𝓛 (some (λ (z4 : Table × (Unit {0} × (Unit {0} × Unit {0}))). ‵ (lasts put_record.ended ((ν4 ∷ []), tt) ((rt δ4 h), (r1, (r3, tt))) z4) ⊛ raw (fact 𝓤 (z4.0 ≡ withRecords h (set h.records r1 r3))))) (id⊢ 𝓤 _) $ pick ! (λ z4. split ! $ move ! (1 ∷ []) $ heard ! (z4.0 ≡ withRecords h (set h.records r1 r3)) (λ e4. fsplit ! $
+          use1 𝓛 (some (λ (z4 : Table × (Unit {0} × (Unit {0} × Unit {0}))). ‵ (lasts put_record.ended ((ν4 ∷ []), tt) ((rt δ4 h), (r1, (r3, tt))) z4) ⊛ raw (fact 𝓤 (z4.0 ≡ with_records h (set h.records r1 r3))))) (id⊢ 𝓤 _) $ pick ! (λ z4. split ! $ move ! (1 ∷ []) $ heard ! (z4.0 ≡ with_records h (set h.records r1 r3)) (λ e4. fsplit ! $
           move ! (2 ∷ []) $ split ! $ move ! (1 ∷ []) $ facts ! Nothing (Is Nothing) (shows 𝓛 Nothing) r4 (w4 ∷ []) (λ is4.
           land ! (from ! (stop !)) (init ! 6 {τ = ty_unit} {v = w4} refl ((Nothing-Lawful 𝓛).typed r4 _ is4).0) $ split ! $ lft_end ! tt $ move ! (0 ∷ 4 ∷ 2 ∷ []) $
           use3 𝓛 (later (‵ ((MutRef (named 0) κ TableR.the_row).own_val (rt γ z4.0) (vptr b o ∷ [])) ⊛ ‵ (flft κ q))) (comes_back 𝓛 TableR.the_row (named 0) κ (ν4 ∷ []) q γ b o δ4 h z4.0) $ await ! tt $ split ! $ move ! (2 ∷ 3 ∷ []) $ drop ! $ drop ! $
@@ -201,7 +201,7 @@ module _ {M : Type 1} {𝓤 : Ura M} (𝓛 : Logic 𝓤) (at_mem : Memory → SP
           returns ! (look ! 20 {q = full_share} {τ = ty_unit} {b = l0} {o = 0} {v = vunit} refl) $
           forget ! 2 refl $ forget ! 4 refl $ forget ! 6 refl $ forget ! 8 refl $ forget ! 10 refl $ forget ! 12 refl $ forget ! 14 refl $ forget ! 16 refl $ forget ! 18 refl $ forget ! 20 refl $
           move ! (20 ∷ 21 ∷ []) $ free1 ! $ move ! (18 ∷ 19 ∷ []) $ free1 ! $ move ! (16 ∷ 17 ∷ []) $ free1 ! $ move ! (14 ∷ 15 ∷ []) $ free1 ! $ move ! (12 ∷ 13 ∷ []) $ free1 ! $ move ! (10 ∷ 11 ∷ []) $ free1 ! $ move ! (8 ∷ 9 ∷ []) $ free1 ! $ move ! (6 ∷ 7 ∷ []) $ free1 ! $ move ! (4 ∷ 5 ∷ []) $ free1 ! $ move ! (2 ∷ 3 ∷ []) $ free1 ! $ free0 ! $
-          by ! (exits z4.0 (block-is h z4.0 x2 x3 r1 r2 r3 e1 e2 e3 e4)))))))))))))))))))))))))))))))))
+          by ! (exits z4.0 (block_is h z4.0 x2 x3 r1 r2 r3 e1 e2 e3 e4)))))))))))))))))))))))))))))))))
 
 module _ {M : Type 1} {𝓤 : Ura M} (𝓛 : Logic 𝓤) (at_mem : Memory → SProp 𝓤) (run : Routine → Fun 𝓤) where
   open 𝓛 use {H}

@@ -48,14 +48,14 @@ use Rattle.rules.specs.contracts.Chunk as ChunkR
 use Rattle.rules.proofs.Chunk.TheLaws as ChunkL
 use Rattle.rules.specs.declared.Table.{Table}
 use Rattle.rules.specs.contracts.Table as TableR
-use Rattle.rules.specs.Zero.{zeroChunk}
-use Rattle.rules.specs.Tables.{withChunks, withRecords}
-use Rattle.rules.specs.Chunks.{failRefusals, failed}
-use Rattle.rules.specs.Codes.{code_of, unlessRefused}
-use Rattle.rules.specs.Events.{withoutWaiting}
+use Rattle.rules.specs.Zero.{zero_chunk}
+use Rattle.rules.specs.Tables.{with_chunks, with_records}
+use Rattle.rules.specs.Chunks.{fail_refusals, failed}
+use Rattle.rules.specs.Codes.{code_of, unless_refused}
+use Rattle.rules.specs.Events.{without_waiting}
 use Rattle.rules.specs.Tables.{chunk_of}
-use Rattle.chunk_fault.specs.Steps.{failedTo}
-use Rattle.chunk_fault.proofs.Laws.{is-refused, is-failed}
+use Rattle.chunk_fault.specs.Steps.{failed_to}
+use Rattle.chunk_fault.proofs.Laws.{is_refused, is_failed_lem}
 use Rattle.table_lent.proofs.Share.{SharedOut, shares_out, comes_home}
 use Rattle.table_lent.proofs.Parts.{chunks-sized}
 use Rattle.table_chunks.specs.contracts.chunk_in as chunk_in
@@ -72,11 +72,11 @@ use Rattle.chunk_fault.proofs.code_of.Symbol.{name as #chunk_fault·code-of}
 use Rattle.chunk_fault.proofs.code_of.Met as code-of-thm
 use Rattle.chunk_fault.specs.contracts.chunk_of as Chunk-of
 use Rattle.chunk_fault.proofs.chunk_of.Symbol as chunk-of-def
-use Rattle.chunk_fault.proofs.chunk_of.Symbol.{name as #chunk_fault·chunk-of}
+use Rattle.chunk_fault.proofs.chunk_of.Symbol.{name as #chunk_fault·chunk_of_lem}
 use Rattle.chunk_fault.proofs.chunk_of.Met as chunk-of-thm
-use Rattle.chunk_fault.specs.contracts.is_refused as is-refused
+use Rattle.chunk_fault.specs.contracts.is_refused as is_refused
 use Rattle.chunk_fault.proofs.is_refused.Symbol as is-refused-def
-use Rattle.chunk_fault.proofs.is_refused.Symbol.{name as #chunk_fault·is-refused}
+use Rattle.chunk_fault.proofs.is_refused.Symbol.{name as #chunk_fault·is_refused}
 use Rattle.chunk_fault.proofs.is_refused.Met as is-refused-thm
 use Rattle.table_chunks.specs.contracts.put_chunk as put-chunk
 use Rattle.table_chunks.proofs.put_chunk.Symbol as put-chunk-def
@@ -98,14 +98,14 @@ module _ {M : Type 1} {𝓤 : Ura M} (𝓛 : Logic 𝓤) (at_mem : Memory → SP
   abbrev C-chunk-in : Contract 𝓤
   C-chunk-in = triple_of 𝓛 chunk_in.signature (chunk_in.spec 𝓛 at_mem run)
 
-  said-chunk-in : (κ : Lft) (t : Bor Table) (x0 : ℕ) (r : Chunk) → ent 𝓤 (ensured 𝓛 chunk_in.ended (chunk_in.clauses 𝓛 at_mem run) (κ, tt) (t, (x0, tt)) tt r) (fact 𝓤 (r ≡ get_or t.now.chunks x0 zeroChunk))
-  said-chunk-in κ t x0 r = ex_e 𝓤 _ (λ ws. snd∗ 𝓤 (sem 𝓛 (lasts chunk_in.ended (κ, tt) (t, (x0, tt)) ws)) (fact 𝓤 (r ≡ get_or t.now.chunks x0 zeroChunk)))
+  said-chunk-in : (κ : Lft) (t : Bor Table) (x0 : ℕ) (r : Chunk) → ent 𝓤 (ensured 𝓛 chunk_in.ended (chunk_in.clauses 𝓛 at_mem run) (κ, tt) (t, (x0, tt)) tt r) (fact 𝓤 (r ≡ get_or t.now.chunks x0 zero_chunk))
+  said-chunk-in κ t x0 r = ex_e 𝓤 _ (λ ws. snd∗ 𝓤 (sem 𝓛 (lasts chunk_in.ended (κ, tt) (t, (x0, tt)) ws)) (fact 𝓤 (r ≡ get_or t.now.chunks x0 zero_chunk)))
 
   abbrev C-alone-fail : Contract 𝓤
   C-alone-fail = triple_of 𝓛 alone-fail.signature (alone-fail.spec 𝓛 at_mem run)
 
-  said-alone-fail : (x0 : Chunk) (r : Changed) → ent 𝓤 (ensured 𝓛 alone-fail.ended (alone-fail.clauses 𝓛 at_mem run) tt (x0, tt) tt r) (fact 𝓤 (r ≡ record { code = code_of (failRefusals x0.state); chunk = unlessRefused (failRefusals x0.state) x0 (failed x0) }))
-  said-alone-fail x0 r = ex_e 𝓤 _ (λ ws. snd∗ 𝓤 (sem 𝓛 (lasts alone-fail.ended tt (x0, tt) ws)) (fact 𝓤 (r ≡ record { code = code_of (failRefusals x0.state); chunk = unlessRefused (failRefusals x0.state) x0 (failed x0) })))
+  said-alone-fail : (x0 : Chunk) (r : Changed) → ent 𝓤 (ensured 𝓛 alone-fail.ended (alone-fail.clauses 𝓛 at_mem run) tt (x0, tt) tt r) (fact 𝓤 (r ≡ record { code = code_of (fail_refusals x0.state); chunk = unless_refused (fail_refusals x0.state) x0 (failed x0) }))
+  said-alone-fail x0 r = ex_e 𝓤 _ (λ ws. snd∗ 𝓤 (sem 𝓛 (lasts alone-fail.ended tt (x0, tt) ws)) (fact 𝓤 (r ≡ record { code = code_of (fail_refusals x0.state); chunk = unless_refused (fail_refusals x0.state) x0 (failed x0) })))
 
   abbrev C-code-of : Contract 𝓤
   C-code-of = triple_of 𝓛 code_of_lem.signature (code_of_lem.spec 𝓛 at_mem run)
@@ -120,10 +120,10 @@ module _ {M : Type 1} {𝓤 : Ura M} (𝓛 : Logic 𝓤) (at_mem : Memory → SP
   said-chunk-of x0 r = ex_e 𝓤 _ (λ ws. snd∗ 𝓤 (sem 𝓛 (lasts Chunk-of.ended tt (x0, tt) ws)) (fact 𝓤 (r ≡ x0.chunk)))
 
   abbrev C-is-refused : Contract 𝓤
-  C-is-refused = triple_of 𝓛 is-refused.signature (is-refused.spec 𝓛 at_mem run)
+  C-is-refused = triple_of 𝓛 is_refused.signature (is_refused.spec 𝓛 at_mem run)
 
-  said-is-refused : (x0 : ℕ) (r : Bool) → ent 𝓤 (ensured 𝓛 is-refused.ended (is-refused.clauses 𝓛 at_mem run) tt (x0, tt) tt r) (fact 𝓤 (r ≡ not (eqb x0 0)))
-  said-is-refused x0 r = ex_e 𝓤 _ (λ ws. snd∗ 𝓤 (sem 𝓛 (lasts is-refused.ended tt (x0, tt) ws)) (fact 𝓤 (r ≡ not (eqb x0 0))))
+  said-is-refused : (x0 : ℕ) (r : Bool) → ent 𝓤 (ensured 𝓛 is_refused.ended (is_refused.clauses 𝓛 at_mem run) tt (x0, tt) tt r) (fact 𝓤 (r ≡ not (eqb x0 0)))
+  said-is-refused x0 r = ex_e 𝓤 _ (λ ws. snd∗ 𝓤 (sem 𝓛 (lasts is_refused.ended tt (x0, tt) ws)) (fact 𝓤 (r ≡ not (eqb x0 0))))
 
   abbrev C-put-chunk : Contract 𝓤
   C-put-chunk = triple_of 𝓛 put-chunk.signature (put-chunk.spec 𝓛 at_mem run)
@@ -195,13 +195,13 @@ module _ {M : Type 1} {𝓤 : Ura M} (𝓛 : Logic 𝓤) (at_mem : Memory → SP
   Post = (walk_of 𝓛 me.ended stayed (me.clauses 𝓛 at_mem run)).post (((κ, tt), (q, tt), tt, x, vs), tt)
 
   module _ (g2 : Is usize x2 ((vint w64 x2) ∷ [])) where
-    exits : (r : ℕ) (v : Val) → Is usize r (v ∷ []) → (z : Table) → (r ≡ code_of (failRefusals (chunk_of h x2).state)) × (z ≡ failedTo x2 h) → ent 𝓤 (⋆ 𝓛 (‵ ((MutRef (named 0) κ TableR.the_row).own_val (rt γ z) (vptr b o ∷ [])) ∷ ‵ (flft κ q) ∷ [])) (Post v)
+    exits : (r : ℕ) (v : Val) → Is usize r (v ∷ []) → (z : Table) → (r ≡ code_of (fail_refusals (chunk_of h x2).state)) × (z ≡ failed_to x2 h) → ent 𝓤 (⋆ 𝓛 (‵ ((MutRef (named 0) κ TableR.the_row).own_val (rt γ z) (vptr b o ∷ [])) ∷ ‵ (flft κ q) ∷ [])) (Post v)
     exits r v g z eq =
         qed 𝓛 (‵ ((MutRef (named 0) κ TableR.the_row).own_val (rt γ z) (vptr b o ∷ [])) ∷ ‵ (flft κ q) ∷ []) ∵
         suffices ! _ (ends_at 𝓛 me.ended stayed (me.clauses 𝓛 at_mem run) (((κ, tt), (q, tt), tt, x, vs), tt) v r (z, (tt, tt)) (tt, (tt, tt))) $ says ! eq $
         nothing ! $ move ! (2 ∷ 0 ∷ []) $ join ! $ frame ! $ nothing ! $ owned ! usize (Is usize) (uint_Makes 𝓛 w64) x2 _ g2 $ fjoin ! $ move ! (1 ∷ 0 ∷ []) $ fjoin ! $ frame ! $ owned ! usize (Is usize) (uint_Makes 𝓛 w64) r _ g $ done !
 
-    module _ (𝓣 : Tables 𝓤 H) (known-chunk-in : Triple 𝓤 (𝓣.C #table_chunks·chunk-in) (C-chunk-in 𝓛 at_mem run)) (known-alone-fail : Triple 𝓤 (𝓣.C #chunk_alone·fail) (C-alone-fail 𝓛 at_mem run)) (known-code-of : Triple 𝓤 (𝓣.C #chunk_fault·code-of) (C-code-of 𝓛 at_mem run)) (known-chunk-of : Triple 𝓤 (𝓣.C #chunk_fault·chunk-of) (C-chunk-of 𝓛 at_mem run)) (known-is-refused : Triple 𝓤 (𝓣.C #chunk_fault·is-refused) (C-is-refused 𝓛 at_mem run)) (known-put-chunk : Triple 𝓤 (𝓣.C #table_chunks·put-chunk) (C-put-chunk 𝓛 at_mem run)) (known-empty-in : Triple 𝓤 (𝓣.C #chunk_fault·empty-in) (C-empty-in 𝓛 at_mem run)) where
+    module _ (𝓣 : Tables 𝓤 H) (known-chunk-in : Triple 𝓤 (𝓣.C #table_chunks·chunk-in) (C-chunk-in 𝓛 at_mem run)) (known-alone-fail : Triple 𝓤 (𝓣.C #chunk_alone·fail) (C-alone-fail 𝓛 at_mem run)) (known-code-of : Triple 𝓤 (𝓣.C #chunk_fault·code-of) (C-code-of 𝓛 at_mem run)) (known-chunk-of : Triple 𝓤 (𝓣.C #chunk_fault·chunk_of_lem) (C-chunk-of 𝓛 at_mem run)) (known-is-refused : Triple 𝓤 (𝓣.C #chunk_fault·is_refused) (C-is-refused 𝓛 at_mem run)) (known-put-chunk : Triple 𝓤 (𝓣.C #table_chunks·put-chunk) (C-put-chunk 𝓛 at_mem run)) (known-empty-in : Triple 𝓤 (𝓣.C #chunk_fault·empty-in) (C-empty-in 𝓛 at_mem run)) where
       abbrev C : Calls 𝓤 H
       C = 𝓣.C
 
@@ -229,14 +229,14 @@ module _ {M : Type 1} {𝓤 : Ura M} (𝓛 : Logic 𝓤) (at_mem : Memory → SP
           use2 𝓛 (raw ((C-chunk-in 𝓛 at_mem run).pre (to-chunk-in 𝓛 at_mem run (ν1 ∷ []) full_share (rt δ1 h) x2 (vint w64 x2)))) (goes-chunk-in 𝓛 at_mem run (ν1 ∷ []) full_share (rt δ1 h) x2 (vint w64 x2) g2) $
           calls_at ! fm (C-chunk-in 𝓛 at_mem run) known-chunk-in (to-chunk-in 𝓛 at_mem run (ν1 ∷ []) full_share (rt δ1 h) x2 (vint w64 x2)) (and_then ! (load ! (from ! (stop !)) (look ! 10 refl)) (and_then ! (load ! (from ! (stop !)) (look ! 22 {q = full_share} {τ = ty_int w64} {b = l2} {o = 0} {v = (vint w64 x2)} refl)) (no_more !))) (λ w1.
           use1 𝓛 (later (some (λ (r : Chunk). ((‵ (flft (ν1 ∷ []) full_share) ⊛ ‵ ftrue) ⊛ ‵ ((ChunkR.the_row).own_val r (w1 ∷ []))) ⊛ raw (ensured 𝓛 chunk_in.ended (chunk_in.clauses 𝓛 at_mem run) ((ν1 ∷ []), tt) ((rt δ1 h), (x2, tt)) tt r)))) (id⊢ 𝓤 _) $ await ! tt $ pick ! (λ r1. split ! $ move ! (1 ∷ []) $
-          use1 𝓛 (raw (fact 𝓤 (r1 ≡ get_or h.chunks x2 zeroChunk))) (said-chunk-in 𝓛 at_mem run (ν1 ∷ []) (rt δ1 h) x2 r1) $ heard ! (r1 ≡ get_or h.chunks x2 zeroChunk) (λ e1. split ! $ move ! (1 ∷ []) $ facts ! ChunkR.the_row (Is ChunkR.the_row) (shows 𝓛 ChunkR.the_row) r1 (w1 ∷ []) (λ is1.
+          use1 𝓛 (raw (fact 𝓤 (r1 ≡ get_or h.chunks x2 zero_chunk))) (said-chunk-in 𝓛 at_mem run (ν1 ∷ []) (rt δ1 h) x2 r1) $ heard ! (r1 ≡ get_or h.chunks x2 zero_chunk) (λ e1. split ! $ move ! (1 ∷ []) $ facts ! ChunkR.the_row (Is ChunkR.the_row) (shows 𝓛 ChunkR.the_row) r1 (w1 ∷ []) (λ is1.
           land ! (from ! (stop !)) (init ! 20 {τ = ChunkL.mir} {v = w1} refl ((LL.lawful ChunkR.the_type ChunkL.the_laws 𝓛).typed r1 _ is1).0) $
           split ! $ lft_end ! tt $ move ! (0 ∷ 2 ∷ []) $ use2 𝓛 (later (‵ ((MutRef (named 0) κ TableR.the_row).own_val (rt γ h) (vptr b o ∷ [])) ⊛ ‵ (flft κ q))) (comes_home 𝓛 TableR.the_row (named 0) κ (ν1 ∷ []) q γ b o h) $ await ! tt $ split ! $ move ! (2 ∷ []) $ drop ! $
           -- _4 = chunk_alone::fail(_3)
           nothing ! $ use1 𝓛 (raw ((C-alone-fail 𝓛 at_mem run).pre (to-alone-fail 𝓛 at_mem run r1 w1))) (goes-alone-fail 𝓛 at_mem run r1 w1 is1) $
           calls_at ! fm (C-alone-fail 𝓛 at_mem run) known-alone-fail (to-alone-fail 𝓛 at_mem run r1 w1) (and_then ! (load ! (from ! (stop !)) (look ! 21 {q = full_share} {τ = ChunkL.mir} {b = l3} {o = 0} {v = w1} refl)) (no_more !)) (λ w2.
           use1 𝓛 (later (some (λ (r : Changed). (‵ ftrue ⊛ ‵ ((ChangedR.the_row).own_val r (w2 ∷ []))) ⊛ raw (ensured 𝓛 alone-fail.ended (alone-fail.clauses 𝓛 at_mem run) tt (r1, tt) tt r)))) (id⊢ 𝓤 _) $ await ! tt $ pick ! (λ r2. split ! $ move ! (1 ∷ []) $
-          use1 𝓛 (raw (fact 𝓤 (r2 ≡ record { code = code_of (failRefusals r1.state); chunk = unlessRefused (failRefusals r1.state) r1 (failed r1) }))) (said-alone-fail 𝓛 at_mem run r1 r2) $ heard ! (r2 ≡ record { code = code_of (failRefusals r1.state); chunk = unlessRefused (failRefusals r1.state) r1 (failed r1) }) (λ e2. split ! $ drop ! $ facts ! ChangedR.the_row (Is ChangedR.the_row) (shows 𝓛 ChangedR.the_row) r2 (w2 ∷ []) (λ is2.
+          use1 𝓛 (raw (fact 𝓤 (r2 ≡ record { code = code_of (fail_refusals r1.state); chunk = unless_refused (fail_refusals r1.state) r1 (failed r1) }))) (said-alone-fail 𝓛 at_mem run r1 r2) $ heard ! (r2 ≡ record { code = code_of (fail_refusals r1.state); chunk = unless_refused (fail_refusals r1.state) r1 (failed r1) }) (λ e2. split ! $ drop ! $ facts ! ChangedR.the_row (Is ChangedR.the_row) (shows 𝓛 ChangedR.the_row) r2 (w2 ∷ []) (λ is2.
           land ! (from ! (stop !)) (init ! 18 {τ = ChangedL.mir} {v = w2} refl ((LL.lawful ChangedR.the_type ChangedL.the_laws 𝓛).typed r2 _ is2).0) $
           -- _5 = chunk_fault::code_of(_4)
           nothing ! $ use1 𝓛 (raw ((C-code-of 𝓛 at_mem run).pre (to-code-of 𝓛 at_mem run r2 w2))) (goes-code-of 𝓛 at_mem run r2 w2 is2) $
@@ -253,7 +253,7 @@ module _ {M : Type 1} {𝓤 : Ura M} (𝓛 : Logic 𝓤) (at_mem : Memory → SP
           -- _7 = chunk_fault::is_refused(_5)
           nothing ! $ use1 𝓛 (raw ((C-is-refused 𝓛 at_mem run).pre (to-is-refused 𝓛 at_mem run r3 w3))) (goes-is-refused 𝓛 at_mem run r3 w3 is3) $
           calls_at ! fm (C-is-refused 𝓛 at_mem run) known-is-refused (to-is-refused 𝓛 at_mem run r3 w3) (and_then ! (load ! (from ! (stop !)) (look ! 17 {q = full_share} {τ = ty_int w64} {b = l5} {o = 0} {v = w3} refl)) (no_more !)) (λ w5.
-          use1 𝓛 (later (some (λ (r : Bool). (‵ ftrue ⊛ ‵ (Boolean.own r (w5 ∷ []))) ⊛ raw (ensured 𝓛 is-refused.ended (is-refused.clauses 𝓛 at_mem run) tt (r3, tt) tt r)))) (id⊢ 𝓤 _) $ await ! tt $ pick ! (λ r5. split ! $ move ! (1 ∷ []) $
+          use1 𝓛 (later (some (λ (r : Bool). (‵ ftrue ⊛ ‵ (Boolean.own r (w5 ∷ []))) ⊛ raw (ensured 𝓛 is_refused.ended (is_refused.clauses 𝓛 at_mem run) tt (r3, tt) tt r)))) (id⊢ 𝓤 _) $ await ! tt $ pick ! (λ r5. split ! $ move ! (1 ∷ []) $
           use1 𝓛 (raw (fact 𝓤 (r5 ≡ not (eqb r3 0)))) (said-is-refused 𝓛 at_mem run r3 r5) $ heard ! (r5 ≡ not (eqb r3 0)) (λ e5. split ! $ drop ! $ facts ! Boolean (Is Boolean) (shows 𝓛 Boolean) r5 (w5 ∷ []) (λ is5.
           land ! (from ! (stop !)) (init ! 12 {τ = ty_bool} {v = w5} refl ((bool_Lawful 𝓛).typed r5 _ is5).0) $
           assigns ! (of_opd ! (load ! (from ! (stop !)) (look ! 12 {q = full_share} {τ = ty_bool} {b = l7} {o = 0} {v = w5} refl))) (from ! (stop !)) (init ! 8 {τ = ty_bool} {v = w5} refl ((bool_Lawful 𝓛).typed r5 _ is5).0) $
@@ -264,7 +264,7 @@ module _ {M : Type 1} {𝓤 : Ura M} (𝓛 : Logic 𝓤) (at_mem : Memory → SP
           returns_within ! Post refl (look ! 26 {q = full_share} {τ = ty_int w64} {b = l0} {o = 0} {v = w3} refl) $
           forget ! 8 refl $ forget ! 10 refl $ forget ! 12 refl $ forget ! 14 refl $ forget ! 16 refl $ forget ! 18 refl $ forget ! 20 refl $ forget ! 22 refl $ forget ! 24 refl $ forget ! 26 refl $
           move ! (26 ∷ 27 ∷ []) $ free1 ! $ move ! (24 ∷ 25 ∷ []) $ free1 ! $ move ! (22 ∷ 23 ∷ []) $ free1 ! $ move ! (20 ∷ 21 ∷ []) $ free1 ! $ move ! (18 ∷ 19 ∷ []) $ free1 ! $ move ! (16 ∷ 17 ∷ []) $ free1 ! $ move ! (14 ∷ 15 ∷ []) $ free1 ! $ move ! (12 ∷ 13 ∷ []) $ free1 ! $ move ! (10 ∷ 11 ∷ []) $ free1 ! $ move ! (8 ∷ 9 ∷ []) $ free1 ! $ move ! (6 ∷ 7 ∷ []) $ free1 ! $ move ! (4 ∷ 5 ∷ []) $ free1 ! $ move ! (2 ∷ 3 ∷ []) $ free1 ! $ free0 ! $
-          by ! (exits r3 w3 is3 h (is-refused h chunks-len x2 r1 r2 r3 r4 r5 e1 e2 e3 e4 e5 held)))
+          by ! (exits r3 w3 is3 h (is_refused h chunks-len x2 r1 r2 r3 r4 r5 e1 e2 e3 e4 e5 held)))
           (λ failed.
           assigns ! (addr ! (from ! (hop ! (look ! 24 refl) (stop !)))) (from ! (stop !)) (init ! 4 refl (tt, tt)) $
           -- _10 = table_chunks::put_chunk(_11, _2, _6)
@@ -274,7 +274,7 @@ module _ {M : Type 1} {𝓤 : Ura M} (𝓛 : Logic 𝓤) (at_mem : Memory → SP
           use2 𝓛 (raw ((C-put-chunk 𝓛 at_mem run).pre (to-put-chunk 𝓛 at_mem run (ν6 ∷ []) full_share (rt δ6 h) x2 (vint w64 x2) r4 w4))) (goes-put-chunk 𝓛 at_mem run (ν6 ∷ []) full_share (rt δ6 h) x2 (vint w64 x2) r4 w4 g2 is4) $
           calls_at ! fm (C-put-chunk 𝓛 at_mem run) known-put-chunk (to-put-chunk 𝓛 at_mem run (ν6 ∷ []) full_share (rt δ6 h) x2 (vint w64 x2) r4 w4) (and_then ! (load ! (from ! (stop !)) (look ! 4 refl)) (and_then ! (load ! (from ! (stop !)) (look ! 22 {q = full_share} {τ = ty_int w64} {b = l2} {o = 0} {v = (vint w64 x2)} refl)) (and_then ! (load ! (from ! (stop !)) (look ! 14 {q = full_share} {τ = ChunkL.mir} {b = l6} {o = 0} {v = w4} refl)) (no_more !)))) (λ w6.
           use1 𝓛 (later (some (λ (r : Unit {0}). ((‵ (flft (ν6 ∷ []) full_share) ⊛ ‵ ftrue) ⊛ ‵ (Nothing.own r (w6 ∷ []))) ⊛ raw (ensured 𝓛 put-chunk.ended (put-chunk.clauses 𝓛 at_mem run) ((ν6 ∷ []), tt) ((rt δ6 h), (x2, (r4, tt))) tt r)))) (id⊢ 𝓤 _) $ await ! tt $ pick ! (λ r6. split ! $ move ! (1 ∷ []) $
-          use1 𝓛 (some (λ (z6 : Table × (Unit {0} × (Unit {0} × Unit {0}))). ‵ (lasts put-chunk.ended ((ν6 ∷ []), tt) ((rt δ6 h), (x2, (r4, tt))) z6) ⊛ raw (fact 𝓤 (z6.0 ≡ withChunks h (set h.chunks x2 r4))))) (id⊢ 𝓤 _) $ pick ! (λ z6. split ! $ move ! (1 ∷ []) $ heard ! (z6.0 ≡ withChunks h (set h.chunks x2 r4)) (λ e6. fsplit ! $
+          use1 𝓛 (some (λ (z6 : Table × (Unit {0} × (Unit {0} × Unit {0}))). ‵ (lasts put-chunk.ended ((ν6 ∷ []), tt) ((rt δ6 h), (x2, (r4, tt))) z6) ⊛ raw (fact 𝓤 (z6.0 ≡ with_chunks h (set h.chunks x2 r4))))) (id⊢ 𝓤 _) $ pick ! (λ z6. split ! $ move ! (1 ∷ []) $ heard ! (z6.0 ≡ with_chunks h (set h.chunks x2 r4)) (λ e6. fsplit ! $
           move ! (2 ∷ []) $ split ! $ move ! (1 ∷ []) $ facts ! Nothing (Is Nothing) (shows 𝓛 Nothing) r6 (w6 ∷ []) (λ is6.
           land ! (from ! (stop !)) (init ! 8 {τ = ty_unit} {v = w6} refl ((Nothing-Lawful 𝓛).typed r6 _ is6).0) $ split ! $ lft_end ! tt $ move ! (0 ∷ 4 ∷ 2 ∷ []) $
           use3 𝓛 (later (‵ ((MutRef (named 0) κ TableR.the_row).own_val (rt γ z6.0) (vptr b o ∷ [])) ⊛ ‵ (flft κ q))) (comes_back 𝓛 TableR.the_row (named 0) κ (ν6 ∷ []) q γ b o δ6 h z6.0) $ await ! tt $ split ! $ move ! (2 ∷ 3 ∷ []) $ drop ! $ drop ! $
@@ -286,7 +286,7 @@ module _ {M : Type 1} {𝓤 : Ura M} (𝓛 : Logic 𝓤) (at_mem : Memory → SP
           use2 𝓛 (raw ((C-empty-in 𝓛 at_mem run).pre (to-empty-in 𝓛 at_mem run (ν7 ∷ []) full_share (rt δ7 z6.0) x2 (vint w64 x2)))) (goes-empty-in 𝓛 at_mem run (ν7 ∷ []) full_share (rt δ7 z6.0) x2 (vint w64 x2) g2) $
           calls_at ! fm (C-empty-in 𝓛 at_mem run) known-empty-in (to-empty-in 𝓛 at_mem run (ν7 ∷ []) full_share (rt δ7 z6.0) x2 (vint w64 x2)) (and_then ! (load ! (from ! (stop !)) (look ! 2 refl)) (and_then ! (load ! (from ! (stop !)) (look ! 22 {q = full_share} {τ = ty_int w64} {b = l2} {o = 0} {v = (vint w64 x2)} refl)) (no_more !))) (λ w7.
           use1 𝓛 (later (some (λ (r : Unit {0}). ((‵ (flft (ν7 ∷ []) full_share) ⊛ ‵ ftrue) ⊛ ‵ (Nothing.own r (w7 ∷ []))) ⊛ raw (ensured 𝓛 empty-in.ended (empty-in.clauses 𝓛 at_mem run) ((ν7 ∷ []), tt) ((rt δ7 z6.0), (x2, tt)) tt r)))) (id⊢ 𝓤 _) $ await ! tt $ pick ! (λ r7. split ! $ move ! (1 ∷ []) $
-          use1 𝓛 (some (λ (z7 : Table × (Unit {0} × Unit {0})). ‵ (lasts empty-in.ended ((ν7 ∷ []), tt) ((rt δ7 z6.0), (x2, tt)) z7) ⊛ raw (fact 𝓤 (z7.0 ≡ withRecords z6.0 (withoutWaiting z6.0.records x2))))) (id⊢ 𝓤 _) $ pick ! (λ z7. split ! $ move ! (1 ∷ []) $ heard ! (z7.0 ≡ withRecords z6.0 (withoutWaiting z6.0.records x2)) (λ e7. fsplit ! $
+          use1 𝓛 (some (λ (z7 : Table × (Unit {0} × Unit {0})). ‵ (lasts empty-in.ended ((ν7 ∷ []), tt) ((rt δ7 z6.0), (x2, tt)) z7) ⊛ raw (fact 𝓤 (z7.0 ≡ with_records z6.0 (without_waiting z6.0.records x2))))) (id⊢ 𝓤 _) $ pick ! (λ z7. split ! $ move ! (1 ∷ []) $ heard ! (z7.0 ≡ with_records z6.0 (without_waiting z6.0.records x2)) (λ e7. fsplit ! $
           move ! (2 ∷ []) $ split ! $ move ! (1 ∷ []) $ facts ! Nothing (Is Nothing) (shows 𝓛 Nothing) r7 (w7 ∷ []) (λ is7.
           land ! (from ! (stop !)) (store ! 8 {τ = ty_unit} {v = w7} refl ((Nothing-Lawful 𝓛).typed r7 _ is7).0) $ split ! $ lft_end ! tt $ move ! (0 ∷ 4 ∷ 2 ∷ []) $
           use3 𝓛 (later (‵ ((MutRef (named 0) κ TableR.the_row).own_val (rt γ z7.0) (vptr b o ∷ [])) ⊛ ‵ (flft κ q))) (comes_back 𝓛 TableR.the_row (named 0) κ (ν7 ∷ []) q γ b o δ7 z6.0 z7.0) $ await ! tt $ split ! $ move ! (2 ∷ 3 ∷ []) $ drop ! $ drop ! $
@@ -294,19 +294,19 @@ module _ {M : Type 1} {𝓤 : Ura M} (𝓛 : Logic 𝓤) (at_mem : Memory → SP
           returns_within ! Post refl (look ! 26 {q = full_share} {τ = ty_int w64} {b = l0} {o = 0} {v = w3} refl) $
           forget ! 2 refl $ forget ! 4 refl $ forget ! 6 refl $ forget ! 8 refl $ forget ! 10 refl $ forget ! 12 refl $ forget ! 14 refl $ forget ! 16 refl $ forget ! 18 refl $ forget ! 20 refl $ forget ! 22 refl $ forget ! 24 refl $ forget ! 26 refl $
           move ! (26 ∷ 27 ∷ []) $ free1 ! $ move ! (24 ∷ 25 ∷ []) $ free1 ! $ move ! (22 ∷ 23 ∷ []) $ free1 ! $ move ! (20 ∷ 21 ∷ []) $ free1 ! $ move ! (18 ∷ 19 ∷ []) $ free1 ! $ move ! (16 ∷ 17 ∷ []) $ free1 ! $ move ! (14 ∷ 15 ∷ []) $ free1 ! $ move ! (12 ∷ 13 ∷ []) $ free1 ! $ move ! (10 ∷ 11 ∷ []) $ free1 ! $ move ! (8 ∷ 9 ∷ []) $ free1 ! $ move ! (6 ∷ 7 ∷ []) $ free1 ! $ move ! (4 ∷ 5 ∷ []) $ free1 ! $ move ! (2 ∷ 3 ∷ []) $ free1 ! $ free0 ! $
-          by ! (exits r3 w3 is3 z7.0 (is-failed h chunks-len x2 r1 r2 r3 r4 r5 e1 e2 e3 e4 e5 failed z6.0 z7.0 e6 e7)))))))))))))))))))))))))))))))))))))))))))))))))))))
+          by ! (exits r3 w3 is3 z7.0 (is_failed_lem h chunks-len x2 r1 r2 r3 r4 r5 e1 e2 e3 e4 e5 failed z6.0 z7.0 e6 e7)))))))))))))))))))))))))))))))))))))))))))))))))))))
 
 module _ {M : Type 1} {𝓤 : Ura M} (𝓛 : Logic 𝓤) (at_mem : Memory → SProp 𝓤) (run : Routine → Fun 𝓤) where
   open 𝓛 use {H}
 
-  fail-in-walks : (𝓣 : Tables 𝓤 H) → Triple 𝓤 (𝓣.C #table_chunks·chunk-in) (C-chunk-in 𝓛 at_mem run) → Triple 𝓤 (𝓣.C #chunk_alone·fail) (C-alone-fail 𝓛 at_mem run) → Triple 𝓤 (𝓣.C #chunk_fault·code-of) (C-code-of 𝓛 at_mem run) → Triple 𝓤 (𝓣.C #chunk_fault·chunk-of) (C-chunk-of 𝓛 at_mem run) → Triple 𝓤 (𝓣.C #chunk_fault·is-refused) (C-is-refused 𝓛 at_mem run) → Triple 𝓤 (𝓣.C #table_chunks·put-chunk) (C-put-chunk 𝓛 at_mem run) → Triple 𝓤 (𝓣.C #chunk_fault·empty-in) (C-empty-in 𝓛 at_mem run) → Walks 𝓛 me.ended stayed (WpFn 𝓤 H 𝓣.C 𝓣.Λ code.function) (me.clauses 𝓛 at_mem run)
+  fail-in-walks : (𝓣 : Tables 𝓤 H) → Triple 𝓤 (𝓣.C #table_chunks·chunk-in) (C-chunk-in 𝓛 at_mem run) → Triple 𝓤 (𝓣.C #chunk_alone·fail) (C-alone-fail 𝓛 at_mem run) → Triple 𝓤 (𝓣.C #chunk_fault·code-of) (C-code-of 𝓛 at_mem run) → Triple 𝓤 (𝓣.C #chunk_fault·chunk_of_lem) (C-chunk-of 𝓛 at_mem run) → Triple 𝓤 (𝓣.C #chunk_fault·is_refused) (C-is-refused 𝓛 at_mem run) → Triple 𝓤 (𝓣.C #table_chunks·put-chunk) (C-put-chunk 𝓛 at_mem run) → Triple 𝓤 (𝓣.C #chunk_fault·empty-in) (C-empty-in 𝓛 at_mem run) → Walks 𝓛 me.ended stayed (WpFn 𝓤 H 𝓣.C 𝓣.Λ code.function) (me.clauses 𝓛 at_mem run)
   fail-in-walks 𝓣 known-chunk-in known-alone-fail known-code-of known-chunk-of known-is-refused known-put-chunk known-empty-in = walked 𝓛 me.ended stayed (me.clauses 𝓛 at_mem run) (WpFn 𝓤 H 𝓣.C 𝓣.Λ code.function) (λ κs. (mut_vals, (uint_vals w64, tt))) (λ κs. (mut_Tells (named 0) κs.0 TableR.the_row, (uint_Tells w64, tt)))
       (λ κs qs bounds a _ are. via 𝓤 _ (fst∗ 𝓤 _ (emp 𝓤)) (walk 𝓛 at_mem run κs.0 qs.0 a.0.ref_ptr.0 a.0.ref_ptr.1 a.0.ghost_name a.0.now a.1.0 are.1.0 𝓣 known-chunk-in known-alone-fail known-code-of known-chunk-of known-is-refused known-put-chunk known-empty-in))
 
   goes : AllGo 𝓛 1 (me.signature).params (me.ended).kept stayed
   goes = (Goes-ref 𝓛 1 0 tt (plain (λ _. TableR.the_row)), (Goes-none 𝓛 1 (λ _. usize) yes (λ κs x f. refl), tt))
 
-fail-in-meets : {M : Type 1} {𝓤 : Ura M} (𝓛 : Logic 𝓤) (at_mem : Memory → SProp 𝓤) (run : Routine → Fun 𝓤) (𝓣 : Tables 𝓤 𝓛.H) → Triple 𝓤 (𝓣.C #table_chunks·chunk-in) (C-chunk-in 𝓛 at_mem run) → Triple 𝓤 (𝓣.C #chunk_alone·fail) (C-alone-fail 𝓛 at_mem run) → Triple 𝓤 (𝓣.C #chunk_fault·code-of) (C-code-of 𝓛 at_mem run) → Triple 𝓤 (𝓣.C #chunk_fault·chunk-of) (C-chunk-of 𝓛 at_mem run) → Triple 𝓤 (𝓣.C #chunk_fault·is-refused) (C-is-refused 𝓛 at_mem run) → Triple 𝓤 (𝓣.C #table_chunks·put-chunk) (C-put-chunk 𝓛 at_mem run) → Triple 𝓤 (𝓣.C #chunk_fault·empty-in) (C-empty-in 𝓛 at_mem run) → Meets 𝓛 me.signature (WpFn 𝓤 𝓛.H 𝓣.C 𝓣.Λ code.function) (me.spec 𝓛 at_mem run)
+fail-in-meets : {M : Type 1} {𝓤 : Ura M} (𝓛 : Logic 𝓤) (at_mem : Memory → SProp 𝓤) (run : Routine → Fun 𝓤) (𝓣 : Tables 𝓤 𝓛.H) → Triple 𝓤 (𝓣.C #table_chunks·chunk-in) (C-chunk-in 𝓛 at_mem run) → Triple 𝓤 (𝓣.C #chunk_alone·fail) (C-alone-fail 𝓛 at_mem run) → Triple 𝓤 (𝓣.C #chunk_fault·code-of) (C-code-of 𝓛 at_mem run) → Triple 𝓤 (𝓣.C #chunk_fault·chunk_of_lem) (C-chunk-of 𝓛 at_mem run) → Triple 𝓤 (𝓣.C #chunk_fault·is_refused) (C-is-refused 𝓛 at_mem run) → Triple 𝓤 (𝓣.C #table_chunks·put-chunk) (C-put-chunk 𝓛 at_mem run) → Triple 𝓤 (𝓣.C #chunk_fault·empty-in) (C-empty-in 𝓛 at_mem run) → Meets 𝓛 me.signature (WpFn 𝓤 𝓛.H 𝓣.C 𝓣.Λ code.function) (me.spec 𝓛 at_mem run)
 fail-in-meets {𝓤 = 𝓤} 𝓛 at_mem run 𝓣 known-chunk-in known-alone-fail known-code-of known-chunk-of known-is-refused known-put-chunk known-empty-in = walk_Meets 𝓛 me.ended stayed (goes 𝓛 at_mem run) (me.clauses 𝓛 at_mem run) (WpFn 𝓤 𝓛.H 𝓣.C 𝓣.Λ code.function) (WpFn-mono 𝓤 𝓛.H 𝓛.laws 𝓣 code.function) (fail-in-walks 𝓛 at_mem run 𝓣 known-chunk-in known-alone-fail known-code-of known-chunk-of known-is-refused known-put-chunk known-empty-in)
 
 pub fail-in-spec : {M : Type 1} → stated.statement M
@@ -318,7 +318,7 @@ fail-in-spec 𝓤 𝓛 𝓜 𝓡 =
     (cited 𝓤 𝓛.H (C-chunk-in 𝓛 𝓜.mem 𝓡.run) 𝓜 𝓡 code.env #table_chunks·chunk-in chunk-in-def.routine code.calls-table-chunks::chunk-in (chunk-in-thm.met 𝓤 𝓛 𝓜 𝓡))
     (cited 𝓤 𝓛.H (C-alone-fail 𝓛 𝓜.mem 𝓡.run) 𝓜 𝓡 code.env #chunk_alone·fail alone-fail-def.routine code.calls-chunk-alone::fail (alone-fail-thm.met 𝓤 𝓛 𝓜 𝓡))
     (cited 𝓤 𝓛.H (C-code-of 𝓛 𝓜.mem 𝓡.run) 𝓜 𝓡 code.env #chunk_fault·code-of code-of-def.routine code.calls-chunk-fault::code-of (code-of-thm.met 𝓤 𝓛 𝓜 𝓡))
-    (cited 𝓤 𝓛.H (C-chunk-of 𝓛 𝓜.mem 𝓡.run) 𝓜 𝓡 code.env #chunk_fault·chunk-of chunk-of-def.routine code.calls-chunk-fault::chunk-of (chunk-of-thm.met 𝓤 𝓛 𝓜 𝓡))
-    (cited 𝓤 𝓛.H (C-is-refused 𝓛 𝓜.mem 𝓡.run) 𝓜 𝓡 code.env #chunk_fault·is-refused is-refused-def.routine code.calls-chunk-fault::is-refused (is-refused-thm.met 𝓤 𝓛 𝓜 𝓡))
+    (cited 𝓤 𝓛.H (C-chunk-of 𝓛 𝓜.mem 𝓡.run) 𝓜 𝓡 code.env #chunk_fault·chunk_of_lem chunk-of-def.routine code.calls-chunk-fault::chunk_of_lem (chunk-of-thm.met 𝓤 𝓛 𝓜 𝓡))
+    (cited 𝓤 𝓛.H (C-is-refused 𝓛 𝓜.mem 𝓡.run) 𝓜 𝓡 code.env #chunk_fault·is_refused is-refused-def.routine code.calls-chunk-fault::is_refused (is-refused-thm.met 𝓤 𝓛 𝓜 𝓡))
     (cited 𝓤 𝓛.H (C-put-chunk 𝓛 𝓜.mem 𝓡.run) 𝓜 𝓡 code.env #table_chunks·put-chunk put-chunk-def.routine code.calls-table-chunks::put-chunk (put-chunk-thm.met 𝓤 𝓛 𝓜 𝓡))
     (cited 𝓤 𝓛.H (C-empty-in 𝓛 𝓜.mem 𝓡.run) 𝓜 𝓡 code.env #chunk_fault·empty-in empty-in-def.routine code.calls-chunk-fault::empty-in (empty-in-thm.met 𝓤 𝓛 𝓜 𝓡)))

@@ -3,26 +3,26 @@ use mathlib.Core.Path.{◌≡◌, sym, ap, ◌∙◌}
 use mathlib.Core.Bool.{not, false}
 use borrow.Author.Rules.{rules}
 use Rattle.rules.specs.declared.Entry.{Entry}
-use Rattle.rules.specs.Chunks.{isOverdue}
-use Rattle.rules.specs.Kinds.{isNormal, isUndecided}
+use Rattle.rules.specs.Chunks.{is_overdue}
+use Rattle.rules.specs.Kinds.{is_normal, is_undecided}
 use Rattle.rules.specs.Waiting.{head}
-use Rattle.rules.proofs.Loops.{refused-here, refused-later, refused-nowhere}
+use Rattle.rules.proofs.Loops.{refused-here, refused-later, refused_nowhere}
 use Rattle.chunk_head.proofs.overdue_code.Statement.{statement}
 use Rattle.chunk_head.proofs.overdue_code.Tie as tie
 
-normal : (c : tie.Else1) → not (isNormal c.before.before.args.state) ≡ false
+normal : (c : tie.Else1) → not (is_normal c.before.before.args.state) ≡ false
 normal c = ap not (sym c.before.is_normal.ensures) ∙ c.if1.false
 
-undecided : (c : tie.After-is-undecided) → not (isUndecided (head c.before.before.before.before.args.w).kind) ≡ not c.is-undecided.result
-undecided c = ap (λ (e : Entry). not (isUndecided e.kind)) (sym c.before.head.ensures) ∙ ap not (sym c.is-undecided.ensures)
+undecided : (c : tie.After-is-undecided) → not (is_undecided (head c.before.before.before.before.args.w).kind) ≡ not c.is-undecided.result
+undecided c = ap (λ (e : Entry). not (is_undecided e.kind)) (sym c.before.head.ensures) ∙ ap not (sym c.is-undecided.ensures)
 
 overdue : (c : tie.After-is-overdue) →
     let a = c.before.before.before.before.before.before.before.args in
-    not (isOverdue a.now (head a.w).timestamp a.age) ≡ not c.is-overdue.result
+    not (is_overdue a.now (head a.w).timestamp a.age) ≡ not c.is-overdue.result
 overdue c =
     let h = c.before.before.before.before in
     let a = h.before.before.before.args in
-    ap (λ (e : Entry). not (isOverdue a.now e.timestamp a.age)) (sym h.head.ensures) ∙ ap not (sym c.is-overdue.ensures)
+    ap (λ (e : Entry). not (is_overdue a.now e.timestamp a.age)) (sym h.head.ensures) ∙ ap not (sym c.is-overdue.ensures)
 
 returns : tie.Need-returns
 returns c = refused-here _ _ _ (ap not (sym c.before.is_normal.ensures) ∙ c.if1.true)
@@ -38,7 +38,7 @@ returns-3 c =
 returns-4 : tie.Need-returns-4
 returns-4 c =
     let u = c.before.before.before in
-    refused-later _ _ _ _ (normal u.before.before.before) (refused-later _ _ _ _ (undecided u.before ∙ u.if2.false) (refused-later _ _ _ _ (overdue c.before ∙ c.if3.false) refused-nowhere))
+    refused-later _ _ _ _ (normal u.before.before.before) (refused-later _ _ _ _ (undecided u.before ∙ u.if2.false) (refused-later _ _ _ _ (overdue c.before ∙ c.if3.false) refused_nowhere))
 
 pub overdue-code-spec : {M : Type 1} → statement M
 overdue-code-spec =

@@ -5,25 +5,25 @@ use lib.Dec.{eqb}
 use borrow.Author.Rules.{rules}
 use borrow.Author.Tests.{eq-eqb, ne_eqb}
 use Rattle.rules.specs.declared.Entry.{Entry}
-use Rattle.rules.specs.Kinds.{isNormal, isRead, isUndecided}
+use Rattle.rules.specs.Kinds.{is_normal, is_read, is_undecided}
 use Rattle.rules.specs.Waiting.{head}
-use Rattle.rules.proofs.Loops.{refused-here, refused-later, refused-nowhere}
+use Rattle.rules.proofs.Loops.{refused-here, refused-later, refused_nowhere}
 use Rattle.chunk_head.proofs.run_code.Statement.{statement}
 use Rattle.chunk_head.proofs.run_code.Tie as tie
 
-normal : (c : tie.Else1) → not (isNormal c.before.before.args.state) ≡ false
+normal : (c : tie.Else1) → not (is_normal c.before.before.args.state) ≡ false
 normal c = ap not (sym c.before.is_normal.ensures) ∙ c.if1.false
 
-undecided : (c : tie.After-is-undecided) → isUndecided (head c.before.before.before.before.before.before.args.w).kind ≡ c.is-undecided.result
-undecided c = ap (λ (e : Entry). isUndecided e.kind) (sym c.before.head.ensures) ∙ sym c.is-undecided.ensures
+undecided : (c : tie.After-is-undecided) → is_undecided (head c.before.before.before.before.before.before.args.w).kind ≡ c.is-undecided.result
+undecided c = ap (λ (e : Entry). is_undecided e.kind) (sym c.before.head.ensures) ∙ sym c.is-undecided.ensures
 
 reads : (c : tie.After-is-read) →
     let a = c.before.before.before.before.before.before.before.before.args in
-    isRead (head a.w).kind && eqb a.free 0 ≡ c.is_read.result && eqb a.free 0
+    is_read (head a.w).kind && eqb a.free 0 ≡ c.is_read.result && eqb a.free 0
 reads c =
     let h = c.before.before.before in
     let free = h.before.before.before.before.before.args.free in
-    ap (λ (e : Entry). isRead e.kind && eqb free 0) (sym h.head.ensures) ∙ ap (λ (b : Bool). b && eqb free 0) (sym c.is_read.ensures)
+    ap (λ (e : Entry). is_read e.kind && eqb free 0) (sym h.head.ensures) ∙ ap (λ (b : Bool). b && eqb free 0) (sym c.is_read.ensures)
 
 returns : tie.Need-returns
 returns c = refused-here _ _ _ (ap not (sym c.before.is_normal.ensures) ∙ c.if1.true)
@@ -46,7 +46,7 @@ returns-5 : tie.Need-returns-5
 returns-5 c =
     let u = c.before.before in
     let v = u.before.before.before in
-    refused-later _ _ _ _ (normal v.before.before) (refused-later _ _ _ _ (ne_eqb _ _ v.if2.false) (refused-later _ _ _ _ (undecided u.before ∙ u.if3.false) (refused-later _ _ _ _ (reads c.before ∙ c.if4.false) refused-nowhere)))
+    refused-later _ _ _ _ (normal v.before.before) (refused-later _ _ _ _ (ne_eqb _ _ v.if2.false) (refused-later _ _ _ _ (undecided u.before ∙ u.if3.false) (refused-later _ _ _ _ (reads c.before ∙ c.if4.false) refused_nowhere)))
 
 pub run-code-spec : {M : Type 1} → statement M
 run-code-spec =

@@ -4,16 +4,16 @@ use mathlib.Core.Path.{◌≡◌, refl, sym, ◌∙◌}
 use native.Mathlib.Omega.{arith}
 use lib.ListN.{length, get_or}
 use borrow.Author.Rules.{rules}
-use Rattle.rules.specs.Zero.{zeroEntry}
-use Rattle.rules.proofs.Loops.{mixed, mixed-at, mixed-more, opened, opened-here, opened-start, opened-length, opened-later}
-use Rattle.chunk_waiting.proofs.Laws.{count-is, entries-length, place_inside, put_in}
+use Rattle.rules.specs.Zero.{zero_entry}
+use Rattle.rules.proofs.Loops.{mixed, mixed-at, mixed-more, opened, opened-here, opened_start, opened-length, opened-later}
+use Rattle.chunk_waiting.proofs.Laws.{count_is, entries-length, place_inside, put_in}
 use Rattle.chunk_waiting.proofs.insert.Statement.{statement}
 use Rattle.chunk_waiting.proofs.insert.Tie as tie
 
 abbrev invariant-loop : tie.invariant-loop
 invariant-loop p out₀ held₀ i₀ out held i =
     (p ≤ i) × (i ≤ 8) × (out.count ≡ out₀.count) × (out.entries ≡ mixed i (opened p held₀ out₀.entries) out₀.entries)
-    × (held ≡ get_or (opened p held₀ out₀.entries) i zeroEntry)
+    × (held ≡ get_or (opened p held₀ out₀.entries) i zero_entry)
 
 abbrev decreases-loop : tie.decreases-loop
 decreases-loop p out₀ held₀ i₀ out held i = 8 - i
@@ -26,7 +26,7 @@ fits c =
     let a = c.before.before.args in
     let t = c.tidy.ensures in
     let k = len c in
-    let n = count-is _ _ t.0 in
+    let n = count_is _ _ t.0 in
     omega (arith, place_inside a.w c.tidy.result t.0 a.e c.before.behind.result c.before.behind.ensures)
 
 loop-holds : tie.Need-loop-init invariant-loop decreases-loop
@@ -36,7 +36,7 @@ loop-holds c =
     let p = c.before.behind.result in
     let k = len c in
     let f = fits c in
-    (omega arith, omega arith, refl, opened-start zeroEntry e t.entries p f, sym (opened-here zeroEntry e t.entries p f))
+    (omega arith, omega arith, refl, opened_start zero_entry e t.entries p f, sym (opened-here zero_entry e t.entries p f))
 
 loop-again : tie.Need-loop-preserved invariant-loop decreases-loop
 loop-again c =
@@ -47,13 +47,13 @@ loop-again c =
     let i = l.loop.i in
     let k = len l.before in
     let f = fits l.before in
-    let m = opened-length zeroEntry e old p f in
+    let m = opened-length zero_entry e old p f in
     let inv = l.loop.invariant in (
       omega arith,
       omega arith,
       inv.2,
-      rw (inv.3, inv.4) (mixed-more zeroEntry (opened p e old) old i (omega arith) (omega arith)),
-      rw inv.3 (mixed-at zeroEntry (opened p e old) old i (omega arith) i (omega arith) ∙ sym (opened-later zeroEntry e old p f i inv.0)),
+      rw (inv.3, inv.4) (mixed-more zero_entry (opened p e old) old i (omega arith) (omega arith)),
+      rw inv.3 (mixed-at zero_entry (opened p e old) old i (omega arith) i (omega arith) ∙ sym (opened-later zero_entry e old p f i inv.0)),
     )
 
 returns : tie.Need-returns invariant-loop decreases-loop

@@ -4,7 +4,7 @@ use mathlib.Core.Path.{◌≡◌, refl, sym}
 use native.Mathlib.Omega.{arith}
 use lib.ListN.{length, drop, get_or-eq_default}
 use borrow.Author.Rules.{rules}
-use Rattle.rules.specs.Zero.{zeroEntry}
+use Rattle.rules.specs.Zero.{zero_entry}
 use Rattle.rules.proofs.Loops.{mixed, mixed-at, filled-length}
 use Rattle.chunk_waiting.proofs.Laws.{places, forward, entries-length, removed, none-removed}
 use Rattle.chunk_waiting.proofs.remove_head.Statement.{statement}
@@ -33,7 +33,7 @@ loop-again c =
     let inv = l.loop.invariant in (
       omega arith,
       inv.1,
-      rw inv.2 (forward old k l.loop.i (omega arith) _ (mixed-at zeroEntry (places (drop 1 old)) old l.loop.i (omega (arith, filled-length zeroEntry 8 (drop 1 old))) (l.loop.i + 1) (omega arith))),
+      rw inv.2 (forward old k l.loop.i (omega arith) _ (mixed-at zero_entry (places (drop 1 old)) old l.loop.i (omega (arith, filled-length zero_entry 8 (drop 1 old))) (l.loop.i + 1) (omega arith))),
     )
 
 returns-2 : tie.Need-returns-2 invariant-loop decreases-loop
@@ -43,7 +43,7 @@ returns-2 c =
     let old = u.tidy.result.entries in
     let k = len u in
     let i : l.loop.i ≡ 7 = omega arith in
-    rw (c.entry.ensures, l.loop.invariant.1, l.loop.invariant.2, i, forward old k 7 (omega arith) zeroEntry (sym (get_or-eq_default old zeroEntry (omega arith))))
+    rw (c.entry.ensures, l.loop.invariant.1, l.loop.invariant.2, i, forward old k 7 (omega arith) zero_entry (sym (get_or-eq_default old zero_entry (omega arith))))
     (removed u.before.args.w u.tidy.result u.tidy.ensures.0 u.tidy.ensures.1)
 
 pub remove-head-spec : {M : Type 1} → statement M

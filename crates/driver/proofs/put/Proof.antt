@@ -7,7 +7,7 @@ use native.Mathlib.Omega.{arith}
 use lib.ListN.{length, set, get_or, length-map}
 use lib.Seq.{paste, paste-zero, paste-suc, length-paste}
 use borrow.Author.Rules.{rules}
-use Rattle.text_lines.specs.Texts.{textLimit}
+use Rattle.text_lines.specs.Texts.{text_limit}
 use Rattle.driver.proofs.put.Statement.{statement}
 use Rattle.driver.proofs.put.Tie as tie
 
@@ -17,8 +17,8 @@ invariant-loop out₀ used t n i₀ out i = (i ≤ n) × (out ≡ paste out₀ u
 abbrev decreases-loop : tie.decreases-loop
 decreases-loop out₀ used t n i₀ out i = n - i
 
-len : (c : tie.Start invariant-loop decreases-loop) → length c.args.t3.bytes ≡ textLimit
-len c = simp length-map at c.well-formed.1.1.0.1.1.0.1.0.1
+len : (c : tie.Start invariant-loop decreases-loop) → length c.args.t3.bytes ≡ text_limit
+len c = simp length-map at c.well_formed_lem.1.1.0.1.1.0.1.0.1
 
 kept : (c : tie.At-loop invariant-loop decreases-loop) → length c.loop.out ≡ length c.before.args.out.now
 kept c =

@@ -5,15 +5,15 @@ use native.Mathlib.Omega.{arith}
 use lib.ListN.{length, length-map}
 use lib.Seq.{length-take-le}
 use borrow.Author.Rules.{rules}
-use Rattle.text_lines.specs.Texts.{textLimit}
-use Rattle.text_lines.proofs.Texts.{text-fits}
+use Rattle.text_lines.specs.Texts.{text_limit}
+use Rattle.text_lines.proofs.Texts.{text_fits}
 use Rattle.driver.proofs.refuse.Statement.{statement}
 use Rattle.driver.proofs.refuse.Tie as tie
 
 fits : (c : tie.After-answer-text) → c.answer-text.result.count ≤ length c.answer-text.result.bytes
 fits c =
-    let k : length c.answer-text.result.bytes ≡ textLimit = simp length-map at c.answer-text.type-inv.1.1.0.1.0.1 in
-    omega (arith, text-fits _ _ c.answer-text.ensures)
+    let k : length c.answer-text.result.bytes ≡ text_limit = simp length-map at c.answer-text.type-inv.1.1.0.1.0.1 in
+    omega (arith, text_fits _ _ c.answer-text.ensures)
 
 array-share-prefix-bytes : tie.Need-array-share-prefix-bytes
 array-share-prefix-bytes c = omega (arith, fits c.before)

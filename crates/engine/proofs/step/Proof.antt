@@ -48,7 +48,7 @@ use Rattle.rules.proofs.Reply.TheLaws as ReplyL
 use Rattle.rules.specs.declared.Table.{Table}
 use Rattle.rules.specs.contracts.Table as TableR
 use Rattle.rules.proofs.Table.TheLaws as TableL
-use Rattle.rules.specs.Events.{step, replyOf}
+use Rattle.rules.specs.Events.{step, reply_of}
 use Rattle.engine.specs.Answers.{answer_of}
 use Rattle.engine.proofs.LentLaws.{stepped}
 use Rattle.engine.specs.contracts.step_in as step_in
@@ -138,7 +138,7 @@ module _ {M : Type 1} {𝓤 : Ura M} (𝓛 : Logic 𝓤) (at_mem : Memory → SP
           use2 𝓛 (raw ((C-step-in 𝓛 at_mem run).pre (to-step-in 𝓛 at_mem run (ν1 ∷ []) full_share (rt l3 δ1 x1) x2 m2))) (goes-step-in 𝓛 at_mem run (ν1 ∷ []) full_share (rt l3 δ1 x1) x2 m2 g2) $
           calls_at ! fm (C-step-in 𝓛 at_mem run) known-step-in (to-step-in 𝓛 at_mem run (ν1 ∷ []) full_share (rt l3 δ1 x1) x2 m2) (and_then ! (load ! (from ! (stop !)) (look ! 4 refl)) (and_then ! (load ! (from ! (stop !)) (look ! 9 {q = full_share} {τ = EventL.mir} {b = l2} {o = 0} {v = m2} refl)) (no_more !))) (λ w1.
           use1 𝓛 (later (some (λ (r : Reply). ((‵ (flft (ν1 ∷ []) full_share) ⊛ ‵ ftrue) ⊛ ‵ ((ReplyR.the_row).own_val r (w1 ∷ []))) ⊛ raw (ensured 𝓛 step_in.ended (step_in.clauses 𝓛 at_mem run) ((ν1 ∷ []), tt) ((rt l3 δ1 x1), (x2, tt)) tt r)))) (id⊢ 𝓤 _) $ await ! tt $ pick ! (λ r1. split ! $ move ! (1 ∷ []) $
-          use1 𝓛 (some (λ (z1 : Table × (Unit {0} × Unit {0})). ‵ (lasts step_in.ended ((ν1 ∷ []), tt) ((rt l3 δ1 x1), (x2, tt)) z1) ⊛ raw (fact 𝓤 ((r1 ≡ replyOf (step x1 x2)) × (z1.0 ≡ (step x1 x2).table))))) (id⊢ 𝓤 _) $ pick ! (λ z1. split ! $ move ! (1 ∷ []) $ heard ! ((r1 ≡ replyOf (step x1 x2)) × (z1.0 ≡ (step x1 x2).table)) (λ e1. fsplit ! $
+          use1 𝓛 (some (λ (z1 : Table × (Unit {0} × Unit {0})). ‵ (lasts step_in.ended ((ν1 ∷ []), tt) ((rt l3 δ1 x1), (x2, tt)) z1) ⊛ raw (fact 𝓤 ((r1 ≡ reply_of (step x1 x2)) × (z1.0 ≡ (step x1 x2).table))))) (id⊢ 𝓤 _) $ pick ! (λ z1. split ! $ move ! (1 ∷ []) $ heard ! ((r1 ≡ reply_of (step x1 x2)) × (z1.0 ≡ (step x1 x2).table)) (λ e1. fsplit ! $
           move ! (2 ∷ []) $ split ! $ move ! (1 ∷ []) $ facts ! ReplyR.the_row (Is ReplyR.the_row) (shows 𝓛 ReplyR.the_row) r1 (w1 ∷ []) (λ is1.
           land ! (from ! (stop !)) (init ! 8 {τ = ReplyL.mir} {v = w1} refl ((LL.lawful ReplyR.the_type ReplyL.the_laws 𝓛).typed r1 _ is1).0) $ split ! $ lft_end ! tt $ move ! (0 ∷ 4 ∷ 2 ∷ []) $
           use3 𝓛 (later (‵ (part_at TableR.the_row full_share z1.0 l3 0))) (ref_back 𝓛 TableR.the_row (ν1 ∷ []) δ1 z1.0 l3 0) $ await ! tt $

@@ -56,16 +56,16 @@ use Rattle.rules.proofs.Reply.TheLaws as ReplyL
 use Rattle.rules.specs.declared.Table.{Table}
 use Rattle.rules.specs.contracts.Table as TableR
 use Rattle.rules.specs.Codes.{code_of}
-use Rattle.rules.specs.Chunks.{failRefusals}
-use Rattle.rules.specs.Events.{ranges, step, replyOf, epochRefusals}
-use Rattle.rules.specs.Formed.{wellFormed}
+use Rattle.rules.specs.Chunks.{fail_refusals}
+use Rattle.rules.specs.Events.{ranges, step, reply_of, epoch_refusals}
+use Rattle.rules.specs.Formed.{well_formed}
 use Rattle.rules.specs.Tables.{chunk_of}
 use Rattle.rules.specs.Timestamps.{next}
-use Rattle.chunk_fault.specs.Steps.{failedTo}
-use Rattle.epoch_lent.specs.Steps.{changedTo}
-use Rattle.event_lent.specs.Touches.{actedOn}
-use Rattle.engine.specs.Answers.{quietReply}
-use Rattle.engine.proofs.LentLaws.{outside-way, fail-way, change-way, act-way, epoch-fits}
+use Rattle.chunk_fault.specs.Steps.{failed_to}
+use Rattle.epoch_lent.specs.Steps.{changed_to}
+use Rattle.event_lent.specs.Touches.{acted_on}
+use Rattle.engine.specs.Answers.{quiet_reply}
+use Rattle.engine.proofs.LentLaws.{outside_way, fail_way, change_way, act_way, epoch-fits}
 use Rattle.table_lent.proofs.Bodies.{ty_at, after}
 use Rattle.table_lent.proofs.Share.{SharedOut, shares_out, comes_home}
 use Rattle.table_lent.proofs.Parts.{hosts-sized, chunks-sized, records-sized, places-sized}
@@ -144,8 +144,8 @@ module _ {M : Type 1} {𝓤 : Ura M} (𝓛 : Logic 𝓤) (at_mem : Memory → SP
   abbrev C-engine-quiet : Contract 𝓤
   C-engine-quiet = triple_of 𝓛 engine-quiet.signature (engine-quiet.spec 𝓛 at_mem run)
 
-  said-engine-quiet : (x0 : ℕ) (r : Reply) → ent 𝓤 (ensured 𝓛 engine-quiet.ended (engine-quiet.clauses 𝓛 at_mem run) tt (x0, tt) tt r) (fact 𝓤 (r ≡ quietReply x0))
-  said-engine-quiet x0 r = ex_e 𝓤 _ (λ ws. snd∗ 𝓤 (sem 𝓛 (lasts engine-quiet.ended tt (x0, tt) ws)) (fact 𝓤 (r ≡ quietReply x0)))
+  said-engine-quiet : (x0 : ℕ) (r : Reply) → ent 𝓤 (ensured 𝓛 engine-quiet.ended (engine-quiet.clauses 𝓛 at_mem run) tt (x0, tt) tt r) (fact 𝓤 (r ≡ quiet_reply x0))
+  said-engine-quiet x0 r = ex_e 𝓤 _ (λ ws. snd∗ 𝓤 (sem 𝓛 (lasts engine-quiet.ended tt (x0, tt) ws)) (fact 𝓤 (r ≡ quiet_reply x0)))
 
   abbrev C-is-fail : Contract 𝓤
   C-is-fail = triple_of 𝓛 is-fail.signature (is-fail.spec 𝓛 at_mem run)
@@ -275,8 +275,8 @@ module _ {M : Type 1} {𝓤 : Ura M} (𝓛 : Logic 𝓤) (at_mem : Memory → SP
   abbrev Post : Val → SProp 𝓤
   Post = (walk_of 𝓛 me.ended stayed (me.clauses 𝓛 at_mem run)).post (((κ, tt), (q, tt), tt, x, vs), tt)
 
-  module _ (g2 : Is EventR.the_row x2 (m2 ∷ [])) (ok : wellFormed h ≡ true) where
-    exits : (r : Reply) (v : Val) → Is ReplyR.the_row r (v ∷ []) → (z : Table) → (r ≡ replyOf (step h x2)) × (z ≡ (step h x2).table) → ent 𝓤 (⋆ 𝓛 (‵ ((MutRef (named 0) κ TableR.the_row).own_val (rt γ z) (vptr b o ∷ [])) ∷ ‵ (flft κ q) ∷ [])) (Post v)
+  module _ (g2 : Is EventR.the_row x2 (m2 ∷ [])) (ok : well_formed h ≡ true) where
+    exits : (r : Reply) (v : Val) → Is ReplyR.the_row r (v ∷ []) → (z : Table) → (r ≡ reply_of (step h x2)) × (z ≡ (step h x2).table) → ent 𝓤 (⋆ 𝓛 (‵ ((MutRef (named 0) κ TableR.the_row).own_val (rt γ z) (vptr b o ∷ [])) ∷ ‵ (flft κ q) ∷ [])) (Post v)
     exits r v g z eq =
         qed 𝓛 (‵ ((MutRef (named 0) κ TableR.the_row).own_val (rt γ z) (vptr b o ∷ [])) ∷ ‵ (flft κ q) ∷ []) ∵
         suffices ! _ (ends_at 𝓛 me.ended stayed (me.clauses 𝓛 at_mem run) (((κ, tt), (q, tt), tt, x, vs), tt) v r (z, (tt, tt)) (tt, (tt, tt))) $ says ! eq $
@@ -335,12 +335,12 @@ module _ {M : Type 1} {𝓤 : Ura M} (𝓛 : Logic 𝓤) (at_mem : Memory → SP
           nothing ! $ use1 𝓛 (raw ((C-engine-quiet 𝓛 at_mem run).pre (to-engine-quiet 𝓛 at_mem run 1 (vint w64 1)))) (goes-engine-quiet 𝓛 at_mem run 1 (vint w64 1) (refl, lit< tt)) $
           calls_at ! fm (C-engine-quiet 𝓛 at_mem run) known-engine-quiet (to-engine-quiet 𝓛 at_mem run 1 (vint w64 1)) (and_then ! (lit ! tt) (no_more !)) (λ w3.
           use1 𝓛 (later (some (λ (r : Reply). (‵ ftrue ⊛ ‵ ((ReplyR.the_row).own_val r (w3 ∷ []))) ⊛ raw (ensured 𝓛 engine-quiet.ended (engine-quiet.clauses 𝓛 at_mem run) tt (1, tt) tt r)))) (id⊢ 𝓤 _) $ await ! tt $ pick ! (λ r3. split ! $ move ! (1 ∷ []) $
-          use1 𝓛 (raw (fact 𝓤 (r3 ≡ quietReply 1))) (said-engine-quiet 𝓛 at_mem run 1 r3) $ heard ! (r3 ≡ quietReply 1) (λ e3. split ! $ drop ! $ facts ! ReplyR.the_row (Is ReplyR.the_row) (shows 𝓛 ReplyR.the_row) r3 (w3 ∷ []) (λ is3.
+          use1 𝓛 (raw (fact 𝓤 (r3 ≡ quiet_reply 1))) (said-engine-quiet 𝓛 at_mem run 1 r3) $ heard ! (r3 ≡ quiet_reply 1) (λ e3. split ! $ drop ! $ facts ! ReplyR.the_row (Is ReplyR.the_row) (shows 𝓛 ReplyR.the_row) r3 (w3 ∷ []) (λ is3.
           land ! (from ! (stop !)) (init ! 34 {τ = ReplyL.mir} {v = w3} refl ((LL.lawful ReplyR.the_type ReplyL.the_laws 𝓛).typed r3 _ is3).0) $
           returns_within ! Post refl (look ! 34 {q = full_share} {τ = ReplyL.mir} {b = l0} {o = 0} {v = w3} refl) $
           forget ! 22 refl $ forget ! 24 refl $ forget ! 26 refl $ forget ! 30 refl $ forget ! 32 refl $ forget ! 34 refl $
           move ! (34 ∷ 35 ∷ []) $ free1 ! $ move ! (32 ∷ 33 ∷ []) $ free1 ! $ move ! (30 ∷ 31 ∷ []) $ free1 ! $ move ! (28 ∷ 29 ∷ []) $ free1 ! $ move ! (26 ∷ 27 ∷ []) $ free1 ! $ move ! (24 ∷ 25 ∷ []) $ free1 ! $ move ! (22 ∷ 23 ∷ []) $ free1 ! $ move ! (20 ∷ 21 ∷ []) $ free1 ! $ move ! (18 ∷ 19 ∷ []) $ free1 ! $ move ! (16 ∷ 17 ∷ []) $ free1 ! $ move ! (14 ∷ 15 ∷ []) $ free1 ! $ move ! (12 ∷ 13 ∷ []) $ free1 ! $ move ! (10 ∷ 11 ∷ []) $ free1 ! $ move ! (8 ∷ 9 ∷ []) $ free1 ! $ move ! (6 ∷ 7 ∷ []) $ free1 ! $ move ! (4 ∷ 5 ∷ []) $ free1 ! $ move ! (2 ∷ 3 ∷ []) $ free1 ! $ free0 ! $
-          by ! (exits r3 w3 is3 h (outside-way h x2 ok r1 e1 r2 e2 held r3 e3)))))))
+          by ! (exits r3 w3 is3 h (outside_way h x2 ok r1 e1 r2 e2 held r3 e3)))))))
           (λ failed.
           skips ! $
           exec ! C Λ (En l0 l1 l2 l3 l4 l5 l6 l7 l8 l9 l10 l11 l12 l13 l14 l15 l16) (after 4 (code.function).body) (at_ret (En l0 l1 l2 l3 l4 l5 l6 l7 l8 l9 l10 l11 l12 l13 l14 l15 l16) Post) $
@@ -367,7 +367,7 @@ module _ {M : Type 1} {𝓤 : Ura M} (𝓛 : Logic 𝓤) (at_mem : Memory → SP
           use2 𝓛 (raw ((C-fail-in 𝓛 at_mem run).pre (to-fail-in 𝓛 at_mem run (ν6 ∷ []) full_share (rt δ6 h) r5 w5))) (goes-fail-in 𝓛 at_mem run (ν6 ∷ []) full_share (rt δ6 h) r5 w5 is5) $
           calls_at ! fm (C-fail-in 𝓛 at_mem run) known-fail-in (to-fail-in 𝓛 at_mem run (ν6 ∷ []) full_share (rt δ6 h) r5 w5) (and_then ! (load ! (from ! (stop !)) (look ! 16 refl)) (and_then ! (load ! (from ! (stop !)) (look ! 14 {q = full_share} {τ = ty_int w64} {b = l10} {o = 0} {v = w5} refl)) (no_more !))) (λ w6.
           use1 𝓛 (later (some (λ (r : ℕ). ((‵ (flft (ν6 ∷ []) full_share) ⊛ ‵ ftrue) ⊛ ‵ (usize.own_val r (w6 ∷ []))) ⊛ raw (ensured 𝓛 fail-in.ended (fail-in.clauses 𝓛 at_mem run) ((ν6 ∷ []), tt) ((rt δ6 h), (r5, tt)) tt r)))) (id⊢ 𝓤 _) $ await ! tt $ pick ! (λ r6. split ! $ move ! (1 ∷ []) $
-          use1 𝓛 (some (λ (z6 : Table × (Unit {0} × Unit {0})). ‵ (lasts fail-in.ended ((ν6 ∷ []), tt) ((rt δ6 h), (r5, tt)) z6) ⊛ raw (fact 𝓤 ((r6 ≡ code_of (failRefusals (chunk_of h r5).state)) × (z6.0 ≡ failedTo r5 h))))) (id⊢ 𝓤 _) $ pick ! (λ z6. split ! $ move ! (1 ∷ []) $ heard ! ((r6 ≡ code_of (failRefusals (chunk_of h r5).state)) × (z6.0 ≡ failedTo r5 h)) (λ e6. fsplit ! $
+          use1 𝓛 (some (λ (z6 : Table × (Unit {0} × Unit {0})). ‵ (lasts fail-in.ended ((ν6 ∷ []), tt) ((rt δ6 h), (r5, tt)) z6) ⊛ raw (fact 𝓤 ((r6 ≡ code_of (fail_refusals (chunk_of h r5).state)) × (z6.0 ≡ failed_to r5 h))))) (id⊢ 𝓤 _) $ pick ! (λ z6. split ! $ move ! (1 ∷ []) $ heard ! ((r6 ≡ code_of (fail_refusals (chunk_of h r5).state)) × (z6.0 ≡ failed_to r5 h)) (λ e6. fsplit ! $
           move ! (2 ∷ []) $ split ! $ move ! (1 ∷ []) $ facts ! usize (Is usize) (shows 𝓛 usize) r6 (w6 ∷ []) (λ is6.
           land ! (from ! (stop !)) (init ! 20 {τ = ty_int w64} {v = w6} refl ((uint_Lawful 𝓛 w64).typed r6 _ is6).0) $ split ! $ lft_end ! tt $ move ! (0 ∷ 4 ∷ 2 ∷ []) $
           use3 𝓛 (later (‵ ((MutRef (named 0) κ TableR.the_row).own_val (rt γ z6.0) (vptr b o ∷ [])) ⊛ ‵ (flft κ q))) (comes_back 𝓛 TableR.the_row (named 0) κ (ν6 ∷ []) q γ b o δ6 h z6.0) $ await ! tt $ split ! $ move ! (2 ∷ 3 ∷ []) $ drop ! $ drop ! $
@@ -375,12 +375,12 @@ module _ {M : Type 1} {𝓤 : Ura M} (𝓛 : Logic 𝓤) (at_mem : Memory → SP
           nothing ! $ use1 𝓛 (raw ((C-engine-quiet 𝓛 at_mem run).pre (to-engine-quiet 𝓛 at_mem run r6 w6))) (goes-engine-quiet 𝓛 at_mem run r6 w6 is6) $
           calls_at ! fm (C-engine-quiet 𝓛 at_mem run) known-engine-quiet (to-engine-quiet 𝓛 at_mem run r6 w6) (and_then ! (load ! (from ! (stop !)) (look ! 19 {q = full_share} {τ = ty_int w64} {b = l8} {o = 0} {v = w6} refl)) (no_more !)) (λ w7.
           use1 𝓛 (later (some (λ (r : Reply). (‵ ftrue ⊛ ‵ ((ReplyR.the_row).own_val r (w7 ∷ []))) ⊛ raw (ensured 𝓛 engine-quiet.ended (engine-quiet.clauses 𝓛 at_mem run) tt (r6, tt) tt r)))) (id⊢ 𝓤 _) $ await ! tt $ pick ! (λ r7. split ! $ move ! (1 ∷ []) $
-          use1 𝓛 (raw (fact 𝓤 (r7 ≡ quietReply r6))) (said-engine-quiet 𝓛 at_mem run r6 r7) $ heard ! (r7 ≡ quietReply r6) (λ e7. split ! $ drop ! $ facts ! ReplyR.the_row (Is ReplyR.the_row) (shows 𝓛 ReplyR.the_row) r7 (w7 ∷ []) (λ is7.
+          use1 𝓛 (raw (fact 𝓤 (r7 ≡ quiet_reply r6))) (said-engine-quiet 𝓛 at_mem run r6 r7) $ heard ! (r7 ≡ quiet_reply r6) (λ e7. split ! $ drop ! $ facts ! ReplyR.the_row (Is ReplyR.the_row) (shows 𝓛 ReplyR.the_row) r7 (w7 ∷ []) (λ is7.
           land ! (from ! (stop !)) (init ! 34 {τ = ReplyL.mir} {v = w7} refl ((LL.lawful ReplyR.the_type ReplyL.the_laws 𝓛).typed r7 _ is7).0) $
           returns_within ! Post refl (look ! 34 {q = full_share} {τ = ReplyL.mir} {b = l0} {o = 0} {v = w7} refl) $
           forget ! 14 refl $ forget ! 16 refl $ forget ! 18 refl $ forget ! 20 refl $ forget ! 22 refl $ forget ! 24 refl $ forget ! 26 refl $ forget ! 30 refl $ forget ! 32 refl $ forget ! 34 refl $
           move ! (34 ∷ 35 ∷ []) $ free1 ! $ move ! (32 ∷ 33 ∷ []) $ free1 ! $ move ! (30 ∷ 31 ∷ []) $ free1 ! $ move ! (28 ∷ 29 ∷ []) $ free1 ! $ move ! (26 ∷ 27 ∷ []) $ free1 ! $ move ! (24 ∷ 25 ∷ []) $ free1 ! $ move ! (22 ∷ 23 ∷ []) $ free1 ! $ move ! (20 ∷ 21 ∷ []) $ free1 ! $ move ! (18 ∷ 19 ∷ []) $ free1 ! $ move ! (16 ∷ 17 ∷ []) $ free1 ! $ move ! (14 ∷ 15 ∷ []) $ free1 ! $ move ! (12 ∷ 13 ∷ []) $ free1 ! $ move ! (10 ∷ 11 ∷ []) $ free1 ! $ move ! (8 ∷ 9 ∷ []) $ free1 ! $ move ! (6 ∷ 7 ∷ []) $ free1 ! $ move ! (4 ∷ 5 ∷ []) $ free1 ! $ move ! (2 ∷ 3 ∷ []) $ free1 ! $ free0 ! $
-          by ! (exits r7 w7 is7 z6.0 (fail-way h x2 ok r1 e1 r2 e2 failed r4 e4 held2 r5 e5 r6 z6.0 e6 r7 e7))))))))))))))))))
+          by ! (exits r7 w7 is7 z6.0 (fail_way h x2 ok r1 e1 r2 e2 failed r4 e4 held2 r5 e5 r6 z6.0 e6 r7 e7))))))))))))))))))
           (λ failed2.
           skips ! $
           exec ! C Λ (En l0 l1 l2 l3 l4 l5 l6 l7 l8 l9 l10 l11 l12 l13 l14 l15 l16) (after 6 (code.function).body) (at_ret (En l0 l1 l2 l3 l4 l5 l6 l7 l8 l9 l10 l11 l12 l13 l14 l15 l16) Post) $
@@ -418,7 +418,7 @@ module _ {M : Type 1} {𝓤 : Ura M} (𝓛 : Logic 𝓤) (at_mem : Memory → SP
           use2 𝓛 (raw ((C-change-in 𝓛 at_mem run).pre (to-change-in 𝓛 at_mem run (ν11 ∷ []) full_share (rt δ11 h) r10 w10))) (goes-change-in 𝓛 at_mem run (ν11 ∷ []) full_share (rt δ11 h) r10 w10 is10) $
           calls_at ! fm (C-change-in 𝓛 at_mem run) known-change-in (to-change-in 𝓛 at_mem run (ν11 ∷ []) full_share (rt δ11 h) r10 w10) (and_then ! (load ! (from ! (stop !)) (look ! 4 refl)) (and_then ! (load ! (from ! (stop !)) (look ! 28 {q = full_share} {τ = EpochL.mir} {b = l3} {o = 0} {v = w10} refl)) (no_more !))) (λ w11.
           use1 𝓛 (later (some (λ (r : ℕ). ((‵ (flft (ν11 ∷ []) full_share) ⊛ ‵ ftrue) ⊛ ‵ (usize.own_val r (w11 ∷ []))) ⊛ raw (ensured 𝓛 change-in.ended (change-in.clauses 𝓛 at_mem run) ((ν11 ∷ []), tt) ((rt δ11 h), (r10, tt)) tt r)))) (id⊢ 𝓤 _) $ await ! tt $ pick ! (λ r11. split ! $ move ! (1 ∷ []) $
-          use1 𝓛 (some (λ (z11 : Table × (Unit {0} × Unit {0})). ‵ (lasts change-in.ended ((ν11 ∷ []), tt) ((rt δ11 h), (r10, tt)) z11) ⊛ raw (fact 𝓤 ((r11 ≡ code_of (epochRefusals h.creation h.epoch h.chunks)) × (z11.0 ≡ changedTo r10 h))))) (id⊢ 𝓤 _) $ pick ! (λ z11. split ! $ move ! (1 ∷ []) $ heard ! ((r11 ≡ code_of (epochRefusals h.creation h.epoch h.chunks)) × (z11.0 ≡ changedTo r10 h)) (λ e11. fsplit ! $
+          use1 𝓛 (some (λ (z11 : Table × (Unit {0} × Unit {0})). ‵ (lasts change-in.ended ((ν11 ∷ []), tt) ((rt δ11 h), (r10, tt)) z11) ⊛ raw (fact 𝓤 ((r11 ≡ code_of (epoch_refusals h.creation h.epoch h.chunks)) × (z11.0 ≡ changed_to r10 h))))) (id⊢ 𝓤 _) $ pick ! (λ z11. split ! $ move ! (1 ∷ []) $ heard ! ((r11 ≡ code_of (epoch_refusals h.creation h.epoch h.chunks)) × (z11.0 ≡ changed_to r10 h)) (λ e11. fsplit ! $
           move ! (2 ∷ []) $ split ! $ move ! (1 ∷ []) $ facts ! usize (Is usize) (shows 𝓛 usize) r11 (w11 ∷ []) (λ is11.
           land ! (from ! (stop !)) (init ! 8 {τ = ty_int w64} {v = w11} refl ((uint_Lawful 𝓛 w64).typed r11 _ is11).0) $ split ! $ lft_end ! tt $ move ! (0 ∷ 4 ∷ 2 ∷ []) $
           use3 𝓛 (later (‵ ((MutRef (named 0) κ TableR.the_row).own_val (rt γ z11.0) (vptr b o ∷ [])) ⊛ ‵ (flft κ q))) (comes_back 𝓛 TableR.the_row (named 0) κ (ν11 ∷ []) q γ b o δ11 h z11.0) $ await ! tt $ split ! $ move ! (2 ∷ 3 ∷ []) $ drop ! $ drop ! $
@@ -426,12 +426,12 @@ module _ {M : Type 1} {𝓤 : Ura M} (𝓛 : Logic 𝓤) (at_mem : Memory → SP
           nothing ! $ use1 𝓛 (raw ((C-engine-quiet 𝓛 at_mem run).pre (to-engine-quiet 𝓛 at_mem run r11 w11))) (goes-engine-quiet 𝓛 at_mem run r11 w11 is11) $
           calls_at ! fm (C-engine-quiet 𝓛 at_mem run) known-engine-quiet (to-engine-quiet 𝓛 at_mem run r11 w11) (and_then ! (load ! (from ! (stop !)) (look ! 7 {q = full_share} {τ = ty_int w64} {b = l14} {o = 0} {v = w11} refl)) (no_more !)) (λ w12.
           use1 𝓛 (later (some (λ (r : Reply). (‵ ftrue ⊛ ‵ ((ReplyR.the_row).own_val r (w12 ∷ []))) ⊛ raw (ensured 𝓛 engine-quiet.ended (engine-quiet.clauses 𝓛 at_mem run) tt (r11, tt) tt r)))) (id⊢ 𝓤 _) $ await ! tt $ pick ! (λ r12. split ! $ move ! (1 ∷ []) $
-          use1 𝓛 (raw (fact 𝓤 (r12 ≡ quietReply r11))) (said-engine-quiet 𝓛 at_mem run r11 r12) $ heard ! (r12 ≡ quietReply r11) (λ e12. split ! $ drop ! $ facts ! ReplyR.the_row (Is ReplyR.the_row) (shows 𝓛 ReplyR.the_row) r12 (w12 ∷ []) (λ is12.
+          use1 𝓛 (raw (fact 𝓤 (r12 ≡ quiet_reply r11))) (said-engine-quiet 𝓛 at_mem run r11 r12) $ heard ! (r12 ≡ quiet_reply r11) (λ e12. split ! $ drop ! $ facts ! ReplyR.the_row (Is ReplyR.the_row) (shows 𝓛 ReplyR.the_row) r12 (w12 ∷ []) (λ is12.
           land ! (from ! (stop !)) (init ! 34 {τ = ReplyL.mir} {v = w12} refl ((LL.lawful ReplyR.the_type ReplyL.the_laws 𝓛).typed r12 _ is12).0) $
           returns_within ! Post refl (look ! 34 {q = full_share} {τ = ReplyL.mir} {b = l0} {o = 0} {v = w12} refl) $
           forget ! 4 refl $ forget ! 6 refl $ forget ! 8 refl $ forget ! 10 refl $ forget ! 12 refl $ forget ! 20 refl $ forget ! 22 refl $ forget ! 24 refl $ forget ! 26 refl $ forget ! 28 refl $ forget ! 30 refl $ forget ! 32 refl $ forget ! 34 refl $
           move ! (34 ∷ 35 ∷ []) $ free1 ! $ move ! (32 ∷ 33 ∷ []) $ free1 ! $ move ! (30 ∷ 31 ∷ []) $ free1 ! $ move ! (28 ∷ 29 ∷ []) $ free1 ! $ move ! (26 ∷ 27 ∷ []) $ free1 ! $ move ! (24 ∷ 25 ∷ []) $ free1 ! $ move ! (22 ∷ 23 ∷ []) $ free1 ! $ move ! (20 ∷ 21 ∷ []) $ free1 ! $ move ! (18 ∷ 19 ∷ []) $ free1 ! $ move ! (16 ∷ 17 ∷ []) $ free1 ! $ move ! (14 ∷ 15 ∷ []) $ free1 ! $ move ! (12 ∷ 13 ∷ []) $ free1 ! $ move ! (10 ∷ 11 ∷ []) $ free1 ! $ move ! (8 ∷ 9 ∷ []) $ free1 ! $ move ! (6 ∷ 7 ∷ []) $ free1 ! $ move ! (4 ∷ 5 ∷ []) $ free1 ! $ move ! (2 ∷ 3 ∷ []) $ free1 ! $ free0 ! $
-          by ! (exits r12 w12 is12 z11.0 (change-way h x2 ok r1 e1 r2 e2 failed r8 e8 held3 r9 e9 r10 e10 r11 z11.0 e11 r12 e12))))))))))))))))))))))))
+          by ! (exits r12 w12 is12 z11.0 (change_way h x2 ok r1 e1 r2 e2 failed r8 e8 held3 r9 e9 r10 e10 r11 z11.0 e11 r12 e12))))))))))))))))))))))))
           (λ failed3.
           skips ! $
           exec ! C Λ (En l0 l1 l2 l3 l4 l5 l6 l7 l8 l9 l10 l11 l12 l13 l14 l15 l16) (after 8 (code.function).body) (at_ret (En l0 l1 l2 l3 l4 l5 l6 l7 l8 l9 l10 l11 l12 l13 l14 l15 l16) Post) $
@@ -443,21 +443,21 @@ module _ {M : Type 1} {𝓤 : Ura M} (𝓛 : Logic 𝓤) (at_mem : Memory → SP
           use2 𝓛 (raw ((C-act-in 𝓛 at_mem run).pre (to-act-in 𝓛 at_mem run (ν13 ∷ []) full_share (rt δ13 h) x2 m2))) (goes-act-in 𝓛 at_mem run (ν13 ∷ []) full_share (rt δ13 h) x2 m2 g2) $
           calls_at ! fm (C-act-in 𝓛 at_mem run) known-act-in (to-act-in 𝓛 at_mem run (ν13 ∷ []) full_share (rt δ13 h) x2 m2) (and_then ! (load ! (from ! (stop !)) (look ! 2 refl)) (and_then ! (load ! (from ! (stop !)) (look ! 30 {q = full_share} {τ = EventL.mir} {b = l2} {o = 0} {v = m2} refl)) (no_more !))) (λ w13.
           use1 𝓛 (later (some (λ (r : Reply). ((‵ (flft (ν13 ∷ []) full_share) ⊛ ‵ ftrue) ⊛ ‵ ((ReplyR.the_row).own_val r (w13 ∷ []))) ⊛ raw (ensured 𝓛 act-in.ended (act-in.clauses 𝓛 at_mem run) ((ν13 ∷ []), tt) ((rt δ13 h), (x2, tt)) tt r)))) (id⊢ 𝓤 _) $ await ! tt $ pick ! (λ r13. split ! $ move ! (1 ∷ []) $
-          use1 𝓛 (some (λ (z13 : Table × (Unit {0} × Unit {0})). ‵ (lasts act-in.ended ((ν13 ∷ []), tt) ((rt δ13 h), (x2, tt)) z13) ⊛ raw (fact 𝓤 ((r13 ≡ replyOf (actedOn h x2)) × (z13.0 ≡ (actedOn h x2).table))))) (id⊢ 𝓤 _) $ pick ! (λ z13. split ! $ move ! (1 ∷ []) $ heard ! ((r13 ≡ replyOf (actedOn h x2)) × (z13.0 ≡ (actedOn h x2).table)) (λ e13. fsplit ! $
+          use1 𝓛 (some (λ (z13 : Table × (Unit {0} × Unit {0})). ‵ (lasts act-in.ended ((ν13 ∷ []), tt) ((rt δ13 h), (x2, tt)) z13) ⊛ raw (fact 𝓤 ((r13 ≡ reply_of (acted_on h x2)) × (z13.0 ≡ (acted_on h x2).table))))) (id⊢ 𝓤 _) $ pick ! (λ z13. split ! $ move ! (1 ∷ []) $ heard ! ((r13 ≡ reply_of (acted_on h x2)) × (z13.0 ≡ (acted_on h x2).table)) (λ e13. fsplit ! $
           move ! (2 ∷ []) $ split ! $ move ! (1 ∷ []) $ facts ! ReplyR.the_row (Is ReplyR.the_row) (shows 𝓛 ReplyR.the_row) r13 (w13 ∷ []) (λ is13.
           land ! (from ! (stop !)) (init ! 36 {τ = ReplyL.mir} {v = w13} refl ((LL.lawful ReplyR.the_type ReplyL.the_laws 𝓛).typed r13 _ is13).0) $ split ! $ lft_end ! tt $ move ! (0 ∷ 4 ∷ 2 ∷ []) $
           use3 𝓛 (later (‵ ((MutRef (named 0) κ TableR.the_row).own_val (rt γ z13.0) (vptr b o ∷ [])) ⊛ ‵ (flft κ q))) (comes_back 𝓛 TableR.the_row (named 0) κ (ν13 ∷ []) q γ b o δ13 h z13.0) $ await ! tt $ split ! $ move ! (2 ∷ 3 ∷ []) $ drop ! $ drop ! $
           returns ! (look ! 34 {q = full_share} {τ = ReplyL.mir} {b = l0} {o = 0} {v = w13} refl) $
           forget ! 2 refl $ forget ! 12 refl $ forget ! 20 refl $ forget ! 22 refl $ forget ! 24 refl $ forget ! 26 refl $ forget ! 30 refl $ forget ! 32 refl $ forget ! 34 refl $
           move ! (34 ∷ 35 ∷ []) $ free1 ! $ move ! (32 ∷ 33 ∷ []) $ free1 ! $ move ! (30 ∷ 31 ∷ []) $ free1 ! $ move ! (28 ∷ 29 ∷ []) $ free1 ! $ move ! (26 ∷ 27 ∷ []) $ free1 ! $ move ! (24 ∷ 25 ∷ []) $ free1 ! $ move ! (22 ∷ 23 ∷ []) $ free1 ! $ move ! (20 ∷ 21 ∷ []) $ free1 ! $ move ! (18 ∷ 19 ∷ []) $ free1 ! $ move ! (16 ∷ 17 ∷ []) $ free1 ! $ move ! (14 ∷ 15 ∷ []) $ free1 ! $ move ! (12 ∷ 13 ∷ []) $ free1 ! $ move ! (10 ∷ 11 ∷ []) $ free1 ! $ move ! (8 ∷ 9 ∷ []) $ free1 ! $ move ! (6 ∷ 7 ∷ []) $ free1 ! $ move ! (4 ∷ 5 ∷ []) $ free1 ! $ move ! (2 ∷ 3 ∷ []) $ free1 ! $ free0 ! $
-          by ! (exits r13 w13 is13 z13.0 (act-way h x2 ok r1 e1 r2 e2 failed hosts-len chunks-len records-len places-len r4 e4 failed2 r8 e8 failed3 r13 z13.0 e13)))))))))))))))))))))))))))))))))))))))))))))))))))
+          by ! (exits r13 w13 is13 z13.0 (act_way h x2 ok r1 e1 r2 e2 failed hosts-len chunks-len records-len places-len r4 e4 failed2 r8 e8 failed3 r13 z13.0 e13)))))))))))))))))))))))))))))))))))))))))))))))))))
 
 module _ {M : Type 1} {𝓤 : Ura M} (𝓛 : Logic 𝓤) (at_mem : Memory → SProp 𝓤) (run : Routine → Fun 𝓤) where
   open 𝓛 use {H}
 
   step-formed-walks : (𝓣 : Tables 𝓤 H) → Triple 𝓤 (𝓣.C #table_numbers·creation-in) (C-creation-in 𝓛 at_mem run) → Triple 𝓤 (𝓣.C #engine·is-outside) (C-is-outside 𝓛 at_mem run) → Triple 𝓤 (𝓣.C #engine·quiet) (C-engine-quiet 𝓛 at_mem run) → Triple 𝓤 (𝓣.C #engine·is-fail) (C-is-fail 𝓛 at_mem run) → Triple 𝓤 (𝓣.C #engine·chunk-named) (C-chunk-named 𝓛 at_mem run) → Triple 𝓤 (𝓣.C #chunk_fault·fail-in) (C-fail-in 𝓛 at_mem run) → Triple 𝓤 (𝓣.C #engine·is-change) (C-is-change 𝓛 at_mem run) → Triple 𝓤 (𝓣.C #table_numbers·epoch-in) (C-epoch-in 𝓛 at_mem run) → Triple 𝓤 (𝓣.C #engine·next-of) (C-next-of 𝓛 at_mem run) → Triple 𝓤 (𝓣.C #epoch_lent·change-in) (C-change-in 𝓛 at_mem run) → Triple 𝓤 (𝓣.C #event_lent·act-in) (C-act-in 𝓛 at_mem run) → Walks 𝓛 me.ended stayed (WpFn 𝓤 H 𝓣.C 𝓣.Λ code.function) (me.clauses 𝓛 at_mem run)
   step-formed-walks 𝓣 known-creation-in known-is-outside known-engine-quiet known-is-fail known-chunk-named known-fail-in known-is-change known-epoch-in known-next-of known-change-in known-act-in = walked 𝓛 me.ended stayed (me.clauses 𝓛 at_mem run) (WpFn 𝓤 H 𝓣.C 𝓣.Λ code.function) (λ κs. (mut_vals, (LL.vals EventR.the_type EventL.the_laws, tt))) (λ κs. (mut_Tells (named 0) κs.0 TableR.the_row, (LL.tells EventR.the_type EventL.the_laws, tt)))
-      (λ κs qs bounds a _ are. needs 𝓤 (wellFormed a.0.now ≡ true) _ (λ ok. (walk 𝓛 at_mem run κs.0 qs.0 a.0.ref_ptr.0 a.0.ref_ptr.1 a.0.ghost_name a.0.now a.1.0 (only (LL.vals EventR.the_type EventL.the_laws a.1.0)) are.1.0 ok 𝓣 known-creation-in known-is-outside known-engine-quiet known-is-fail known-chunk-named known-fail-in known-is-change known-epoch-in known-next-of known-change-in known-act-in)))
+      (λ κs qs bounds a _ are. needs 𝓤 (well_formed a.0.now ≡ true) _ (λ ok. (walk 𝓛 at_mem run κs.0 qs.0 a.0.ref_ptr.0 a.0.ref_ptr.1 a.0.ghost_name a.0.now a.1.0 (only (LL.vals EventR.the_type EventL.the_laws a.1.0)) are.1.0 ok 𝓣 known-creation-in known-is-outside known-engine-quiet known-is-fail known-chunk-named known-fail-in known-is-change known-epoch-in known-next-of known-change-in known-act-in)))
 
   goes : AllGo 𝓛 1 (me.signature).params (me.ended).kept stayed
   goes = (Goes-ref 𝓛 1 0 tt (plain (λ _. TableR.the_row)), (Goes-none 𝓛 1 (λ _. EventR.the_row) yes (λ κs x f. refl), tt))

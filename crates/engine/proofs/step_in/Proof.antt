@@ -46,10 +46,10 @@ use Rattle.rules.specs.contracts.Reply as ReplyR
 use Rattle.rules.proofs.Reply.TheLaws as ReplyL
 use Rattle.rules.specs.declared.Table.{Table}
 use Rattle.rules.specs.contracts.Table as TableR
-use Rattle.rules.specs.Events.{step, replyOf}
-use Rattle.rules.specs.Formed.{wellFormed}
-use Rattle.engine.specs.Answers.{quietReply}
-use Rattle.engine.proofs.LentLaws.{formed-so, malformed-way}
+use Rattle.rules.specs.Events.{step, reply_of}
+use Rattle.rules.specs.Formed.{well_formed}
+use Rattle.engine.specs.Answers.{quiet_reply}
+use Rattle.engine.proofs.LentLaws.{formed_so, malformed_way}
 use Rattle.table_lent.proofs.Bodies.{ty_at, after}
 use Rattle.table_lent.proofs.Share.{SharedOut, shares_out, comes_home}
 use Rattle.table_sound.specs.contracts.sound_in as sound-in
@@ -83,8 +83,8 @@ module _ {M : Type 1} {𝓤 : Ura M} (𝓛 : Logic 𝓤) (at_mem : Memory → SP
   abbrev C-sound-in : Contract 𝓤
   C-sound-in = triple_of 𝓛 sound-in.signature (sound-in.spec 𝓛 at_mem run)
 
-  said-sound-in : (κ : Lft) (t : Bor Table) (r : Bool) → ent 𝓤 (ensured 𝓛 sound-in.ended (sound-in.clauses 𝓛 at_mem run) (κ, tt) (t, tt) tt r) (fact 𝓤 (r ≡ wellFormed t.now))
-  said-sound-in κ t r = ex_e 𝓤 _ (λ ws. snd∗ 𝓤 (sem 𝓛 (lasts sound-in.ended (κ, tt) (t, tt) ws)) (fact 𝓤 (r ≡ wellFormed t.now)))
+  said-sound-in : (κ : Lft) (t : Bor Table) (r : Bool) → ent 𝓤 (ensured 𝓛 sound-in.ended (sound-in.clauses 𝓛 at_mem run) (κ, tt) (t, tt) tt r) (fact 𝓤 (r ≡ well_formed t.now))
+  said-sound-in κ t r = ex_e 𝓤 _ (λ ws. snd∗ 𝓤 (sem 𝓛 (lasts sound-in.ended (κ, tt) (t, tt) ws)) (fact 𝓤 (r ≡ well_formed t.now)))
 
   abbrev C-step-formed : Contract 𝓤
   C-step-formed = triple_of 𝓛 step-formed.signature (step-formed.spec 𝓛 at_mem run)
@@ -92,8 +92,8 @@ module _ {M : Type 1} {𝓤 : Ura M} (𝓛 : Logic 𝓤) (at_mem : Memory → SP
   abbrev C-engine-quiet : Contract 𝓤
   C-engine-quiet = triple_of 𝓛 engine-quiet.signature (engine-quiet.spec 𝓛 at_mem run)
 
-  said-engine-quiet : (x0 : ℕ) (r : Reply) → ent 𝓤 (ensured 𝓛 engine-quiet.ended (engine-quiet.clauses 𝓛 at_mem run) tt (x0, tt) tt r) (fact 𝓤 (r ≡ quietReply x0))
-  said-engine-quiet x0 r = ex_e 𝓤 _ (λ ws. snd∗ 𝓤 (sem 𝓛 (lasts engine-quiet.ended tt (x0, tt) ws)) (fact 𝓤 (r ≡ quietReply x0)))
+  said-engine-quiet : (x0 : ℕ) (r : Reply) → ent 𝓤 (ensured 𝓛 engine-quiet.ended (engine-quiet.clauses 𝓛 at_mem run) tt (x0, tt) tt r) (fact 𝓤 (r ≡ quiet_reply x0))
+  said-engine-quiet x0 r = ex_e 𝓤 _ (λ ws. snd∗ 𝓤 (sem 𝓛 (lasts engine-quiet.ended tt (x0, tt) ws)) (fact 𝓤 (r ≡ quiet_reply x0)))
 
 module _ {M : Type 1} {𝓤 : Ura M} (𝓛 : Logic 𝓤) (at_mem : Memory → SProp 𝓤) (run : Routine → Fun 𝓤) where
   open 𝓛 use {A}
@@ -108,7 +108,7 @@ module _ {M : Type 1} {𝓤 : Ura M} (𝓛 : Logic 𝓤) (at_mem : Memory → SP
   abbrev to-step-formed : Lft → Share → Bor Table → Event → Val → (C-step-formed 𝓛 at_mem run).Ghost
   to-step-formed κ q t x0 v0 = (((κ, tt), (q, tt), tt, (t, (x0, tt)), (vptr t.ptr.0 t.ptr.1 ∷ [], (v0 ∷ [], tt))), tt)
 
-  goes-step-formed : (κ : Lft) (q : Share) (t : MutBor Table) (x0 : Event) (v0 : Val) → Is EventR.the_row x0 (v0 ∷ []) → (wellFormed t.now ≡ true) → ent 𝓤 (sep 𝓤 (A.lft κ q) (sem 𝓛 ((MutRef (named 0) κ TableR.the_row).own_val t (vptr t.ref_ptr.0 t.ref_ptr.1 ∷ [])))) ((C-step-formed 𝓛 at_mem run).pre (to-step-formed κ q t x0 v0))
+  goes-step-formed : (κ : Lft) (q : Share) (t : MutBor Table) (x0 : Event) (v0 : Val) → Is EventR.the_row x0 (v0 ∷ []) → (well_formed t.now ≡ true) → ent 𝓤 (sep 𝓤 (A.lft κ q) (sem 𝓛 ((MutRef (named 0) κ TableR.the_row).own_val t (vptr t.ref_ptr.0 t.ref_ptr.1 ∷ [])))) ((C-step-formed 𝓛 at_mem run).pre (to-step-formed κ q t x0 v0))
   goes-step-formed κ q t x0 v0 g0 ok =
       qed 𝓛 (‵ (flft κ q) ∷ ‵ ((MutRef (named 0) κ TableR.the_row).own_val t (vptr t.ref_ptr.0 t.ref_ptr.1 ∷ [])) ∷ []) ∵ says ! ok $ nothing ! $ owned ! EventR.the_row (Is EventR.the_row) (LL.makes EventR.the_type EventL.the_plain 𝓛) x0 _ g0 $ fjoin ! $ move ! (2 ∷ 0 ∷ []) $ fjoin ! $ nothing ! $ move ! (2 ∷ 0 ∷ []) $ join ! $ frame ! $ done !
 
@@ -134,7 +134,7 @@ module _ {M : Type 1} {𝓤 : Ura M} (𝓛 : Logic 𝓤) (at_mem : Memory → SP
   Post = (walk_of 𝓛 me.ended stayed (me.clauses 𝓛 at_mem run)).post (((κ, tt), (q, tt), tt, x, vs), tt)
 
   module _ (g2 : Is EventR.the_row x2 (m2 ∷ [])) where
-    exits : (r : Reply) (v : Val) → Is ReplyR.the_row r (v ∷ []) → (z : Table) → (r ≡ replyOf (step h x2)) × (z ≡ (step h x2).table) → ent 𝓤 (⋆ 𝓛 (‵ ((MutRef (named 0) κ TableR.the_row).own_val (rt γ z) (vptr b o ∷ [])) ∷ ‵ (flft κ q) ∷ [])) (Post v)
+    exits : (r : Reply) (v : Val) → Is ReplyR.the_row r (v ∷ []) → (z : Table) → (r ≡ reply_of (step h x2)) × (z ≡ (step h x2).table) → ent 𝓤 (⋆ 𝓛 (‵ ((MutRef (named 0) κ TableR.the_row).own_val (rt γ z) (vptr b o ∷ [])) ∷ ‵ (flft κ q) ∷ [])) (Post v)
     exits r v g z eq =
         qed 𝓛 (‵ ((MutRef (named 0) κ TableR.the_row).own_val (rt γ z) (vptr b o ∷ [])) ∷ ‵ (flft κ q) ∷ []) ∵
         suffices ! _ (ends_at 𝓛 me.ended stayed (me.clauses 𝓛 at_mem run) (((κ, tt), (q, tt), tt, x, vs), tt) v r (z, (tt, tt)) (tt, (tt, tt))) $ says ! eq $
@@ -165,7 +165,7 @@ module _ {M : Type 1} {𝓤 : Ura M} (𝓛 : Logic 𝓤) (at_mem : Memory → SP
           use2 𝓛 (raw ((C-sound-in 𝓛 at_mem run).pre (to-sound-in 𝓛 at_mem run (ν1 ∷ []) full_share (rt δ1 h)))) (goes-sound-in 𝓛 at_mem run (ν1 ∷ []) full_share (rt δ1 h)) $
           calls_at ! fm (C-sound-in 𝓛 at_mem run) known-sound-in (to-sound-in 𝓛 at_mem run (ν1 ∷ []) full_share (rt δ1 h)) (and_then ! (load ! (from ! (stop !)) (look ! 4 refl)) (no_more !)) (λ w1.
           use1 𝓛 (later (some (λ (r : Bool). ((‵ (flft (ν1 ∷ []) full_share) ⊛ ‵ ftrue) ⊛ ‵ (Boolean.own r (w1 ∷ []))) ⊛ raw (ensured 𝓛 sound-in.ended (sound-in.clauses 𝓛 at_mem run) ((ν1 ∷ []), tt) ((rt δ1 h), tt) tt r)))) (id⊢ 𝓤 _) $ await ! tt $ pick ! (λ r1. split ! $ move ! (1 ∷ []) $
-          use1 𝓛 (raw (fact 𝓤 (r1 ≡ wellFormed h))) (said-sound-in 𝓛 at_mem run (ν1 ∷ []) (rt δ1 h) r1) $ heard ! (r1 ≡ wellFormed h) (λ e1. split ! $ move ! (1 ∷ []) $ facts ! Boolean (Is Boolean) (shows 𝓛 Boolean) r1 (w1 ∷ []) (λ is1.
+          use1 𝓛 (raw (fact 𝓤 (r1 ≡ well_formed h))) (said-sound-in 𝓛 at_mem run (ν1 ∷ []) (rt δ1 h) r1) $ heard ! (r1 ≡ well_formed h) (λ e1. split ! $ move ! (1 ∷ []) $ facts ! Boolean (Is Boolean) (shows 𝓛 Boolean) r1 (w1 ∷ []) (λ is1.
           land ! (from ! (stop !)) (init ! 6 {τ = ty_bool} {v = w1} refl ((bool_Lawful 𝓛).typed r1 _ is1).0) $
           split ! $ lft_end ! tt $ move ! (0 ∷ 2 ∷ []) $ use2 𝓛 (later (‵ ((MutRef (named 0) κ TableR.the_row).own_val (rt γ h) (vptr b o ∷ [])) ⊛ ‵ (flft κ q))) (comes_home 𝓛 TableR.the_row (named 0) κ (ν1 ∷ []) q γ b o h) $ await ! tt $ split ! $ move ! (2 ∷ []) $ drop ! $
           rewrite ! 6 (λ (u : Val). ‵ (fat full_share ty_bool l3 0 u)) (ap only (bool_Tells r1 _ is1)) refl $
@@ -176,10 +176,10 @@ module _ {M : Type 1} {𝓤 : Ura M} (𝓛 : Logic 𝓤) (at_mem : Memory → SP
           lft_new ! tt (λ ν2. move ! (1 ∷ 2 ∷ []) $
           use2 𝓛 (later (some (λ (δ : GName). ‵ ((MutRef (named 0) (ν2 ∷ []) TableR.the_row).own_val (rt δ h) (vptr b o ∷ [])) ⊛ ‵ (LentAgain TableR.the_row κ (ν2 ∷ []) q γ b o δ h)))) (lends_again 𝓛 TableR.the_row (named 0) κ (ν2 ∷ []) q γ b o (named 0) h) $
           await ! tt $ pick ! (λ δ2. split ! $ move ! (2 ∷ 0 ∷ []) $
-          use2 𝓛 (raw ((C-step-formed 𝓛 at_mem run).pre (to-step-formed 𝓛 at_mem run (ν2 ∷ []) full_share (rt δ2 h) x2 m2))) (goes-step-formed 𝓛 at_mem run (ν2 ∷ []) full_share (rt δ2 h) x2 m2 g2 (formed-so h r1 e1 held)) $
+          use2 𝓛 (raw ((C-step-formed 𝓛 at_mem run).pre (to-step-formed 𝓛 at_mem run (ν2 ∷ []) full_share (rt δ2 h) x2 m2))) (goes-step-formed 𝓛 at_mem run (ν2 ∷ []) full_share (rt δ2 h) x2 m2 g2 (formed_so h r1 e1 held)) $
           calls_at ! fm (C-step-formed 𝓛 at_mem run) known-step-formed (to-step-formed 𝓛 at_mem run (ν2 ∷ []) full_share (rt δ2 h) x2 m2) (and_then ! (load ! (from ! (stop !)) (look ! 2 refl)) (and_then ! (load ! (from ! (stop !)) (look ! 8 {q = full_share} {τ = EventL.mir} {b = l2} {o = 0} {v = m2} refl)) (no_more !))) (λ w2.
           use1 𝓛 (later (some (λ (r : Reply). ((‵ (flft (ν2 ∷ []) full_share) ⊛ ‵ ftrue) ⊛ ‵ ((ReplyR.the_row).own_val r (w2 ∷ []))) ⊛ raw (ensured 𝓛 step-formed.ended (step-formed.clauses 𝓛 at_mem run) ((ν2 ∷ []), tt) ((rt δ2 h), (x2, tt)) tt r)))) (id⊢ 𝓤 _) $ await ! tt $ pick ! (λ r2. split ! $ move ! (1 ∷ []) $
-          use1 𝓛 (some (λ (z2 : Table × (Unit {0} × Unit {0})). ‵ (lasts step-formed.ended ((ν2 ∷ []), tt) ((rt δ2 h), (x2, tt)) z2) ⊛ raw (fact 𝓤 ((r2 ≡ replyOf (step h x2)) × (z2.0 ≡ (step h x2).table))))) (id⊢ 𝓤 _) $ pick ! (λ z2. split ! $ move ! (1 ∷ []) $ heard ! ((r2 ≡ replyOf (step h x2)) × (z2.0 ≡ (step h x2).table)) (λ e2. fsplit ! $
+          use1 𝓛 (some (λ (z2 : Table × (Unit {0} × Unit {0})). ‵ (lasts step-formed.ended ((ν2 ∷ []), tt) ((rt δ2 h), (x2, tt)) z2) ⊛ raw (fact 𝓤 ((r2 ≡ reply_of (step h x2)) × (z2.0 ≡ (step h x2).table))))) (id⊢ 𝓤 _) $ pick ! (λ z2. split ! $ move ! (1 ∷ []) $ heard ! ((r2 ≡ reply_of (step h x2)) × (z2.0 ≡ (step h x2).table)) (λ e2. fsplit ! $
           move ! (2 ∷ []) $ split ! $ move ! (1 ∷ []) $ facts ! ReplyR.the_row (Is ReplyR.the_row) (shows 𝓛 ReplyR.the_row) r2 (w2 ∷ []) (λ is2.
           land ! (from ! (stop !)) (init ! 14 {τ = ReplyL.mir} {v = w2} refl ((LL.lawful ReplyR.the_type ReplyL.the_laws 𝓛).typed r2 _ is2).0) $ split ! $ lft_end ! tt $ move ! (0 ∷ 4 ∷ 2 ∷ []) $
           use3 𝓛 (later (‵ ((MutRef (named 0) κ TableR.the_row).own_val (rt γ z2.0) (vptr b o ∷ [])) ⊛ ‵ (flft κ q))) (comes_back 𝓛 TableR.the_row (named 0) κ (ν2 ∷ []) q γ b o δ2 h z2.0) $ await ! tt $ split ! $ move ! (2 ∷ 3 ∷ []) $ drop ! $ drop ! $
@@ -194,12 +194,12 @@ module _ {M : Type 1} {𝓤 : Ura M} (𝓛 : Logic 𝓤) (at_mem : Memory → SP
           nothing ! $ use1 𝓛 (raw ((C-engine-quiet 𝓛 at_mem run).pre (to-engine-quiet 𝓛 at_mem run 8 (vint w64 8)))) (goes-engine-quiet 𝓛 at_mem run 8 (vint w64 8) (refl, lit< tt)) $
           calls_at ! fm (C-engine-quiet 𝓛 at_mem run) known-engine-quiet (to-engine-quiet 𝓛 at_mem run 8 (vint w64 8)) (and_then ! (lit ! tt) (no_more !)) (λ w3.
           use1 𝓛 (later (some (λ (r : Reply). (‵ ftrue ⊛ ‵ ((ReplyR.the_row).own_val r (w3 ∷ []))) ⊛ raw (ensured 𝓛 engine-quiet.ended (engine-quiet.clauses 𝓛 at_mem run) tt (8, tt) tt r)))) (id⊢ 𝓤 _) $ await ! tt $ pick ! (λ r3. split ! $ move ! (1 ∷ []) $
-          use1 𝓛 (raw (fact 𝓤 (r3 ≡ quietReply 8))) (said-engine-quiet 𝓛 at_mem run 8 r3) $ heard ! (r3 ≡ quietReply 8) (λ e3. split ! $ drop ! $ facts ! ReplyR.the_row (Is ReplyR.the_row) (shows 𝓛 ReplyR.the_row) r3 (w3 ∷ []) (λ is3.
+          use1 𝓛 (raw (fact 𝓤 (r3 ≡ quiet_reply 8))) (said-engine-quiet 𝓛 at_mem run 8 r3) $ heard ! (r3 ≡ quiet_reply 8) (λ e3. split ! $ drop ! $ facts ! ReplyR.the_row (Is ReplyR.the_row) (shows 𝓛 ReplyR.the_row) r3 (w3 ∷ []) (λ is3.
           land ! (from ! (stop !)) (init ! 12 {τ = ReplyL.mir} {v = w3} refl ((LL.lawful ReplyR.the_type ReplyL.the_laws 𝓛).typed r3 _ is3).0) $
           returns ! (look ! 12 {q = full_share} {τ = ReplyL.mir} {b = l0} {o = 0} {v = w3} refl) $
           forget ! 4 refl $ forget ! 6 refl $ forget ! 8 refl $ forget ! 10 refl $ forget ! 12 refl $
           move ! (12 ∷ 13 ∷ []) $ free1 ! $ move ! (10 ∷ 11 ∷ []) $ free1 ! $ move ! (8 ∷ 9 ∷ []) $ free1 ! $ move ! (6 ∷ 7 ∷ []) $ free1 ! $ move ! (4 ∷ 5 ∷ []) $ free1 ! $ move ! (2 ∷ 3 ∷ []) $ free1 ! $ free0 ! $
-          by ! (exits r3 w3 is3 h (malformed-way h x2 r1 e1 failed r3 e3)))))))))))))))))))
+          by ! (exits r3 w3 is3 h (malformed_way h x2 r1 e1 failed r3 e3)))))))))))))))))))
 
 module _ {M : Type 1} {𝓤 : Ura M} (𝓛 : Logic 𝓤) (at_mem : Memory → SProp 𝓤) (run : Routine → Fun 𝓤) where
   open 𝓛 use {H}

@@ -5,29 +5,29 @@ use mathlib.Core.Bool.{false}
 use native.Mathlib.Omega.{arith}
 use borrow.Author.Rules.{rules}
 use Rattle.rules.specs.Words.{some, numbers}
-use Rattle.rules.proofs.Loops.{some-begin, some_next, some-stop}
-use Rattle.epoch_change.proofs.Laws.{failedAt}
+use Rattle.rules.proofs.Loops.{some_begin, some_next, some_stop}
+use Rattle.epoch_change.proofs.Laws.{failed_at}
 use Rattle.epoch_change.proofs.any_failed.Statement.{statement}
 use Rattle.epoch_change.proofs.any_failed.Tie as tie
 
 abbrev invariant-loop : tie.invariant-loop
-invariant-loop chunks c₀ c = (c ≤ 8) × (some (failedAt chunks) (numbers c) ≡ false)
+invariant-loop chunks c₀ c = (c ≤ 8) × (some (failed_at chunks) (numbers c) ≡ false)
 
 abbrev decreases-loop : tie.decreases-loop
 decreases-loop chunks c₀ c = 8 - c
 
 loop-holds : tie.Need-loop-init invariant-loop decreases-loop
-loop-holds c = (search rules, some-begin _)
+loop-holds c = (search rules, some_begin _)
 
 returns : tie.Need-returns invariant-loop decreases-loop
 returns c =
     let l = c.before.before.before.before in
-    sym (some-stop (failedAt l.before.args.t1) 8 l.loop.c (omega arith) (sym c.before.is-failed.ensures ∙ c.if1.true))
+    sym (some_stop (failed_at l.before.args.t1) 8 l.loop.c (omega arith) (sym c.before.is_failed_lem.ensures ∙ c.if1.true))
 
 loop-again : tie.Need-loop-preserved invariant-loop decreases-loop
 loop-again c =
     let l = c.before.before.before.before in
-    (omega arith, some_next (failedAt l.before.args.t1) l.loop.c l.loop.invariant.1 (sym c.before.is-failed.ensures ∙ c.if1.false))
+    (omega arith, some_next (failed_at l.before.args.t1) l.loop.c l.loop.invariant.1 (sym c.before.is_failed_lem.ensures ∙ c.if1.false))
 
 returns-2 : tie.Need-returns-2 invariant-loop decreases-loop
 returns-2 c =

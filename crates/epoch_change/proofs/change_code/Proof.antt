@@ -2,14 +2,14 @@
 use mathlib.Core.Path.{◌≡◌, sym, ◌∙◌}
 use mathlib.Core.Bool.{false}
 use borrow.Author.Rules.{rules}
-use Rattle.rules.specs.Limits.{chunkLimit}
+use Rattle.rules.specs.Limits.{chunk_limit}
 use Rattle.rules.specs.Words.{some, numbers}
-use Rattle.rules.proofs.Loops.{refused-here, refused-later, refused-nowhere}
-use Rattle.epoch_change.proofs.Laws.{failedAt}
+use Rattle.rules.proofs.Loops.{refused-here, refused-later, refused_nowhere}
+use Rattle.epoch_change.proofs.Laws.{failed_at}
 use Rattle.epoch_change.proofs.change_code.Statement.{statement}
 use Rattle.epoch_change.proofs.change_code.Tie as tie
 
-none-failed : (c : tie.Else1) → some (failedAt c.before.before.before.args.chunks) (numbers chunkLimit) ≡ false
+none-failed : (c : tie.Else1) → some (failed_at c.before.before.before.args.chunks) (numbers chunk_limit) ≡ false
 none-failed c = sym c.before.before.any-failed.ensures ∙ c.if1.false
 
 returns : tie.Need-returns
@@ -28,7 +28,7 @@ returns-4 : tie.Need-returns-4
 returns-4 c =
     let n = c.before.before in
     refused-later _ _ _ _ (none-failed n.before) (refused-later _ _ _ _ n.if2.false
-    (refused-later _ _ _ _ (sym c.before.any-all-lost.ensures ∙ c.if3.false) refused-nowhere))
+    (refused-later _ _ _ _ (sym c.before.any-all-lost.ensures ∙ c.if3.false) refused_nowhere))
 
 pub change-code-spec : {M : Type 1} → statement M
 change-code-spec =

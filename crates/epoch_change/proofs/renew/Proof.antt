@@ -7,7 +7,7 @@ use borrow.Author.Rules.{rules}
 use Rattle.rules.specs.declared.Chunk.{Chunk}
 use Rattle.rules.specs.Events.{renewed}
 use Rattle.rules.specs.Zero.{no_chunk}
-use Rattle.rules.proofs.Loops.{made, made-begin, made-next, made-end}
+use Rattle.rules.proofs.Loops.{made, made_begin, made-next, made-end}
 use Rattle.epoch_change.proofs.renew.Statement.{statement}
 use Rattle.epoch_change.proofs.renew.Tie as tie
 
@@ -24,10 +24,10 @@ abbrev old : tie.Start invariant-loop decreases-loop → ℕ → Chunk
 old c i = get_or c.args.t3 i no_chunk
 
 len : (c : tie.Start invariant-loop decreases-loop) → length c.args.t3 ≡ 8
-len c = c.well-formed.1.1.0.1.0.1
+len c = c.well_formed_lem.1.1.0.1.0.1
 
 loop-holds : tie.Need-loop-init invariant-loop decreases-loop
-loop-holds c = (search rules, made-begin (new c) (old c) 8 no_chunk c.args.t3 (len c) (λ _ _. refl))
+loop-holds c = (search rules, made_begin (new c) (old c) 8 no_chunk c.args.t3 (len c) (λ _ _. refl))
 
 loop-again : tie.Need-loop-preserved invariant-loop decreases-loop
 loop-again c =

@@ -44,7 +44,7 @@ use Rattle.rules.specs.contracts.Epoch as EpochR
 use Rattle.rules.proofs.Epoch.TheLaws as EpochL
 use Rattle.rules.specs.declared.Table.{Table}
 use Rattle.rules.specs.contracts.Table as TableR
-use Rattle.rules.specs.Events.{epochRefusals}
+use Rattle.rules.specs.Events.{epoch_refusals}
 use Rattle.rules.specs.Codes.{code_of}
 use Rattle.epoch_lent.proofs.Laws.{code_is}
 use Rattle.table_numbers.specs.contracts.creation_in as creation-in
@@ -93,8 +93,8 @@ module _ {M : Type 1} {𝓤 : Ura M} (𝓛 : Logic 𝓤) (at_mem : Memory → SP
   abbrev C-code-of : Contract 𝓤
   C-code-of = triple_of 𝓛 code_of_lem.signature (code_of_lem.spec 𝓛 at_mem run)
 
-  said-code-of : (x0 : Creation) (x1 : Epoch) (x2 : Chunks) (r : ℕ) → ent 𝓤 (ensured 𝓛 code_of_lem.ended (code_of_lem.clauses 𝓛 at_mem run) tt (x0, (x1, (x2, tt))) tt r) (fact 𝓤 (r ≡ code_of (epochRefusals x0 x1 x2.chunks)))
-  said-code-of x0 x1 x2 r = ex_e 𝓤 _ (λ ws. snd∗ 𝓤 (sem 𝓛 (lasts code_of_lem.ended tt (x0, (x1, (x2, tt))) ws)) (fact 𝓤 (r ≡ code_of (epochRefusals x0 x1 x2.chunks))))
+  said-code-of : (x0 : Creation) (x1 : Epoch) (x2 : Chunks) (r : ℕ) → ent 𝓤 (ensured 𝓛 code_of_lem.ended (code_of_lem.clauses 𝓛 at_mem run) tt (x0, (x1, (x2, tt))) tt r) (fact 𝓤 (r ≡ code_of (epoch_refusals x0 x1 x2.chunks)))
+  said-code-of x0 x1 x2 r = ex_e 𝓤 _ (λ ws. snd∗ 𝓤 (sem 𝓛 (lasts code_of_lem.ended tt (x0, (x1, (x2, tt))) ws)) (fact 𝓤 (r ≡ code_of (epoch_refusals x0 x1 x2.chunks))))
 
 module _ {M : Type 1} {𝓤 : Ura M} (𝓛 : Logic 𝓤) (at_mem : Memory → SProp 𝓤) (run : Routine → Fun 𝓤) where
   open 𝓛 use {A}
@@ -142,7 +142,7 @@ module _ {M : Type 1} {𝓤 : Ura M} (𝓛 : Logic 𝓤) (at_mem : Memory → SP
   Post = (walk_of 𝓛 me.ended stayed (me.clauses 𝓛 at_mem run)).post (((κ, tt), (q, tt), tt, x, vs), tt)
 
   module _ (_ : Unit {0}) where
-    exits : (r : ℕ) (v : Val) → Is usize r (v ∷ []) → r ≡ code_of (epochRefusals h.creation h.epoch h.chunks) → ent 𝓤 (⋆ 𝓛 (‵ (flft κ q) ∷ ‵ ((ShrRef (named 0) κ TableR.the_row).own_val (rt γ h) (vptr b o ∷ [])) ∷ [])) (Post v)
+    exits : (r : ℕ) (v : Val) → Is usize r (v ∷ []) → r ≡ code_of (epoch_refusals h.creation h.epoch h.chunks) → ent 𝓤 (⋆ 𝓛 (‵ (flft κ q) ∷ ‵ ((ShrRef (named 0) κ TableR.the_row).own_val (rt γ h) (vptr b o ∷ [])) ∷ [])) (Post v)
     exits r v g eq =
         qed 𝓛 (‵ (flft κ q) ∷ ‵ ((ShrRef (named 0) κ TableR.the_row).own_val (rt γ h) (vptr b o ∷ [])) ∷ []) ∵
         suffices ! _ (ends_at 𝓛 me.ended stayed (me.clauses 𝓛 at_mem run) (((κ, tt), (q, tt), tt, x, vs), tt) v r (tt, tt) (tt, tt)) $ says ! eq $
@@ -193,7 +193,7 @@ module _ {M : Type 1} {𝓤 : Ura M} (𝓛 : Logic 𝓤) (at_mem : Memory → SP
           nothing ! $ use1 𝓛 (raw ((C-code-of 𝓛 at_mem run).pre (to-code-of 𝓛 at_mem run r1 w1 r2 w2 r3 w3))) (goes-code-of 𝓛 at_mem run r1 w1 r2 w2 r3 w3 is1 is2 is3) $
           calls_at ! fm (C-code-of 𝓛 at_mem run) known-code-of (to-code-of 𝓛 at_mem run r1 w1 r2 w2 r3 w3) (and_then ! (load ! (from ! (stop !)) (look ! 7 {q = full_share} {τ = CreationL.mir} {b = l2} {o = 0} {v = w1} refl)) (and_then ! (load ! (from ! (stop !)) (look ! 5 {q = full_share} {τ = EpochL.mir} {b = l3} {o = 0} {v = w2} refl)) (and_then ! (load ! (from ! (stop !)) (look ! 3 {q = full_share} {τ = ChunksL.mir} {b = l4} {o = 0} {v = w3} refl)) (no_more !)))) (λ w4.
           use1 𝓛 (later (some (λ (r : ℕ). (‵ ftrue ⊛ ‵ (usize.own_val r (w4 ∷ []))) ⊛ raw (ensured 𝓛 code_of_lem.ended (code_of_lem.clauses 𝓛 at_mem run) tt (r1, (r2, (r3, tt))) tt r)))) (id⊢ 𝓤 _) $ await ! tt $ pick ! (λ r4. split ! $ move ! (1 ∷ []) $
-          use1 𝓛 (raw (fact 𝓤 (r4 ≡ code_of (epochRefusals r1 r2 r3.chunks)))) (said-code-of 𝓛 at_mem run r1 r2 r3 r4) $ heard ! (r4 ≡ code_of (epochRefusals r1 r2 r3.chunks)) (λ e4. split ! $ drop ! $ facts ! usize (Is usize) (shows 𝓛 usize) r4 (w4 ∷ []) (λ is4.
+          use1 𝓛 (raw (fact 𝓤 (r4 ≡ code_of (epoch_refusals r1 r2 r3.chunks)))) (said-code-of 𝓛 at_mem run r1 r2 r3 r4) $ heard ! (r4 ≡ code_of (epoch_refusals r1 r2 r3.chunks)) (λ e4. split ! $ drop ! $ facts ! usize (Is usize) (shows 𝓛 usize) r4 (w4 ∷ []) (λ is4.
           land ! (from ! (stop !)) (init ! 10 {τ = ty_int w64} {v = w4} refl ((uint_Lawful 𝓛 w64).typed r4 _ is4).0) $
           returns ! (look ! 10 {q = full_share} {τ = ty_int w64} {b = l0} {o = 0} {v = w4} refl) $
           forget ! 2 refl $ forget ! 4 refl $ forget ! 6 refl $ forget ! 8 refl $ forget ! 10 refl $

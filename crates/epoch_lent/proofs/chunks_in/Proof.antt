@@ -46,8 +46,8 @@ use Rattle.rules.proofs.Chunk.TheLaws as ChunkL
 use Rattle.rules.specs.declared.Table.{Table}
 use Rattle.rules.specs.contracts.Table as TableR
 use Rattle.rules.proofs.Table.TheLaws as TableL
-use Rattle.rules.specs.Zero.{zeroChunk}
-use Rattle.epoch_lent.proofs.Laws.{chunks-are}
+use Rattle.rules.specs.Zero.{zero_chunk}
+use Rattle.epoch_lent.proofs.Laws.{chunks_are}
 use Rattle.table_lent.proofs.Parts.{chunks-sized}
 use Rattle.table_chunks.specs.contracts.chunk_in as chunk_in
 use Rattle.table_chunks.proofs.chunk_in.Symbol as chunk-in-def
@@ -69,8 +69,8 @@ module _ {M : Type 1} {𝓤 : Ura M} (𝓛 : Logic 𝓤) (at_mem : Memory → SP
   abbrev C-chunk-in : Contract 𝓤
   C-chunk-in = triple_of 𝓛 chunk_in.signature (chunk_in.spec 𝓛 at_mem run)
 
-  said-chunk-in : (κ : Lft) (t : Bor Table) (x0 : ℕ) (r : Chunk) → ent 𝓤 (ensured 𝓛 chunk_in.ended (chunk_in.clauses 𝓛 at_mem run) (κ, tt) (t, (x0, tt)) tt r) (fact 𝓤 (r ≡ get_or t.now.chunks x0 zeroChunk))
-  said-chunk-in κ t x0 r = ex_e 𝓤 _ (λ ws. snd∗ 𝓤 (sem 𝓛 (lasts chunk_in.ended (κ, tt) (t, (x0, tt)) ws)) (fact 𝓤 (r ≡ get_or t.now.chunks x0 zeroChunk)))
+  said-chunk-in : (κ : Lft) (t : Bor Table) (x0 : ℕ) (r : Chunk) → ent 𝓤 (ensured 𝓛 chunk_in.ended (chunk_in.clauses 𝓛 at_mem run) (κ, tt) (t, (x0, tt)) tt r) (fact 𝓤 (r ≡ get_or t.now.chunks x0 zero_chunk))
+  said-chunk-in κ t x0 r = ex_e 𝓤 _ (λ ws. snd∗ 𝓤 (sem 𝓛 (lasts chunk_in.ended (κ, tt) (t, (x0, tt)) ws)) (fact 𝓤 (r ≡ get_or t.now.chunks x0 zero_chunk)))
 
   abbrev C-lent-ranked : Contract 𝓤
   C-lent-ranked = triple_of 𝓛 lent-ranked.signature (lent-ranked.spec 𝓛 at_mem run)
@@ -142,7 +142,7 @@ module _ {M : Type 1} {𝓤 : Ura M} (𝓛 : Logic 𝓤) (at_mem : Memory → SP
           use2 𝓛 (raw ((C-chunk-in 𝓛 at_mem run).pre (to-chunk-in 𝓛 at_mem run κ q (rt γ h) 0 (vint w64 0)))) (goes-chunk-in 𝓛 at_mem run κ q (rt γ h) 0 (vint w64 0) (refl, lit< tt)) $
           calls_at ! fm (C-chunk-in 𝓛 at_mem run) known-chunk-in (to-chunk-in 𝓛 at_mem run κ q (rt γ h) 0 (vint w64 0)) (and_then ! (load ! (from ! (stop !)) (look ! 18 refl)) (and_then ! (lit ! tt) (no_more !))) (λ w1.
           use1 𝓛 (later (some (λ (r : Chunk). ((‵ (flft κ q) ⊛ ‵ ftrue) ⊛ ‵ ((ChunkR.the_row).own_val r (w1 ∷ []))) ⊛ raw (ensured 𝓛 chunk_in.ended (chunk_in.clauses 𝓛 at_mem run) (κ, tt) ((rt γ h), (0, tt)) tt r)))) (id⊢ 𝓤 _) $ await ! tt $ pick ! (λ r1. split ! $ move ! (1 ∷ []) $
-          use1 𝓛 (raw (fact 𝓤 (r1 ≡ get_or h.chunks 0 zeroChunk))) (said-chunk-in 𝓛 at_mem run κ (rt γ h) 0 r1) $ heard ! (r1 ≡ get_or h.chunks 0 zeroChunk) (λ e1. split ! $ move ! (1 ∷ []) $ facts ! ChunkR.the_row (Is ChunkR.the_row) (shows 𝓛 ChunkR.the_row) r1 (w1 ∷ []) (λ is1.
+          use1 𝓛 (raw (fact 𝓤 (r1 ≡ get_or h.chunks 0 zero_chunk))) (said-chunk-in 𝓛 at_mem run κ (rt γ h) 0 r1) $ heard ! (r1 ≡ get_or h.chunks 0 zero_chunk) (λ e1. split ! $ move ! (1 ∷ []) $ facts ! ChunkR.the_row (Is ChunkR.the_row) (shows 𝓛 ChunkR.the_row) r1 (w1 ∷ []) (λ is1.
           land ! (from ! (stop !)) (init ! 16 {τ = ChunkL.mir} {v = w1} refl ((LL.lawful ChunkR.the_type ChunkL.the_laws 𝓛).typed r1 _ is1).0) $
           split ! $ move ! (1 ∷ []) $ drop ! $
           -- _3 = table_chunks::chunk_in(_1, 1)
@@ -150,7 +150,7 @@ module _ {M : Type 1} {𝓤 : Ura M} (𝓛 : Logic 𝓤) (at_mem : Memory → SP
           use2 𝓛 (raw ((C-chunk-in 𝓛 at_mem run).pre (to-chunk-in 𝓛 at_mem run κ q (rt γ h) 1 (vint w64 1)))) (goes-chunk-in 𝓛 at_mem run κ q (rt γ h) 1 (vint w64 1) (refl, lit< tt)) $
           calls_at ! fm (C-chunk-in 𝓛 at_mem run) known-chunk-in (to-chunk-in 𝓛 at_mem run κ q (rt γ h) 1 (vint w64 1)) (and_then ! (load ! (from ! (stop !)) (look ! 18 refl)) (and_then ! (lit ! tt) (no_more !))) (λ w2.
           use1 𝓛 (later (some (λ (r : Chunk). ((‵ (flft κ q) ⊛ ‵ ftrue) ⊛ ‵ ((ChunkR.the_row).own_val r (w2 ∷ []))) ⊛ raw (ensured 𝓛 chunk_in.ended (chunk_in.clauses 𝓛 at_mem run) (κ, tt) ((rt γ h), (1, tt)) tt r)))) (id⊢ 𝓤 _) $ await ! tt $ pick ! (λ r2. split ! $ move ! (1 ∷ []) $
-          use1 𝓛 (raw (fact 𝓤 (r2 ≡ get_or h.chunks 1 zeroChunk))) (said-chunk-in 𝓛 at_mem run κ (rt γ h) 1 r2) $ heard ! (r2 ≡ get_or h.chunks 1 zeroChunk) (λ e2. split ! $ move ! (1 ∷ []) $ facts ! ChunkR.the_row (Is ChunkR.the_row) (shows 𝓛 ChunkR.the_row) r2 (w2 ∷ []) (λ is2.
+          use1 𝓛 (raw (fact 𝓤 (r2 ≡ get_or h.chunks 1 zero_chunk))) (said-chunk-in 𝓛 at_mem run κ (rt γ h) 1 r2) $ heard ! (r2 ≡ get_or h.chunks 1 zero_chunk) (λ e2. split ! $ move ! (1 ∷ []) $ facts ! ChunkR.the_row (Is ChunkR.the_row) (shows 𝓛 ChunkR.the_row) r2 (w2 ∷ []) (λ is2.
           land ! (from ! (stop !)) (init ! 14 {τ = ChunkL.mir} {v = w2} refl ((LL.lawful ChunkR.the_type ChunkL.the_laws 𝓛).typed r2 _ is2).0) $
           split ! $ move ! (1 ∷ []) $ drop ! $
           -- _4 = table_chunks::chunk_in(_1, 2)
@@ -158,7 +158,7 @@ module _ {M : Type 1} {𝓤 : Ura M} (𝓛 : Logic 𝓤) (at_mem : Memory → SP
           use2 𝓛 (raw ((C-chunk-in 𝓛 at_mem run).pre (to-chunk-in 𝓛 at_mem run κ q (rt γ h) 2 (vint w64 2)))) (goes-chunk-in 𝓛 at_mem run κ q (rt γ h) 2 (vint w64 2) (refl, lit< tt)) $
           calls_at ! fm (C-chunk-in 𝓛 at_mem run) known-chunk-in (to-chunk-in 𝓛 at_mem run κ q (rt γ h) 2 (vint w64 2)) (and_then ! (load ! (from ! (stop !)) (look ! 18 refl)) (and_then ! (lit ! tt) (no_more !))) (λ w3.
           use1 𝓛 (later (some (λ (r : Chunk). ((‵ (flft κ q) ⊛ ‵ ftrue) ⊛ ‵ ((ChunkR.the_row).own_val r (w3 ∷ []))) ⊛ raw (ensured 𝓛 chunk_in.ended (chunk_in.clauses 𝓛 at_mem run) (κ, tt) ((rt γ h), (2, tt)) tt r)))) (id⊢ 𝓤 _) $ await ! tt $ pick ! (λ r3. split ! $ move ! (1 ∷ []) $
-          use1 𝓛 (raw (fact 𝓤 (r3 ≡ get_or h.chunks 2 zeroChunk))) (said-chunk-in 𝓛 at_mem run κ (rt γ h) 2 r3) $ heard ! (r3 ≡ get_or h.chunks 2 zeroChunk) (λ e3. split ! $ move ! (1 ∷ []) $ facts ! ChunkR.the_row (Is ChunkR.the_row) (shows 𝓛 ChunkR.the_row) r3 (w3 ∷ []) (λ is3.
+          use1 𝓛 (raw (fact 𝓤 (r3 ≡ get_or h.chunks 2 zero_chunk))) (said-chunk-in 𝓛 at_mem run κ (rt γ h) 2 r3) $ heard ! (r3 ≡ get_or h.chunks 2 zero_chunk) (λ e3. split ! $ move ! (1 ∷ []) $ facts ! ChunkR.the_row (Is ChunkR.the_row) (shows 𝓛 ChunkR.the_row) r3 (w3 ∷ []) (λ is3.
           land ! (from ! (stop !)) (init ! 12 {τ = ChunkL.mir} {v = w3} refl ((LL.lawful ChunkR.the_type ChunkL.the_laws 𝓛).typed r3 _ is3).0) $
           split ! $ move ! (1 ∷ []) $ drop ! $
           -- _5 = table_chunks::chunk_in(_1, 3)
@@ -166,7 +166,7 @@ module _ {M : Type 1} {𝓤 : Ura M} (𝓛 : Logic 𝓤) (at_mem : Memory → SP
           use2 𝓛 (raw ((C-chunk-in 𝓛 at_mem run).pre (to-chunk-in 𝓛 at_mem run κ q (rt γ h) 3 (vint w64 3)))) (goes-chunk-in 𝓛 at_mem run κ q (rt γ h) 3 (vint w64 3) (refl, lit< tt)) $
           calls_at ! fm (C-chunk-in 𝓛 at_mem run) known-chunk-in (to-chunk-in 𝓛 at_mem run κ q (rt γ h) 3 (vint w64 3)) (and_then ! (load ! (from ! (stop !)) (look ! 18 refl)) (and_then ! (lit ! tt) (no_more !))) (λ w4.
           use1 𝓛 (later (some (λ (r : Chunk). ((‵ (flft κ q) ⊛ ‵ ftrue) ⊛ ‵ ((ChunkR.the_row).own_val r (w4 ∷ []))) ⊛ raw (ensured 𝓛 chunk_in.ended (chunk_in.clauses 𝓛 at_mem run) (κ, tt) ((rt γ h), (3, tt)) tt r)))) (id⊢ 𝓤 _) $ await ! tt $ pick ! (λ r4. split ! $ move ! (1 ∷ []) $
-          use1 𝓛 (raw (fact 𝓤 (r4 ≡ get_or h.chunks 3 zeroChunk))) (said-chunk-in 𝓛 at_mem run κ (rt γ h) 3 r4) $ heard ! (r4 ≡ get_or h.chunks 3 zeroChunk) (λ e4. split ! $ move ! (1 ∷ []) $ facts ! ChunkR.the_row (Is ChunkR.the_row) (shows 𝓛 ChunkR.the_row) r4 (w4 ∷ []) (λ is4.
+          use1 𝓛 (raw (fact 𝓤 (r4 ≡ get_or h.chunks 3 zero_chunk))) (said-chunk-in 𝓛 at_mem run κ (rt γ h) 3 r4) $ heard ! (r4 ≡ get_or h.chunks 3 zero_chunk) (λ e4. split ! $ move ! (1 ∷ []) $ facts ! ChunkR.the_row (Is ChunkR.the_row) (shows 𝓛 ChunkR.the_row) r4 (w4 ∷ []) (λ is4.
           land ! (from ! (stop !)) (init ! 10 {τ = ChunkL.mir} {v = w4} refl ((LL.lawful ChunkR.the_type ChunkL.the_laws 𝓛).typed r4 _ is4).0) $
           split ! $ move ! (1 ∷ []) $ drop ! $
           -- _6 = table_chunks::chunk_in(_1, 4)
@@ -174,7 +174,7 @@ module _ {M : Type 1} {𝓤 : Ura M} (𝓛 : Logic 𝓤) (at_mem : Memory → SP
           use2 𝓛 (raw ((C-chunk-in 𝓛 at_mem run).pre (to-chunk-in 𝓛 at_mem run κ q (rt γ h) 4 (vint w64 4)))) (goes-chunk-in 𝓛 at_mem run κ q (rt γ h) 4 (vint w64 4) (refl, lit< tt)) $
           calls_at ! fm (C-chunk-in 𝓛 at_mem run) known-chunk-in (to-chunk-in 𝓛 at_mem run κ q (rt γ h) 4 (vint w64 4)) (and_then ! (load ! (from ! (stop !)) (look ! 18 refl)) (and_then ! (lit ! tt) (no_more !))) (λ w5.
           use1 𝓛 (later (some (λ (r : Chunk). ((‵ (flft κ q) ⊛ ‵ ftrue) ⊛ ‵ ((ChunkR.the_row).own_val r (w5 ∷ []))) ⊛ raw (ensured 𝓛 chunk_in.ended (chunk_in.clauses 𝓛 at_mem run) (κ, tt) ((rt γ h), (4, tt)) tt r)))) (id⊢ 𝓤 _) $ await ! tt $ pick ! (λ r5. split ! $ move ! (1 ∷ []) $
-          use1 𝓛 (raw (fact 𝓤 (r5 ≡ get_or h.chunks 4 zeroChunk))) (said-chunk-in 𝓛 at_mem run κ (rt γ h) 4 r5) $ heard ! (r5 ≡ get_or h.chunks 4 zeroChunk) (λ e5. split ! $ move ! (1 ∷ []) $ facts ! ChunkR.the_row (Is ChunkR.the_row) (shows 𝓛 ChunkR.the_row) r5 (w5 ∷ []) (λ is5.
+          use1 𝓛 (raw (fact 𝓤 (r5 ≡ get_or h.chunks 4 zero_chunk))) (said-chunk-in 𝓛 at_mem run κ (rt γ h) 4 r5) $ heard ! (r5 ≡ get_or h.chunks 4 zero_chunk) (λ e5. split ! $ move ! (1 ∷ []) $ facts ! ChunkR.the_row (Is ChunkR.the_row) (shows 𝓛 ChunkR.the_row) r5 (w5 ∷ []) (λ is5.
           land ! (from ! (stop !)) (init ! 8 {τ = ChunkL.mir} {v = w5} refl ((LL.lawful ChunkR.the_type ChunkL.the_laws 𝓛).typed r5 _ is5).0) $
           split ! $ move ! (1 ∷ []) $ drop ! $
           -- _7 = table_chunks::chunk_in(_1, 5)
@@ -182,7 +182,7 @@ module _ {M : Type 1} {𝓤 : Ura M} (𝓛 : Logic 𝓤) (at_mem : Memory → SP
           use2 𝓛 (raw ((C-chunk-in 𝓛 at_mem run).pre (to-chunk-in 𝓛 at_mem run κ q (rt γ h) 5 (vint w64 5)))) (goes-chunk-in 𝓛 at_mem run κ q (rt γ h) 5 (vint w64 5) (refl, lit< tt)) $
           calls_at ! fm (C-chunk-in 𝓛 at_mem run) known-chunk-in (to-chunk-in 𝓛 at_mem run κ q (rt γ h) 5 (vint w64 5)) (and_then ! (load ! (from ! (stop !)) (look ! 18 refl)) (and_then ! (lit ! tt) (no_more !))) (λ w6.
           use1 𝓛 (later (some (λ (r : Chunk). ((‵ (flft κ q) ⊛ ‵ ftrue) ⊛ ‵ ((ChunkR.the_row).own_val r (w6 ∷ []))) ⊛ raw (ensured 𝓛 chunk_in.ended (chunk_in.clauses 𝓛 at_mem run) (κ, tt) ((rt γ h), (5, tt)) tt r)))) (id⊢ 𝓤 _) $ await ! tt $ pick ! (λ r6. split ! $ move ! (1 ∷ []) $
-          use1 𝓛 (raw (fact 𝓤 (r6 ≡ get_or h.chunks 5 zeroChunk))) (said-chunk-in 𝓛 at_mem run κ (rt γ h) 5 r6) $ heard ! (r6 ≡ get_or h.chunks 5 zeroChunk) (λ e6. split ! $ move ! (1 ∷ []) $ facts ! ChunkR.the_row (Is ChunkR.the_row) (shows 𝓛 ChunkR.the_row) r6 (w6 ∷ []) (λ is6.
+          use1 𝓛 (raw (fact 𝓤 (r6 ≡ get_or h.chunks 5 zero_chunk))) (said-chunk-in 𝓛 at_mem run κ (rt γ h) 5 r6) $ heard ! (r6 ≡ get_or h.chunks 5 zero_chunk) (λ e6. split ! $ move ! (1 ∷ []) $ facts ! ChunkR.the_row (Is ChunkR.the_row) (shows 𝓛 ChunkR.the_row) r6 (w6 ∷ []) (λ is6.
           land ! (from ! (stop !)) (init ! 6 {τ = ChunkL.mir} {v = w6} refl ((LL.lawful ChunkR.the_type ChunkL.the_laws 𝓛).typed r6 _ is6).0) $
           split ! $ move ! (1 ∷ []) $ drop ! $
           -- _8 = table_chunks::chunk_in(_1, 6)
@@ -190,7 +190,7 @@ module _ {M : Type 1} {𝓤 : Ura M} (𝓛 : Logic 𝓤) (at_mem : Memory → SP
           use2 𝓛 (raw ((C-chunk-in 𝓛 at_mem run).pre (to-chunk-in 𝓛 at_mem run κ q (rt γ h) 6 (vint w64 6)))) (goes-chunk-in 𝓛 at_mem run κ q (rt γ h) 6 (vint w64 6) (refl, lit< tt)) $
           calls_at ! fm (C-chunk-in 𝓛 at_mem run) known-chunk-in (to-chunk-in 𝓛 at_mem run κ q (rt γ h) 6 (vint w64 6)) (and_then ! (load ! (from ! (stop !)) (look ! 18 refl)) (and_then ! (lit ! tt) (no_more !))) (λ w7.
           use1 𝓛 (later (some (λ (r : Chunk). ((‵ (flft κ q) ⊛ ‵ ftrue) ⊛ ‵ ((ChunkR.the_row).own_val r (w7 ∷ []))) ⊛ raw (ensured 𝓛 chunk_in.ended (chunk_in.clauses 𝓛 at_mem run) (κ, tt) ((rt γ h), (6, tt)) tt r)))) (id⊢ 𝓤 _) $ await ! tt $ pick ! (λ r7. split ! $ move ! (1 ∷ []) $
-          use1 𝓛 (raw (fact 𝓤 (r7 ≡ get_or h.chunks 6 zeroChunk))) (said-chunk-in 𝓛 at_mem run κ (rt γ h) 6 r7) $ heard ! (r7 ≡ get_or h.chunks 6 zeroChunk) (λ e7. split ! $ move ! (1 ∷ []) $ facts ! ChunkR.the_row (Is ChunkR.the_row) (shows 𝓛 ChunkR.the_row) r7 (w7 ∷ []) (λ is7.
+          use1 𝓛 (raw (fact 𝓤 (r7 ≡ get_or h.chunks 6 zero_chunk))) (said-chunk-in 𝓛 at_mem run κ (rt γ h) 6 r7) $ heard ! (r7 ≡ get_or h.chunks 6 zero_chunk) (λ e7. split ! $ move ! (1 ∷ []) $ facts ! ChunkR.the_row (Is ChunkR.the_row) (shows 𝓛 ChunkR.the_row) r7 (w7 ∷ []) (λ is7.
           land ! (from ! (stop !)) (init ! 4 {τ = ChunkL.mir} {v = w7} refl ((LL.lawful ChunkR.the_type ChunkL.the_laws 𝓛).typed r7 _ is7).0) $
           split ! $ move ! (1 ∷ []) $ drop ! $
           -- _9 = table_chunks::chunk_in(_1, 7)
@@ -198,7 +198,7 @@ module _ {M : Type 1} {𝓤 : Ura M} (𝓛 : Logic 𝓤) (at_mem : Memory → SP
           use2 𝓛 (raw ((C-chunk-in 𝓛 at_mem run).pre (to-chunk-in 𝓛 at_mem run κ q (rt γ h) 7 (vint w64 7)))) (goes-chunk-in 𝓛 at_mem run κ q (rt γ h) 7 (vint w64 7) (refl, lit< tt)) $
           calls_at ! fm (C-chunk-in 𝓛 at_mem run) known-chunk-in (to-chunk-in 𝓛 at_mem run κ q (rt γ h) 7 (vint w64 7)) (and_then ! (load ! (from ! (stop !)) (look ! 18 refl)) (and_then ! (lit ! tt) (no_more !))) (λ w8.
           use1 𝓛 (later (some (λ (r : Chunk). ((‵ (flft κ q) ⊛ ‵ ftrue) ⊛ ‵ ((ChunkR.the_row).own_val r (w8 ∷ []))) ⊛ raw (ensured 𝓛 chunk_in.ended (chunk_in.clauses 𝓛 at_mem run) (κ, tt) ((rt γ h), (7, tt)) tt r)))) (id⊢ 𝓤 _) $ await ! tt $ pick ! (λ r8. split ! $ move ! (1 ∷ []) $
-          use1 𝓛 (raw (fact 𝓤 (r8 ≡ get_or h.chunks 7 zeroChunk))) (said-chunk-in 𝓛 at_mem run κ (rt γ h) 7 r8) $ heard ! (r8 ≡ get_or h.chunks 7 zeroChunk) (λ e8. split ! $ move ! (1 ∷ []) $ facts ! ChunkR.the_row (Is ChunkR.the_row) (shows 𝓛 ChunkR.the_row) r8 (w8 ∷ []) (λ is8.
+          use1 𝓛 (raw (fact 𝓤 (r8 ≡ get_or h.chunks 7 zero_chunk))) (said-chunk-in 𝓛 at_mem run κ (rt γ h) 7 r8) $ heard ! (r8 ≡ get_or h.chunks 7 zero_chunk) (λ e8. split ! $ move ! (1 ∷ []) $ facts ! ChunkR.the_row (Is ChunkR.the_row) (shows 𝓛 ChunkR.the_row) r8 (w8 ∷ []) (λ is8.
           land ! (from ! (stop !)) (init ! 2 {τ = ChunkL.mir} {v = w8} refl ((LL.lawful ChunkR.the_type ChunkL.the_laws 𝓛).typed r8 _ is8).0) $
           split ! $ move ! (1 ∷ []) $ drop ! $
           -- _0 = epoch_lent::ranked(_2, _3, _4, _5, _6, _7, _8, _9)
@@ -210,7 +210,7 @@ module _ {M : Type 1} {𝓤 : Ura M} (𝓛 : Logic 𝓤) (at_mem : Memory → SP
           returns ! (look ! 20 {q = full_share} {τ = ChunksL.mir} {b = l0} {o = 0} {v = w9} refl) $
           forget ! 2 refl $ forget ! 4 refl $ forget ! 6 refl $ forget ! 8 refl $ forget ! 10 refl $ forget ! 12 refl $ forget ! 14 refl $ forget ! 16 refl $ forget ! 18 refl $ forget ! 20 refl $
           move ! (20 ∷ 21 ∷ []) $ free1 ! $ move ! (18 ∷ 19 ∷ []) $ free1 ! $ move ! (16 ∷ 17 ∷ []) $ free1 ! $ move ! (14 ∷ 15 ∷ []) $ free1 ! $ move ! (12 ∷ 13 ∷ []) $ free1 ! $ move ! (10 ∷ 11 ∷ []) $ free1 ! $ move ! (8 ∷ 9 ∷ []) $ free1 ! $ move ! (6 ∷ 7 ∷ []) $ free1 ! $ move ! (4 ∷ 5 ∷ []) $ free1 ! $ move ! (2 ∷ 3 ∷ []) $ free1 ! $ free0 ! $
-          by ! (exits r9 w9 is9 (chunks-are h chunks-len r1 r2 r3 r4 r5 r6 r7 r8 e1 e2 e3 e4 e5 e6 e7 e8 r9 e9))))))))))))))))))))))))))))))))))))))))))))))))))
+          by ! (exits r9 w9 is9 (chunks_are h chunks-len r1 r2 r3 r4 r5 r6 r7 r8 e1 e2 e3 e4 e5 e6 e7 e8 r9 e9))))))))))))))))))))))))))))))))))))))))))))))))))
 
 module _ {M : Type 1} {𝓤 : Ura M} (𝓛 : Logic 𝓤) (at_mem : Memory → SProp 𝓤) (run : Routine → Fun 𝓤) where
   open 𝓛 use {H}

@@ -48,9 +48,9 @@ use Rattle.rules.specs.contracts.Record as RecordR
 use Rattle.rules.proofs.Record.TheLaws as RecordL
 use Rattle.rules.specs.declared.Table.{Table}
 use Rattle.rules.specs.contracts.Table as TableR
-use Rattle.rules.specs.Zero.{zeroChunk, zeroRecord}
-use Rattle.table_records.specs.Numbers.{recordNumber}
-use Rattle.epoch_lent.specs.Steps.{copyOf, copy_at}
+use Rattle.rules.specs.Zero.{zero_chunk, zero_record}
+use Rattle.table_records.specs.Numbers.{record_number}
+use Rattle.epoch_lent.specs.Steps.{copy_of, copy_at}
 use Rattle.epoch_lent.proofs.Laws.{copy_is}
 use Rattle.table_numbers.specs.contracts.creation_in as creation-in
 use Rattle.table_numbers.proofs.creation_in.Symbol as creation-in-def
@@ -90,26 +90,26 @@ module _ {M : Type 1} {𝓤 : Ura M} (𝓛 : Logic 𝓤) (at_mem : Memory → SP
   abbrev C-chunk-in : Contract 𝓤
   C-chunk-in = triple_of 𝓛 chunk_in.signature (chunk_in.spec 𝓛 at_mem run)
 
-  said-chunk-in : (κ : Lft) (t : Bor Table) (x0 : ℕ) (r : Chunk) → ent 𝓤 (ensured 𝓛 chunk_in.ended (chunk_in.clauses 𝓛 at_mem run) (κ, tt) (t, (x0, tt)) tt r) (fact 𝓤 (r ≡ get_or t.now.chunks x0 zeroChunk))
-  said-chunk-in κ t x0 r = ex_e 𝓤 _ (λ ws. snd∗ 𝓤 (sem 𝓛 (lasts chunk_in.ended (κ, tt) (t, (x0, tt)) ws)) (fact 𝓤 (r ≡ get_or t.now.chunks x0 zeroChunk)))
+  said-chunk-in : (κ : Lft) (t : Bor Table) (x0 : ℕ) (r : Chunk) → ent 𝓤 (ensured 𝓛 chunk_in.ended (chunk_in.clauses 𝓛 at_mem run) (κ, tt) (t, (x0, tt)) tt r) (fact 𝓤 (r ≡ get_or t.now.chunks x0 zero_chunk))
+  said-chunk-in κ t x0 r = ex_e 𝓤 _ (λ ws. snd∗ 𝓤 (sem 𝓛 (lasts chunk_in.ended (κ, tt) (t, (x0, tt)) ws)) (fact 𝓤 (r ≡ get_or t.now.chunks x0 zero_chunk)))
 
   abbrev C-record-number : Contract 𝓤
   C-record-number = triple_of 𝓛 record-number.signature (record-number.spec 𝓛 at_mem run)
 
-  said-record-number : (x0 : ℕ) (x1 : ℕ) (r : ℕ) → ent 𝓤 (ensured 𝓛 record-number.ended (record-number.clauses 𝓛 at_mem run) tt (x0, (x1, tt)) tt r) (fact 𝓤 (r ≡ recordNumber x0 x1))
-  said-record-number x0 x1 r = ex_e 𝓤 _ (λ ws. snd∗ 𝓤 (sem 𝓛 (lasts record-number.ended tt (x0, (x1, tt)) ws)) (fact 𝓤 (r ≡ recordNumber x0 x1)))
+  said-record-number : (x0 : ℕ) (x1 : ℕ) (r : ℕ) → ent 𝓤 (ensured 𝓛 record-number.ended (record-number.clauses 𝓛 at_mem run) tt (x0, (x1, tt)) tt r) (fact 𝓤 (r ≡ record_number x0 x1))
+  said-record-number x0 x1 r = ex_e 𝓤 _ (λ ws. snd∗ 𝓤 (sem 𝓛 (lasts record-number.ended tt (x0, (x1, tt)) ws)) (fact 𝓤 (r ≡ record_number x0 x1)))
 
   abbrev C-record-in : Contract 𝓤
   C-record-in = triple_of 𝓛 record-in.signature (record-in.spec 𝓛 at_mem run)
 
-  said-record-in : (κ : Lft) (t : Bor Table) (x0 : ℕ) (r : Record) → ent 𝓤 (ensured 𝓛 record-in.ended (record-in.clauses 𝓛 at_mem run) (κ, tt) (t, (x0, tt)) tt r) (fact 𝓤 (r ≡ get_or t.now.records x0 zeroRecord))
-  said-record-in κ t x0 r = ex_e 𝓤 _ (λ ws. snd∗ 𝓤 (sem 𝓛 (lasts record-in.ended (κ, tt) (t, (x0, tt)) ws)) (fact 𝓤 (r ≡ get_or t.now.records x0 zeroRecord)))
+  said-record-in : (κ : Lft) (t : Bor Table) (x0 : ℕ) (r : Record) → ent 𝓤 (ensured 𝓛 record-in.ended (record-in.clauses 𝓛 at_mem run) (κ, tt) (t, (x0, tt)) tt r) (fact 𝓤 (r ≡ get_or t.now.records x0 zero_record))
+  said-record-in κ t x0 r = ex_e 𝓤 _ (λ ws. snd∗ 𝓤 (sem 𝓛 (lasts record-in.ended (κ, tt) (t, (x0, tt)) ws)) (fact 𝓤 (r ≡ get_or t.now.records x0 zero_record)))
 
   abbrev C-copy-of : Contract 𝓤
   C-copy-of = triple_of 𝓛 copy_of.signature (copy_of.spec 𝓛 at_mem run)
 
-  said-copy-of : (x0 : Creation) (x1 : Chunk) (x2 : Record) (x3 : ℕ) (x4 : ℕ) (r : Copy) → ent 𝓤 (ensured 𝓛 copy_of.ended (copy_of.clauses 𝓛 at_mem run) tt (x0, (x1, (x2, (x3, (x4, tt))))) tt r) (fact 𝓤 (r ≡ copyOf x0 x1 x2 x3 x4))
-  said-copy-of x0 x1 x2 x3 x4 r = ex_e 𝓤 _ (λ ws. snd∗ 𝓤 (sem 𝓛 (lasts copy_of.ended tt (x0, (x1, (x2, (x3, (x4, tt))))) ws)) (fact 𝓤 (r ≡ copyOf x0 x1 x2 x3 x4)))
+  said-copy-of : (x0 : Creation) (x1 : Chunk) (x2 : Record) (x3 : ℕ) (x4 : ℕ) (r : Copy) → ent 𝓤 (ensured 𝓛 copy_of.ended (copy_of.clauses 𝓛 at_mem run) tt (x0, (x1, (x2, (x3, (x4, tt))))) tt r) (fact 𝓤 (r ≡ copy_of x0 x1 x2 x3 x4))
+  said-copy-of x0 x1 x2 x3 x4 r = ex_e 𝓤 _ (λ ws. snd∗ 𝓤 (sem 𝓛 (lasts copy_of.ended tt (x0, (x1, (x2, (x3, (x4, tt))))) ws)) (fact 𝓤 (r ≡ copy_of x0 x1 x2 x3 x4)))
 
 module _ {M : Type 1} {𝓤 : Ura M} (𝓛 : Logic 𝓤) (at_mem : Memory → SProp 𝓤) (run : Routine → Fun 𝓤) where
   open 𝓛 use {A}
@@ -199,28 +199,28 @@ module _ {M : Type 1} {𝓤 : Ura M} (𝓛 : Logic 𝓤) (at_mem : Memory → SP
           use2 𝓛 (raw ((C-chunk-in 𝓛 at_mem run).pre (to-chunk-in 𝓛 at_mem run κ q (rt γ h) x2 (vint w64 x2)))) (goes-chunk-in 𝓛 at_mem run κ q (rt γ h) x2 (vint w64 x2) g2) $
           calls_at ! fm (C-chunk-in 𝓛 at_mem run) known-chunk-in (to-chunk-in 𝓛 at_mem run κ q (rt γ h) x2 (vint w64 x2)) (and_then ! (load ! (from ! (stop !)) (look ! 14 refl)) (and_then ! (load ! (from ! (stop !)) (look ! 12 {q = full_share} {τ = ty_int w64} {b = l2} {o = 0} {v = (vint w64 x2)} refl)) (no_more !))) (λ w2.
           use1 𝓛 (later (some (λ (r : Chunk). ((‵ (flft κ q) ⊛ ‵ ftrue) ⊛ ‵ ((ChunkR.the_row).own_val r (w2 ∷ []))) ⊛ raw (ensured 𝓛 chunk_in.ended (chunk_in.clauses 𝓛 at_mem run) (κ, tt) ((rt γ h), (x2, tt)) tt r)))) (id⊢ 𝓤 _) $ await ! tt $ pick ! (λ r2. split ! $ move ! (1 ∷ []) $
-          use1 𝓛 (raw (fact 𝓤 (r2 ≡ get_or h.chunks x2 zeroChunk))) (said-chunk-in 𝓛 at_mem run κ (rt γ h) x2 r2) $ heard ! (r2 ≡ get_or h.chunks x2 zeroChunk) (λ e2. split ! $ move ! (1 ∷ []) $ facts ! ChunkR.the_row (Is ChunkR.the_row) (shows 𝓛 ChunkR.the_row) r2 (w2 ∷ []) (λ is2.
+          use1 𝓛 (raw (fact 𝓤 (r2 ≡ get_or h.chunks x2 zero_chunk))) (said-chunk-in 𝓛 at_mem run κ (rt γ h) x2 r2) $ heard ! (r2 ≡ get_or h.chunks x2 zero_chunk) (λ e2. split ! $ move ! (1 ∷ []) $ facts ! ChunkR.the_row (Is ChunkR.the_row) (shows 𝓛 ChunkR.the_row) r2 (w2 ∷ []) (λ is2.
           land ! (from ! (stop !)) (init ! 6 {τ = ChunkL.mir} {v = w2} refl ((LL.lawful ChunkR.the_type ChunkL.the_laws 𝓛).typed r2 _ is2).0) $
           split ! $ move ! (1 ∷ []) $ drop ! $
           -- _6 = table_records::record_number(_2, _3)
           nothing ! $ use1 𝓛 (raw ((C-record-number 𝓛 at_mem run).pre (to-record-number 𝓛 at_mem run x2 (vint w64 x2) x3 (vint w64 x3)))) (goes-record-number 𝓛 at_mem run x2 (vint w64 x2) x3 (vint w64 x3) g2 g3) $
           calls_at ! fm (C-record-number 𝓛 at_mem run) known-record-number (to-record-number 𝓛 at_mem run x2 (vint w64 x2) x3 (vint w64 x3)) (and_then ! (load ! (from ! (stop !)) (look ! 13 {q = full_share} {τ = ty_int w64} {b = l2} {o = 0} {v = (vint w64 x2)} refl)) (and_then ! (load ! (from ! (stop !)) (look ! 11 {q = full_share} {τ = ty_int w64} {b = l3} {o = 0} {v = (vint w64 x3)} refl)) (no_more !))) (λ w3.
           use1 𝓛 (later (some (λ (r : ℕ). (‵ ftrue ⊛ ‵ (usize.own_val r (w3 ∷ []))) ⊛ raw (ensured 𝓛 record-number.ended (record-number.clauses 𝓛 at_mem run) tt (x2, (x3, tt)) tt r)))) (id⊢ 𝓤 _) $ await ! tt $ pick ! (λ r3. split ! $ move ! (1 ∷ []) $
-          use1 𝓛 (raw (fact 𝓤 (r3 ≡ recordNumber x2 x3))) (said-record-number 𝓛 at_mem run x2 x3 r3) $ heard ! (r3 ≡ recordNumber x2 x3) (λ e3. split ! $ drop ! $ facts ! usize (Is usize) (shows 𝓛 usize) r3 (w3 ∷ []) (λ is3.
+          use1 𝓛 (raw (fact 𝓤 (r3 ≡ record_number x2 x3))) (said-record-number 𝓛 at_mem run x2 x3 r3) $ heard ! (r3 ≡ record_number x2 x3) (λ e3. split ! $ drop ! $ facts ! usize (Is usize) (shows 𝓛 usize) r3 (w3 ∷ []) (λ is3.
           land ! (from ! (stop !)) (init ! 4 {τ = ty_int w64} {v = w3} refl ((uint_Lawful 𝓛 w64).typed r3 _ is3).0) $
           -- _7 = table_records::record_in(_1, _6)
           move ! (1 ∷ []) $ use1 𝓛 (‵ ((ShrRef (named 0) κ TableR.the_row).own_val (rt γ h) (vptr b o ∷ [])) ⊛ ‵ ((ShrRef (named 0) κ TableR.the_row).own_val (rt γ h) (vptr b o ∷ []))) ((shr_copy 𝓛 (named 0) κ TableR.the_row).twice (rt γ h) (vptr b o ∷ [])) $ split ! $ move ! (2 ∷ 0 ∷ []) $
           use2 𝓛 (raw ((C-record-in 𝓛 at_mem run).pre (to-record-in 𝓛 at_mem run κ q (rt γ h) r3 w3))) (goes-record-in 𝓛 at_mem run κ q (rt γ h) r3 w3 is3) $
           calls_at ! fm (C-record-in 𝓛 at_mem run) known-record-in (to-record-in 𝓛 at_mem run κ q (rt γ h) r3 w3) (and_then ! (load ! (from ! (stop !)) (look ! 14 refl)) (and_then ! (load ! (from ! (stop !)) (look ! 4 {q = full_share} {τ = ty_int w64} {b = l6} {o = 0} {v = w3} refl)) (no_more !))) (λ w4.
           use1 𝓛 (later (some (λ (r : Record). ((‵ (flft κ q) ⊛ ‵ ftrue) ⊛ ‵ ((RecordR.the_row).own_val r (w4 ∷ []))) ⊛ raw (ensured 𝓛 record-in.ended (record-in.clauses 𝓛 at_mem run) (κ, tt) ((rt γ h), (r3, tt)) tt r)))) (id⊢ 𝓤 _) $ await ! tt $ pick ! (λ r4. split ! $ move ! (1 ∷ []) $
-          use1 𝓛 (raw (fact 𝓤 (r4 ≡ get_or h.records r3 zeroRecord))) (said-record-in 𝓛 at_mem run κ (rt γ h) r3 r4) $ heard ! (r4 ≡ get_or h.records r3 zeroRecord) (λ e4. split ! $ move ! (1 ∷ []) $ facts ! RecordR.the_row (Is RecordR.the_row) (shows 𝓛 RecordR.the_row) r4 (w4 ∷ []) (λ is4.
+          use1 𝓛 (raw (fact 𝓤 (r4 ≡ get_or h.records r3 zero_record))) (said-record-in 𝓛 at_mem run κ (rt γ h) r3 r4) $ heard ! (r4 ≡ get_or h.records r3 zero_record) (λ e4. split ! $ move ! (1 ∷ []) $ facts ! RecordR.the_row (Is RecordR.the_row) (shows 𝓛 RecordR.the_row) r4 (w4 ∷ []) (λ is4.
           land ! (from ! (stop !)) (init ! 2 {τ = RecordL.mir} {v = w4} refl ((LL.lawful RecordR.the_type RecordL.the_laws 𝓛).typed r4 _ is4).0) $
           split ! $ move ! (1 ∷ []) $ drop ! $
           -- _0 = epoch_lent::copy_of(_4, _5, _7, _2, _3)
           nothing ! $ use1 𝓛 (raw ((C-copy-of 𝓛 at_mem run).pre (to-copy-of 𝓛 at_mem run r1 w1 r2 w2 r4 w4 x2 (vint w64 x2) x3 (vint w64 x3)))) (goes-copy-of 𝓛 at_mem run r1 w1 r2 w2 r4 w4 x2 (vint w64 x2) x3 (vint w64 x3) is1 is2 is4 g2 g3) $
           calls_at ! fm (C-copy-of 𝓛 at_mem run) known-copy-of (to-copy-of 𝓛 at_mem run r1 w1 r2 w2 r4 w4 x2 (vint w64 x2) x3 (vint w64 x3)) (and_then ! (load ! (from ! (stop !)) (look ! 9 {q = full_share} {τ = CreationL.mir} {b = l4} {o = 0} {v = w1} refl)) (and_then ! (load ! (from ! (stop !)) (look ! 7 {q = full_share} {τ = ChunkL.mir} {b = l5} {o = 0} {v = w2} refl)) (and_then ! (load ! (from ! (stop !)) (look ! 3 {q = full_share} {τ = RecordL.mir} {b = l7} {o = 0} {v = w4} refl)) (and_then ! (load ! (from ! (stop !)) (look ! 13 {q = full_share} {τ = ty_int w64} {b = l2} {o = 0} {v = (vint w64 x2)} refl)) (and_then ! (load ! (from ! (stop !)) (look ! 11 {q = full_share} {τ = ty_int w64} {b = l3} {o = 0} {v = (vint w64 x3)} refl)) (no_more !)))))) (λ w5.
           use1 𝓛 (later (some (λ (r : Copy). (‵ ftrue ⊛ ‵ ((CopyR.the_row).own_val r (w5 ∷ []))) ⊛ raw (ensured 𝓛 copy_of.ended (copy_of.clauses 𝓛 at_mem run) tt (r1, (r2, (r4, (x2, (x3, tt))))) tt r)))) (id⊢ 𝓤 _) $ await ! tt $ pick ! (λ r5. split ! $ move ! (1 ∷ []) $
-          use1 𝓛 (raw (fact 𝓤 (r5 ≡ copyOf r1 r2 r4 x2 x3))) (said-copy-of 𝓛 at_mem run r1 r2 r4 x2 x3 r5) $ heard ! (r5 ≡ copyOf r1 r2 r4 x2 x3) (λ e5. split ! $ drop ! $ facts ! CopyR.the_row (Is CopyR.the_row) (shows 𝓛 CopyR.the_row) r5 (w5 ∷ []) (λ is5.
+          use1 𝓛 (raw (fact 𝓤 (r5 ≡ copy_of r1 r2 r4 x2 x3))) (said-copy-of 𝓛 at_mem run r1 r2 r4 x2 x3 r5) $ heard ! (r5 ≡ copy_of r1 r2 r4 x2 x3) (λ e5. split ! $ drop ! $ facts ! CopyR.the_row (Is CopyR.the_row) (shows 𝓛 CopyR.the_row) r5 (w5 ∷ []) (λ is5.
           land ! (from ! (stop !)) (init ! 16 {τ = CopyL.mir} {v = w5} refl ((LL.lawful CopyR.the_type CopyL.the_laws 𝓛).typed r5 _ is5).0) $
           returns ! (look ! 16 {q = full_share} {τ = CopyL.mir} {b = l0} {o = 0} {v = w5} refl) $
           forget ! 2 refl $ forget ! 4 refl $ forget ! 6 refl $ forget ! 8 refl $ forget ! 10 refl $ forget ! 12 refl $ forget ! 14 refl $ forget ! 16 refl $

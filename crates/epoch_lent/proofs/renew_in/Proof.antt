@@ -50,12 +50,12 @@ use Rattle.rules.specs.contracts.Epoch as EpochR
 use Rattle.rules.proofs.Epoch.TheLaws as EpochL
 use Rattle.rules.specs.declared.Table.{Table}
 use Rattle.rules.specs.contracts.Table as TableR
-use Rattle.rules.specs.Tables.{withEpoch, withChunks}
+use Rattle.rules.specs.Tables.{with_epoch, with_chunks}
 use Rattle.rules.specs.Events.{renewed}
-use Rattle.rules.specs.Limits.{chunkLimit}
+use Rattle.rules.specs.Limits.{chunk_limit}
 use Rattle.rules.specs.Words.{each, numbers}
-use Rattle.epoch_lent.specs.Steps.{withChunkAt}
-use Rattle.epoch_lent.proofs.Laws.{renewed-is}
+use Rattle.epoch_lent.specs.Steps.{with_chunk_at}
+use Rattle.epoch_lent.proofs.Laws.{renewed_is}
 use Rattle.table_lent.proofs.Share.{SharedOut, shares_out, comes_home}
 use Rattle.table_lent.proofs.Parts.{chunks-sized}
 use Rattle.table_numbers.specs.contracts.creation_in as creation-in
@@ -102,8 +102,8 @@ module _ {M : Type 1} {𝓤 : Ura M} (𝓛 : Logic 𝓤) (at_mem : Memory → SP
   abbrev C-renew-chunks : Contract 𝓤
   C-renew-chunks = triple_of 𝓛 renew-chunks.signature (renew-chunks.spec 𝓛 at_mem run)
 
-  said-renew-chunks : (x0 : Creation) (x1 : Epoch) (x2 : Chunks) (r : Chunks) → ent 𝓤 (ensured 𝓛 renew-chunks.ended (renew-chunks.clauses 𝓛 at_mem run) tt (x0, (x1, (x2, tt))) tt r) (fact 𝓤 (r ≡ record { chunks = each (renewed x0 x1 x2.chunks) (numbers chunkLimit) }))
-  said-renew-chunks x0 x1 x2 r = ex_e 𝓤 _ (λ ws. snd∗ 𝓤 (sem 𝓛 (lasts renew-chunks.ended tt (x0, (x1, (x2, tt))) ws)) (fact 𝓤 (r ≡ record { chunks = each (renewed x0 x1 x2.chunks) (numbers chunkLimit) })))
+  said-renew-chunks : (x0 : Creation) (x1 : Epoch) (x2 : Chunks) (r : Chunks) → ent 𝓤 (ensured 𝓛 renew-chunks.ended (renew-chunks.clauses 𝓛 at_mem run) tt (x0, (x1, (x2, tt))) tt r) (fact 𝓤 (r ≡ record { chunks = each (renewed x0 x1 x2.chunks) (numbers chunk_limit) }))
+  said-renew-chunks x0 x1 x2 r = ex_e 𝓤 _ (λ ws. snd∗ 𝓤 (sem 𝓛 (lasts renew-chunks.ended tt (x0, (x1, (x2, tt))) ws)) (fact 𝓤 (r ≡ record { chunks = each (renewed x0 x1 x2.chunks) (numbers chunk_limit) })))
 
   abbrev C-store-chunk-in : Contract 𝓤
   C-store-chunk-in = triple_of 𝓛 store-chunk-in.signature (store-chunk-in.spec 𝓛 at_mem run)
@@ -164,7 +164,7 @@ module _ {M : Type 1} {𝓤 : Ura M} (𝓛 : Logic 𝓤) (at_mem : Memory → SP
   Post = (walk_of 𝓛 me.ended stayed (me.clauses 𝓛 at_mem run)).post (((κ, tt), (q, tt), tt, x, vs), tt)
 
   module _ (g2 : Is EpochR.the_row x2 (m2 ∷ [])) where
-    exits : (z : Table) → z ≡ withEpoch (withChunks h (each (renewed h.creation x2 h.chunks) (numbers chunkLimit))) x2 → ent 𝓤 (⋆ 𝓛 (‵ ((MutRef (named 0) κ TableR.the_row).own_val (rt γ z) (vptr b o ∷ [])) ∷ ‵ (flft κ q) ∷ [])) (Post vunit)
+    exits : (z : Table) → z ≡ with_epoch (with_chunks h (each (renewed h.creation x2 h.chunks) (numbers chunk_limit))) x2 → ent 𝓤 (⋆ 𝓛 (‵ ((MutRef (named 0) κ TableR.the_row).own_val (rt γ z) (vptr b o ∷ [])) ∷ ‵ (flft κ q) ∷ [])) (Post vunit)
     exits z eq =
         qed 𝓛 (‵ ((MutRef (named 0) κ TableR.the_row).own_val (rt γ z) (vptr b o ∷ [])) ∷ ‵ (flft κ q) ∷ []) ∵
         suffices ! _ (ends_at 𝓛 me.ended stayed (me.clauses 𝓛 at_mem run) (((κ, tt), (q, tt), tt, x, vs), tt) vunit tt (z, (tt, tt)) (tt, (tt, tt))) $ says ! eq $
@@ -216,7 +216,7 @@ module _ {M : Type 1} {𝓤 : Ura M} (𝓛 : Logic 𝓤) (at_mem : Memory → SP
           nothing ! $ use1 𝓛 (raw ((C-renew-chunks 𝓛 at_mem run).pre (to-renew-chunks 𝓛 at_mem run r1 w1 x2 m2 r2 w2))) (goes-renew-chunks 𝓛 at_mem run r1 w1 x2 m2 r2 w2 is1 g2 is2) $
           calls_at ! fm (C-renew-chunks 𝓛 at_mem run) known-renew-chunks (to-renew-chunks 𝓛 at_mem run r1 w1 x2 m2 r2 w2) (and_then ! (load ! (from ! (stop !)) (look ! 31 {q = full_share} {τ = CreationL.mir} {b = l3} {o = 0} {v = w1} refl)) (and_then ! (load ! (from ! (stop !)) (look ! 33 {q = full_share} {τ = EpochL.mir} {b = l2} {o = 0} {v = m2} refl)) (and_then ! (load ! (from ! (stop !)) (look ! 29 {q = full_share} {τ = ChunksL.mir} {b = l4} {o = 0} {v = w2} refl)) (no_more !)))) (λ w3.
           use1 𝓛 (later (some (λ (r : Chunks). (‵ ftrue ⊛ ‵ ((ChunksR.the_row).own_val r (w3 ∷ []))) ⊛ raw (ensured 𝓛 renew-chunks.ended (renew-chunks.clauses 𝓛 at_mem run) tt (r1, (x2, (r2, tt))) tt r)))) (id⊢ 𝓤 _) $ await ! tt $ pick ! (λ r3. split ! $ move ! (1 ∷ []) $
-          use1 𝓛 (raw (fact 𝓤 (r3 ≡ record { chunks = each (renewed r1 x2 r2.chunks) (numbers chunkLimit) }))) (said-renew-chunks 𝓛 at_mem run r1 x2 r2 r3) $ heard ! (r3 ≡ record { chunks = each (renewed r1 x2 r2.chunks) (numbers chunkLimit) }) (λ e3. split ! $ drop ! $ facts ! ChunksR.the_row (Is ChunksR.the_row) (shows 𝓛 ChunksR.the_row) r3 (w3 ∷ []) (λ is3.
+          use1 𝓛 (raw (fact 𝓤 (r3 ≡ record { chunks = each (renewed r1 x2 r2.chunks) (numbers chunk_limit) }))) (said-renew-chunks 𝓛 at_mem run r1 x2 r2 r3) $ heard ! (r3 ≡ record { chunks = each (renewed r1 x2 r2.chunks) (numbers chunk_limit) }) (λ e3. split ! $ drop ! $ facts ! ChunksR.the_row (Is ChunksR.the_row) (shows 𝓛 ChunksR.the_row) r3 (w3 ∷ []) (λ is3.
           land ! (from ! (stop !)) (init ! 26 {τ = ChunksL.mir} {v = w3} refl ((LL.lawful ChunksR.the_type ChunksL.the_laws 𝓛).typed r3 _ is3).0) $
           assigns ! (addr ! (from ! (hop ! (look ! 34 refl) (stop !)))) (from ! (stop !)) (init ! 18 refl (tt, tt)) $
           -- _8 = epoch_lent::store_chunk_in(_9, _5, 0)
@@ -226,7 +226,7 @@ module _ {M : Type 1} {𝓤 : Ura M} (𝓛 : Logic 𝓤) (at_mem : Memory → SP
           use2 𝓛 (raw ((C-store-chunk-in 𝓛 at_mem run).pre (to-store-chunk-in 𝓛 at_mem run (ν4 ∷ []) full_share (rt δ4 h) r3 w3 0 (vint w64 0)))) (goes-store-chunk-in 𝓛 at_mem run (ν4 ∷ []) full_share (rt δ4 h) r3 w3 0 (vint w64 0) is3 (refl, lit< tt)) $
           calls_at ! fm (C-store-chunk-in 𝓛 at_mem run) known-store-chunk-in (to-store-chunk-in 𝓛 at_mem run (ν4 ∷ []) full_share (rt δ4 h) r3 w3 0 (vint w64 0)) (and_then ! (load ! (from ! (stop !)) (look ! 18 refl)) (and_then ! (load ! (from ! (stop !)) (look ! 26 {q = full_share} {τ = ChunksL.mir} {b = l5} {o = 0} {v = w3} refl)) (and_then ! (lit ! tt) (no_more !)))) (λ w4.
           use1 𝓛 (later (some (λ (r : Unit {0}). ((‵ (flft (ν4 ∷ []) full_share) ⊛ ‵ ftrue) ⊛ ‵ (Nothing.own r (w4 ∷ []))) ⊛ raw (ensured 𝓛 store-chunk-in.ended (store-chunk-in.clauses 𝓛 at_mem run) ((ν4 ∷ []), tt) ((rt δ4 h), (r3, (0, tt))) tt r)))) (id⊢ 𝓤 _) $ await ! tt $ pick ! (λ r4. split ! $ move ! (1 ∷ []) $
-          use1 𝓛 (some (λ (z4 : Table × (Unit {0} × (Unit {0} × Unit {0}))). ‵ (lasts store-chunk-in.ended ((ν4 ∷ []), tt) ((rt δ4 h), (r3, (0, tt))) z4) ⊛ raw (fact 𝓤 (z4.0 ≡ withChunkAt r3.chunks h 0)))) (id⊢ 𝓤 _) $ pick ! (λ z4. split ! $ move ! (1 ∷ []) $ heard ! (z4.0 ≡ withChunkAt r3.chunks h 0) (λ e4. fsplit ! $
+          use1 𝓛 (some (λ (z4 : Table × (Unit {0} × (Unit {0} × Unit {0}))). ‵ (lasts store-chunk-in.ended ((ν4 ∷ []), tt) ((rt δ4 h), (r3, (0, tt))) z4) ⊛ raw (fact 𝓤 (z4.0 ≡ with_chunk_at r3.chunks h 0)))) (id⊢ 𝓤 _) $ pick ! (λ z4. split ! $ move ! (1 ∷ []) $ heard ! (z4.0 ≡ with_chunk_at r3.chunks h 0) (λ e4. fsplit ! $
           move ! (2 ∷ []) $ split ! $ move ! (1 ∷ []) $ facts ! Nothing (Is Nothing) (shows 𝓛 Nothing) r4 (w4 ∷ []) (λ is4.
           land ! (from ! (stop !)) (init ! 22 {τ = ty_unit} {v = w4} refl ((Nothing-Lawful 𝓛).typed r4 _ is4).0) $ split ! $ lft_end ! tt $ move ! (0 ∷ 4 ∷ 2 ∷ []) $
           use3 𝓛 (later (‵ ((MutRef (named 0) κ TableR.the_row).own_val (rt γ z4.0) (vptr b o ∷ [])) ⊛ ‵ (flft κ q))) (comes_back 𝓛 TableR.the_row (named 0) κ (ν4 ∷ []) q γ b o δ4 h z4.0) $ await ! tt $ split ! $ move ! (2 ∷ 3 ∷ []) $ drop ! $ drop ! $
@@ -238,7 +238,7 @@ module _ {M : Type 1} {𝓤 : Ura M} (𝓛 : Logic 𝓤) (at_mem : Memory → SP
           use2 𝓛 (raw ((C-store-chunk-in 𝓛 at_mem run).pre (to-store-chunk-in 𝓛 at_mem run (ν5 ∷ []) full_share (rt δ5 z4.0) r3 w3 1 (vint w64 1)))) (goes-store-chunk-in 𝓛 at_mem run (ν5 ∷ []) full_share (rt δ5 z4.0) r3 w3 1 (vint w64 1) is3 (refl, lit< tt)) $
           calls_at ! fm (C-store-chunk-in 𝓛 at_mem run) known-store-chunk-in (to-store-chunk-in 𝓛 at_mem run (ν5 ∷ []) full_share (rt δ5 z4.0) r3 w3 1 (vint w64 1)) (and_then ! (load ! (from ! (stop !)) (look ! 16 refl)) (and_then ! (load ! (from ! (stop !)) (look ! 26 {q = full_share} {τ = ChunksL.mir} {b = l5} {o = 0} {v = w3} refl)) (and_then ! (lit ! tt) (no_more !)))) (λ w5.
           use1 𝓛 (later (some (λ (r : Unit {0}). ((‵ (flft (ν5 ∷ []) full_share) ⊛ ‵ ftrue) ⊛ ‵ (Nothing.own r (w5 ∷ []))) ⊛ raw (ensured 𝓛 store-chunk-in.ended (store-chunk-in.clauses 𝓛 at_mem run) ((ν5 ∷ []), tt) ((rt δ5 z4.0), (r3, (1, tt))) tt r)))) (id⊢ 𝓤 _) $ await ! tt $ pick ! (λ r5. split ! $ move ! (1 ∷ []) $
-          use1 𝓛 (some (λ (z5 : Table × (Unit {0} × (Unit {0} × Unit {0}))). ‵ (lasts store-chunk-in.ended ((ν5 ∷ []), tt) ((rt δ5 z4.0), (r3, (1, tt))) z5) ⊛ raw (fact 𝓤 (z5.0 ≡ withChunkAt r3.chunks z4.0 1)))) (id⊢ 𝓤 _) $ pick ! (λ z5. split ! $ move ! (1 ∷ []) $ heard ! (z5.0 ≡ withChunkAt r3.chunks z4.0 1) (λ e5. fsplit ! $
+          use1 𝓛 (some (λ (z5 : Table × (Unit {0} × (Unit {0} × Unit {0}))). ‵ (lasts store-chunk-in.ended ((ν5 ∷ []), tt) ((rt δ5 z4.0), (r3, (1, tt))) z5) ⊛ raw (fact 𝓤 (z5.0 ≡ with_chunk_at r3.chunks z4.0 1)))) (id⊢ 𝓤 _) $ pick ! (λ z5. split ! $ move ! (1 ∷ []) $ heard ! (z5.0 ≡ with_chunk_at r3.chunks z4.0 1) (λ e5. fsplit ! $
           move ! (2 ∷ []) $ split ! $ move ! (1 ∷ []) $ facts ! Nothing (Is Nothing) (shows 𝓛 Nothing) r5 (w5 ∷ []) (λ is5.
           land ! (from ! (stop !)) (store ! 22 {τ = ty_unit} {v = w5} refl ((Nothing-Lawful 𝓛).typed r5 _ is5).0) $ split ! $ lft_end ! tt $ move ! (0 ∷ 4 ∷ 2 ∷ []) $
           use3 𝓛 (later (‵ ((MutRef (named 0) κ TableR.the_row).own_val (rt γ z5.0) (vptr b o ∷ [])) ⊛ ‵ (flft κ q))) (comes_back 𝓛 TableR.the_row (named 0) κ (ν5 ∷ []) q γ b o δ5 z4.0 z5.0) $ await ! tt $ split ! $ move ! (2 ∷ 3 ∷ []) $ drop ! $ drop ! $
@@ -250,7 +250,7 @@ module _ {M : Type 1} {𝓤 : Ura M} (𝓛 : Logic 𝓤) (at_mem : Memory → SP
           use2 𝓛 (raw ((C-store-chunk-in 𝓛 at_mem run).pre (to-store-chunk-in 𝓛 at_mem run (ν6 ∷ []) full_share (rt δ6 z5.0) r3 w3 2 (vint w64 2)))) (goes-store-chunk-in 𝓛 at_mem run (ν6 ∷ []) full_share (rt δ6 z5.0) r3 w3 2 (vint w64 2) is3 (refl, lit< tt)) $
           calls_at ! fm (C-store-chunk-in 𝓛 at_mem run) known-store-chunk-in (to-store-chunk-in 𝓛 at_mem run (ν6 ∷ []) full_share (rt δ6 z5.0) r3 w3 2 (vint w64 2)) (and_then ! (load ! (from ! (stop !)) (look ! 14 refl)) (and_then ! (load ! (from ! (stop !)) (look ! 26 {q = full_share} {τ = ChunksL.mir} {b = l5} {o = 0} {v = w3} refl)) (and_then ! (lit ! tt) (no_more !)))) (λ w6.
           use1 𝓛 (later (some (λ (r : Unit {0}). ((‵ (flft (ν6 ∷ []) full_share) ⊛ ‵ ftrue) ⊛ ‵ (Nothing.own r (w6 ∷ []))) ⊛ raw (ensured 𝓛 store-chunk-in.ended (store-chunk-in.clauses 𝓛 at_mem run) ((ν6 ∷ []), tt) ((rt δ6 z5.0), (r3, (2, tt))) tt r)))) (id⊢ 𝓤 _) $ await ! tt $ pick ! (λ r6. split ! $ move ! (1 ∷ []) $
-          use1 𝓛 (some (λ (z6 : Table × (Unit {0} × (Unit {0} × Unit {0}))). ‵ (lasts store-chunk-in.ended ((ν6 ∷ []), tt) ((rt δ6 z5.0), (r3, (2, tt))) z6) ⊛ raw (fact 𝓤 (z6.0 ≡ withChunkAt r3.chunks z5.0 2)))) (id⊢ 𝓤 _) $ pick ! (λ z6. split ! $ move ! (1 ∷ []) $ heard ! (z6.0 ≡ withChunkAt r3.chunks z5.0 2) (λ e6. fsplit ! $
+          use1 𝓛 (some (λ (z6 : Table × (Unit {0} × (Unit {0} × Unit {0}))). ‵ (lasts store-chunk-in.ended ((ν6 ∷ []), tt) ((rt δ6 z5.0), (r3, (2, tt))) z6) ⊛ raw (fact 𝓤 (z6.0 ≡ with_chunk_at r3.chunks z5.0 2)))) (id⊢ 𝓤 _) $ pick ! (λ z6. split ! $ move ! (1 ∷ []) $ heard ! (z6.0 ≡ with_chunk_at r3.chunks z5.0 2) (λ e6. fsplit ! $
           move ! (2 ∷ []) $ split ! $ move ! (1 ∷ []) $ facts ! Nothing (Is Nothing) (shows 𝓛 Nothing) r6 (w6 ∷ []) (λ is6.
           land ! (from ! (stop !)) (store ! 22 {τ = ty_unit} {v = w6} refl ((Nothing-Lawful 𝓛).typed r6 _ is6).0) $ split ! $ lft_end ! tt $ move ! (0 ∷ 4 ∷ 2 ∷ []) $
           use3 𝓛 (later (‵ ((MutRef (named 0) κ TableR.the_row).own_val (rt γ z6.0) (vptr b o ∷ [])) ⊛ ‵ (flft κ q))) (comes_back 𝓛 TableR.the_row (named 0) κ (ν6 ∷ []) q γ b o δ6 z5.0 z6.0) $ await ! tt $ split ! $ move ! (2 ∷ 3 ∷ []) $ drop ! $ drop ! $
@@ -262,7 +262,7 @@ module _ {M : Type 1} {𝓤 : Ura M} (𝓛 : Logic 𝓤) (at_mem : Memory → SP
           use2 𝓛 (raw ((C-store-chunk-in 𝓛 at_mem run).pre (to-store-chunk-in 𝓛 at_mem run (ν7 ∷ []) full_share (rt δ7 z6.0) r3 w3 3 (vint w64 3)))) (goes-store-chunk-in 𝓛 at_mem run (ν7 ∷ []) full_share (rt δ7 z6.0) r3 w3 3 (vint w64 3) is3 (refl, lit< tt)) $
           calls_at ! fm (C-store-chunk-in 𝓛 at_mem run) known-store-chunk-in (to-store-chunk-in 𝓛 at_mem run (ν7 ∷ []) full_share (rt δ7 z6.0) r3 w3 3 (vint w64 3)) (and_then ! (load ! (from ! (stop !)) (look ! 12 refl)) (and_then ! (load ! (from ! (stop !)) (look ! 26 {q = full_share} {τ = ChunksL.mir} {b = l5} {o = 0} {v = w3} refl)) (and_then ! (lit ! tt) (no_more !)))) (λ w7.
           use1 𝓛 (later (some (λ (r : Unit {0}). ((‵ (flft (ν7 ∷ []) full_share) ⊛ ‵ ftrue) ⊛ ‵ (Nothing.own r (w7 ∷ []))) ⊛ raw (ensured 𝓛 store-chunk-in.ended (store-chunk-in.clauses 𝓛 at_mem run) ((ν7 ∷ []), tt) ((rt δ7 z6.0), (r3, (3, tt))) tt r)))) (id⊢ 𝓤 _) $ await ! tt $ pick ! (λ r7. split ! $ move ! (1 ∷ []) $
-          use1 𝓛 (some (λ (z7 : Table × (Unit {0} × (Unit {0} × Unit {0}))). ‵ (lasts store-chunk-in.ended ((ν7 ∷ []), tt) ((rt δ7 z6.0), (r3, (3, tt))) z7) ⊛ raw (fact 𝓤 (z7.0 ≡ withChunkAt r3.chunks z6.0 3)))) (id⊢ 𝓤 _) $ pick ! (λ z7. split ! $ move ! (1 ∷ []) $ heard ! (z7.0 ≡ withChunkAt r3.chunks z6.0 3) (λ e7. fsplit ! $
+          use1 𝓛 (some (λ (z7 : Table × (Unit {0} × (Unit {0} × Unit {0}))). ‵ (lasts store-chunk-in.ended ((ν7 ∷ []), tt) ((rt δ7 z6.0), (r3, (3, tt))) z7) ⊛ raw (fact 𝓤 (z7.0 ≡ with_chunk_at r3.chunks z6.0 3)))) (id⊢ 𝓤 _) $ pick ! (λ z7. split ! $ move ! (1 ∷ []) $ heard ! (z7.0 ≡ with_chunk_at r3.chunks z6.0 3) (λ e7. fsplit ! $
           move ! (2 ∷ []) $ split ! $ move ! (1 ∷ []) $ facts ! Nothing (Is Nothing) (shows 𝓛 Nothing) r7 (w7 ∷ []) (λ is7.
           land ! (from ! (stop !)) (store ! 22 {τ = ty_unit} {v = w7} refl ((Nothing-Lawful 𝓛).typed r7 _ is7).0) $ split ! $ lft_end ! tt $ move ! (0 ∷ 4 ∷ 2 ∷ []) $
           use3 𝓛 (later (‵ ((MutRef (named 0) κ TableR.the_row).own_val (rt γ z7.0) (vptr b o ∷ [])) ⊛ ‵ (flft κ q))) (comes_back 𝓛 TableR.the_row (named 0) κ (ν7 ∷ []) q γ b o δ7 z6.0 z7.0) $ await ! tt $ split ! $ move ! (2 ∷ 3 ∷ []) $ drop ! $ drop ! $
@@ -274,7 +274,7 @@ module _ {M : Type 1} {𝓤 : Ura M} (𝓛 : Logic 𝓤) (at_mem : Memory → SP
           use2 𝓛 (raw ((C-store-chunk-in 𝓛 at_mem run).pre (to-store-chunk-in 𝓛 at_mem run (ν8 ∷ []) full_share (rt δ8 z7.0) r3 w3 4 (vint w64 4)))) (goes-store-chunk-in 𝓛 at_mem run (ν8 ∷ []) full_share (rt δ8 z7.0) r3 w3 4 (vint w64 4) is3 (refl, lit< tt)) $
           calls_at ! fm (C-store-chunk-in 𝓛 at_mem run) known-store-chunk-in (to-store-chunk-in 𝓛 at_mem run (ν8 ∷ []) full_share (rt δ8 z7.0) r3 w3 4 (vint w64 4)) (and_then ! (load ! (from ! (stop !)) (look ! 10 refl)) (and_then ! (load ! (from ! (stop !)) (look ! 26 {q = full_share} {τ = ChunksL.mir} {b = l5} {o = 0} {v = w3} refl)) (and_then ! (lit ! tt) (no_more !)))) (λ w8.
           use1 𝓛 (later (some (λ (r : Unit {0}). ((‵ (flft (ν8 ∷ []) full_share) ⊛ ‵ ftrue) ⊛ ‵ (Nothing.own r (w8 ∷ []))) ⊛ raw (ensured 𝓛 store-chunk-in.ended (store-chunk-in.clauses 𝓛 at_mem run) ((ν8 ∷ []), tt) ((rt δ8 z7.0), (r3, (4, tt))) tt r)))) (id⊢ 𝓤 _) $ await ! tt $ pick ! (λ r8. split ! $ move ! (1 ∷ []) $
-          use1 𝓛 (some (λ (z8 : Table × (Unit {0} × (Unit {0} × Unit {0}))). ‵ (lasts store-chunk-in.ended ((ν8 ∷ []), tt) ((rt δ8 z7.0), (r3, (4, tt))) z8) ⊛ raw (fact 𝓤 (z8.0 ≡ withChunkAt r3.chunks z7.0 4)))) (id⊢ 𝓤 _) $ pick ! (λ z8. split ! $ move ! (1 ∷ []) $ heard ! (z8.0 ≡ withChunkAt r3.chunks z7.0 4) (λ e8. fsplit ! $
+          use1 𝓛 (some (λ (z8 : Table × (Unit {0} × (Unit {0} × Unit {0}))). ‵ (lasts store-chunk-in.ended ((ν8 ∷ []), tt) ((rt δ8 z7.0), (r3, (4, tt))) z8) ⊛ raw (fact 𝓤 (z8.0 ≡ with_chunk_at r3.chunks z7.0 4)))) (id⊢ 𝓤 _) $ pick ! (λ z8. split ! $ move ! (1 ∷ []) $ heard ! (z8.0 ≡ with_chunk_at r3.chunks z7.0 4) (λ e8. fsplit ! $
           move ! (2 ∷ []) $ split ! $ move ! (1 ∷ []) $ facts ! Nothing (Is Nothing) (shows 𝓛 Nothing) r8 (w8 ∷ []) (λ is8.
           land ! (from ! (stop !)) (store ! 22 {τ = ty_unit} {v = w8} refl ((Nothing-Lawful 𝓛).typed r8 _ is8).0) $ split ! $ lft_end ! tt $ move ! (0 ∷ 4 ∷ 2 ∷ []) $
           use3 𝓛 (later (‵ ((MutRef (named 0) κ TableR.the_row).own_val (rt γ z8.0) (vptr b o ∷ [])) ⊛ ‵ (flft κ q))) (comes_back 𝓛 TableR.the_row (named 0) κ (ν8 ∷ []) q γ b o δ8 z7.0 z8.0) $ await ! tt $ split ! $ move ! (2 ∷ 3 ∷ []) $ drop ! $ drop ! $
@@ -286,7 +286,7 @@ module _ {M : Type 1} {𝓤 : Ura M} (𝓛 : Logic 𝓤) (at_mem : Memory → SP
           use2 𝓛 (raw ((C-store-chunk-in 𝓛 at_mem run).pre (to-store-chunk-in 𝓛 at_mem run (ν9 ∷ []) full_share (rt δ9 z8.0) r3 w3 5 (vint w64 5)))) (goes-store-chunk-in 𝓛 at_mem run (ν9 ∷ []) full_share (rt δ9 z8.0) r3 w3 5 (vint w64 5) is3 (refl, lit< tt)) $
           calls_at ! fm (C-store-chunk-in 𝓛 at_mem run) known-store-chunk-in (to-store-chunk-in 𝓛 at_mem run (ν9 ∷ []) full_share (rt δ9 z8.0) r3 w3 5 (vint w64 5)) (and_then ! (load ! (from ! (stop !)) (look ! 8 refl)) (and_then ! (load ! (from ! (stop !)) (look ! 26 {q = full_share} {τ = ChunksL.mir} {b = l5} {o = 0} {v = w3} refl)) (and_then ! (lit ! tt) (no_more !)))) (λ w9.
           use1 𝓛 (later (some (λ (r : Unit {0}). ((‵ (flft (ν9 ∷ []) full_share) ⊛ ‵ ftrue) ⊛ ‵ (Nothing.own r (w9 ∷ []))) ⊛ raw (ensured 𝓛 store-chunk-in.ended (store-chunk-in.clauses 𝓛 at_mem run) ((ν9 ∷ []), tt) ((rt δ9 z8.0), (r3, (5, tt))) tt r)))) (id⊢ 𝓤 _) $ await ! tt $ pick ! (λ r9. split ! $ move ! (1 ∷ []) $
-          use1 𝓛 (some (λ (z9 : Table × (Unit {0} × (Unit {0} × Unit {0}))). ‵ (lasts store-chunk-in.ended ((ν9 ∷ []), tt) ((rt δ9 z8.0), (r3, (5, tt))) z9) ⊛ raw (fact 𝓤 (z9.0 ≡ withChunkAt r3.chunks z8.0 5)))) (id⊢ 𝓤 _) $ pick ! (λ z9. split ! $ move ! (1 ∷ []) $ heard ! (z9.0 ≡ withChunkAt r3.chunks z8.0 5) (λ e9. fsplit ! $
+          use1 𝓛 (some (λ (z9 : Table × (Unit {0} × (Unit {0} × Unit {0}))). ‵ (lasts store-chunk-in.ended ((ν9 ∷ []), tt) ((rt δ9 z8.0), (r3, (5, tt))) z9) ⊛ raw (fact 𝓤 (z9.0 ≡ with_chunk_at r3.chunks z8.0 5)))) (id⊢ 𝓤 _) $ pick ! (λ z9. split ! $ move ! (1 ∷ []) $ heard ! (z9.0 ≡ with_chunk_at r3.chunks z8.0 5) (λ e9. fsplit ! $
           move ! (2 ∷ []) $ split ! $ move ! (1 ∷ []) $ facts ! Nothing (Is Nothing) (shows 𝓛 Nothing) r9 (w9 ∷ []) (λ is9.
           land ! (from ! (stop !)) (store ! 22 {τ = ty_unit} {v = w9} refl ((Nothing-Lawful 𝓛).typed r9 _ is9).0) $ split ! $ lft_end ! tt $ move ! (0 ∷ 4 ∷ 2 ∷ []) $
           use3 𝓛 (later (‵ ((MutRef (named 0) κ TableR.the_row).own_val (rt γ z9.0) (vptr b o ∷ [])) ⊛ ‵ (flft κ q))) (comes_back 𝓛 TableR.the_row (named 0) κ (ν9 ∷ []) q γ b o δ9 z8.0 z9.0) $ await ! tt $ split ! $ move ! (2 ∷ 3 ∷ []) $ drop ! $ drop ! $
@@ -298,7 +298,7 @@ module _ {M : Type 1} {𝓤 : Ura M} (𝓛 : Logic 𝓤) (at_mem : Memory → SP
           use2 𝓛 (raw ((C-store-chunk-in 𝓛 at_mem run).pre (to-store-chunk-in 𝓛 at_mem run (ν10 ∷ []) full_share (rt δ10 z9.0) r3 w3 6 (vint w64 6)))) (goes-store-chunk-in 𝓛 at_mem run (ν10 ∷ []) full_share (rt δ10 z9.0) r3 w3 6 (vint w64 6) is3 (refl, lit< tt)) $
           calls_at ! fm (C-store-chunk-in 𝓛 at_mem run) known-store-chunk-in (to-store-chunk-in 𝓛 at_mem run (ν10 ∷ []) full_share (rt δ10 z9.0) r3 w3 6 (vint w64 6)) (and_then ! (load ! (from ! (stop !)) (look ! 6 refl)) (and_then ! (load ! (from ! (stop !)) (look ! 26 {q = full_share} {τ = ChunksL.mir} {b = l5} {o = 0} {v = w3} refl)) (and_then ! (lit ! tt) (no_more !)))) (λ w10.
           use1 𝓛 (later (some (λ (r : Unit {0}). ((‵ (flft (ν10 ∷ []) full_share) ⊛ ‵ ftrue) ⊛ ‵ (Nothing.own r (w10 ∷ []))) ⊛ raw (ensured 𝓛 store-chunk-in.ended (store-chunk-in.clauses 𝓛 at_mem run) ((ν10 ∷ []), tt) ((rt δ10 z9.0), (r3, (6, tt))) tt r)))) (id⊢ 𝓤 _) $ await ! tt $ pick ! (λ r10. split ! $ move ! (1 ∷ []) $
-          use1 𝓛 (some (λ (z10 : Table × (Unit {0} × (Unit {0} × Unit {0}))). ‵ (lasts store-chunk-in.ended ((ν10 ∷ []), tt) ((rt δ10 z9.0), (r3, (6, tt))) z10) ⊛ raw (fact 𝓤 (z10.0 ≡ withChunkAt r3.chunks z9.0 6)))) (id⊢ 𝓤 _) $ pick ! (λ z10. split ! $ move ! (1 ∷ []) $ heard ! (z10.0 ≡ withChunkAt r3.chunks z9.0 6) (λ e10. fsplit ! $
+          use1 𝓛 (some (λ (z10 : Table × (Unit {0} × (Unit {0} × Unit {0}))). ‵ (lasts store-chunk-in.ended ((ν10 ∷ []), tt) ((rt δ10 z9.0), (r3, (6, tt))) z10) ⊛ raw (fact 𝓤 (z10.0 ≡ with_chunk_at r3.chunks z9.0 6)))) (id⊢ 𝓤 _) $ pick ! (λ z10. split ! $ move ! (1 ∷ []) $ heard ! (z10.0 ≡ with_chunk_at r3.chunks z9.0 6) (λ e10. fsplit ! $
           move ! (2 ∷ []) $ split ! $ move ! (1 ∷ []) $ facts ! Nothing (Is Nothing) (shows 𝓛 Nothing) r10 (w10 ∷ []) (λ is10.
           land ! (from ! (stop !)) (store ! 22 {τ = ty_unit} {v = w10} refl ((Nothing-Lawful 𝓛).typed r10 _ is10).0) $ split ! $ lft_end ! tt $ move ! (0 ∷ 4 ∷ 2 ∷ []) $
           use3 𝓛 (later (‵ ((MutRef (named 0) κ TableR.the_row).own_val (rt γ z10.0) (vptr b o ∷ [])) ⊛ ‵ (flft κ q))) (comes_back 𝓛 TableR.the_row (named 0) κ (ν10 ∷ []) q γ b o δ10 z9.0 z10.0) $ await ! tt $ split ! $ move ! (2 ∷ 3 ∷ []) $ drop ! $ drop ! $
@@ -310,7 +310,7 @@ module _ {M : Type 1} {𝓤 : Ura M} (𝓛 : Logic 𝓤) (at_mem : Memory → SP
           use2 𝓛 (raw ((C-store-chunk-in 𝓛 at_mem run).pre (to-store-chunk-in 𝓛 at_mem run (ν11 ∷ []) full_share (rt δ11 z10.0) r3 w3 7 (vint w64 7)))) (goes-store-chunk-in 𝓛 at_mem run (ν11 ∷ []) full_share (rt δ11 z10.0) r3 w3 7 (vint w64 7) is3 (refl, lit< tt)) $
           calls_at ! fm (C-store-chunk-in 𝓛 at_mem run) known-store-chunk-in (to-store-chunk-in 𝓛 at_mem run (ν11 ∷ []) full_share (rt δ11 z10.0) r3 w3 7 (vint w64 7)) (and_then ! (load ! (from ! (stop !)) (look ! 4 refl)) (and_then ! (load ! (from ! (stop !)) (look ! 26 {q = full_share} {τ = ChunksL.mir} {b = l5} {o = 0} {v = w3} refl)) (and_then ! (lit ! tt) (no_more !)))) (λ w11.
           use1 𝓛 (later (some (λ (r : Unit {0}). ((‵ (flft (ν11 ∷ []) full_share) ⊛ ‵ ftrue) ⊛ ‵ (Nothing.own r (w11 ∷ []))) ⊛ raw (ensured 𝓛 store-chunk-in.ended (store-chunk-in.clauses 𝓛 at_mem run) ((ν11 ∷ []), tt) ((rt δ11 z10.0), (r3, (7, tt))) tt r)))) (id⊢ 𝓤 _) $ await ! tt $ pick ! (λ r11. split ! $ move ! (1 ∷ []) $
-          use1 𝓛 (some (λ (z11 : Table × (Unit {0} × (Unit {0} × Unit {0}))). ‵ (lasts store-chunk-in.ended ((ν11 ∷ []), tt) ((rt δ11 z10.0), (r3, (7, tt))) z11) ⊛ raw (fact 𝓤 (z11.0 ≡ withChunkAt r3.chunks z10.0 7)))) (id⊢ 𝓤 _) $ pick ! (λ z11. split ! $ move ! (1 ∷ []) $ heard ! (z11.0 ≡ withChunkAt r3.chunks z10.0 7) (λ e11. fsplit ! $
+          use1 𝓛 (some (λ (z11 : Table × (Unit {0} × (Unit {0} × Unit {0}))). ‵ (lasts store-chunk-in.ended ((ν11 ∷ []), tt) ((rt δ11 z10.0), (r3, (7, tt))) z11) ⊛ raw (fact 𝓤 (z11.0 ≡ with_chunk_at r3.chunks z10.0 7)))) (id⊢ 𝓤 _) $ pick ! (λ z11. split ! $ move ! (1 ∷ []) $ heard ! (z11.0 ≡ with_chunk_at r3.chunks z10.0 7) (λ e11. fsplit ! $
           move ! (2 ∷ []) $ split ! $ move ! (1 ∷ []) $ facts ! Nothing (Is Nothing) (shows 𝓛 Nothing) r11 (w11 ∷ []) (λ is11.
           land ! (from ! (stop !)) (store ! 22 {τ = ty_unit} {v = w11} refl ((Nothing-Lawful 𝓛).typed r11 _ is11).0) $ split ! $ lft_end ! tt $ move ! (0 ∷ 4 ∷ 2 ∷ []) $
           use3 𝓛 (later (‵ ((MutRef (named 0) κ TableR.the_row).own_val (rt γ z11.0) (vptr b o ∷ [])) ⊛ ‵ (flft κ q))) (comes_back 𝓛 TableR.the_row (named 0) κ (ν11 ∷ []) q γ b o δ11 z10.0 z11.0) $ await ! tt $ split ! $ move ! (2 ∷ 3 ∷ []) $ drop ! $ drop ! $
@@ -322,7 +322,7 @@ module _ {M : Type 1} {𝓤 : Ura M} (𝓛 : Logic 𝓤) (at_mem : Memory → SP
           use2 𝓛 (raw ((C-put-epoch 𝓛 at_mem run).pre (to-put-epoch 𝓛 at_mem run (ν12 ∷ []) full_share (rt δ12 z11.0) x2 m2))) (goes-put-epoch 𝓛 at_mem run (ν12 ∷ []) full_share (rt δ12 z11.0) x2 m2 g2) $
           calls_at ! fm (C-put-epoch 𝓛 at_mem run) known-put-epoch (to-put-epoch 𝓛 at_mem run (ν12 ∷ []) full_share (rt δ12 z11.0) x2 m2) (and_then ! (load ! (from ! (stop !)) (look ! 2 refl)) (and_then ! (load ! (from ! (stop !)) (look ! 32 {q = full_share} {τ = EpochL.mir} {b = l2} {o = 0} {v = m2} refl)) (no_more !))) (λ w12.
           use1 𝓛 (later (some (λ (r : Unit {0}). ((‵ (flft (ν12 ∷ []) full_share) ⊛ ‵ ftrue) ⊛ ‵ (Nothing.own r (w12 ∷ []))) ⊛ raw (ensured 𝓛 put-epoch.ended (put-epoch.clauses 𝓛 at_mem run) ((ν12 ∷ []), tt) ((rt δ12 z11.0), (x2, tt)) tt r)))) (id⊢ 𝓤 _) $ await ! tt $ pick ! (λ r12. split ! $ move ! (1 ∷ []) $
-          use1 𝓛 (some (λ (z12 : Table × (Unit {0} × Unit {0})). ‵ (lasts put-epoch.ended ((ν12 ∷ []), tt) ((rt δ12 z11.0), (x2, tt)) z12) ⊛ raw (fact 𝓤 (z12.0 ≡ withEpoch z11.0 x2)))) (id⊢ 𝓤 _) $ pick ! (λ z12. split ! $ move ! (1 ∷ []) $ heard ! (z12.0 ≡ withEpoch z11.0 x2) (λ e12. fsplit ! $
+          use1 𝓛 (some (λ (z12 : Table × (Unit {0} × Unit {0})). ‵ (lasts put-epoch.ended ((ν12 ∷ []), tt) ((rt δ12 z11.0), (x2, tt)) z12) ⊛ raw (fact 𝓤 (z12.0 ≡ with_epoch z11.0 x2)))) (id⊢ 𝓤 _) $ pick ! (λ z12. split ! $ move ! (1 ∷ []) $ heard ! (z12.0 ≡ with_epoch z11.0 x2) (λ e12. fsplit ! $
           move ! (2 ∷ []) $ split ! $ move ! (1 ∷ []) $ facts ! Nothing (Is Nothing) (shows 𝓛 Nothing) r12 (w12 ∷ []) (λ is12.
           land ! (from ! (stop !)) (store ! 22 {τ = ty_unit} {v = w12} refl ((Nothing-Lawful 𝓛).typed r12 _ is12).0) $ split ! $ lft_end ! tt $ move ! (0 ∷ 4 ∷ 2 ∷ []) $
           use3 𝓛 (later (‵ ((MutRef (named 0) κ TableR.the_row).own_val (rt γ z12.0) (vptr b o ∷ [])) ⊛ ‵ (flft κ q))) (comes_back 𝓛 TableR.the_row (named 0) κ (ν12 ∷ []) q γ b o δ12 z11.0 z12.0) $ await ! tt $ split ! $ move ! (2 ∷ 3 ∷ []) $ drop ! $ drop ! $
@@ -330,7 +330,7 @@ module _ {M : Type 1} {𝓤 : Ura M} (𝓛 : Logic 𝓤) (at_mem : Memory → SP
           returns ! (look ! 36 {q = full_share} {τ = ty_unit} {b = l0} {o = 0} {v = vunit} refl) $
           forget ! 2 refl $ forget ! 4 refl $ forget ! 6 refl $ forget ! 8 refl $ forget ! 10 refl $ forget ! 12 refl $ forget ! 14 refl $ forget ! 16 refl $ forget ! 18 refl $ forget ! 20 refl $ forget ! 22 refl $ forget ! 24 refl $ forget ! 26 refl $ forget ! 28 refl $ forget ! 30 refl $ forget ! 32 refl $ forget ! 34 refl $ forget ! 36 refl $
           move ! (36 ∷ 37 ∷ []) $ free1 ! $ move ! (34 ∷ 35 ∷ []) $ free1 ! $ move ! (32 ∷ 33 ∷ []) $ free1 ! $ move ! (30 ∷ 31 ∷ []) $ free1 ! $ move ! (28 ∷ 29 ∷ []) $ free1 ! $ move ! (26 ∷ 27 ∷ []) $ free1 ! $ move ! (24 ∷ 25 ∷ []) $ free1 ! $ move ! (22 ∷ 23 ∷ []) $ free1 ! $ move ! (20 ∷ 21 ∷ []) $ free1 ! $ move ! (18 ∷ 19 ∷ []) $ free1 ! $ move ! (16 ∷ 17 ∷ []) $ free1 ! $ move ! (14 ∷ 15 ∷ []) $ free1 ! $ move ! (12 ∷ 13 ∷ []) $ free1 ! $ move ! (10 ∷ 11 ∷ []) $ free1 ! $ move ! (8 ∷ 9 ∷ []) $ free1 ! $ move ! (6 ∷ 7 ∷ []) $ free1 ! $ move ! (4 ∷ 5 ∷ []) $ free1 ! $ move ! (2 ∷ 3 ∷ []) $ free1 ! $ free0 ! $
-          by ! (exits z12.0 (renewed-is h x2 r1 r2 r3 z4.0 z5.0 z6.0 z7.0 z8.0 z9.0 z10.0 z11.0 z12.0 chunks-len e1 e2 e3 e4 e5 e6 e7 e8 e9 e10 e11 e12))))))))))))))))))))))))))))))))))))))))))))))))))))))))))))))))))))))))))))))))))))))))))))))))))))
+          by ! (exits z12.0 (renewed_is h x2 r1 r2 r3 z4.0 z5.0 z6.0 z7.0 z8.0 z9.0 z10.0 z11.0 z12.0 chunks-len e1 e2 e3 e4 e5 e6 e7 e8 e9 e10 e11 e12))))))))))))))))))))))))))))))))))))))))))))))))))))))))))))))))))))))))))))))))))))))))))))))))))))
 
 module _ {M : Type 1} {𝓤 : Ura M} (𝓛 : Logic 𝓤) (at_mem : Memory → SProp 𝓤) (run : Routine → Fun 𝓤) where
   open 𝓛 use {H}

@@ -42,8 +42,8 @@ use Rattle.epoch_lent.proofs.Copies.TheLaws as CopiesL
 use Rattle.rules.specs.declared.Table.{Table}
 use Rattle.rules.specs.contracts.Table as TableR
 use Rattle.rules.specs.Settlement.{settled}
-use Rattle.epoch_lent.specs.Steps.{copiesAt, withHeld, withBlock}
-use Rattle.epoch_lent.proofs.Laws.{block-is}
+use Rattle.epoch_lent.specs.Steps.{copies_at, with_held, with_block}
+use Rattle.epoch_lent.proofs.Laws.{block_is}
 use Rattle.table_lent.proofs.Share.{SharedOut, shares_out, comes_home}
 use Rattle.epoch_lent.specs.contracts.settled_in as settled-in
 use Rattle.epoch_lent.proofs.settled_in.Symbol as settled-in-def
@@ -65,8 +65,8 @@ module _ {M : Type 1} {𝓤 : Ura M} (𝓛 : Logic 𝓤) (at_mem : Memory → SP
   abbrev C-settled-in : Contract 𝓤
   C-settled-in = triple_of 𝓛 settled-in.signature (settled-in.spec 𝓛 at_mem run)
 
-  said-settled-in : (κ : Lft) (t : Bor Table) (x0 : ℕ) (r : Copies) → ent 𝓤 (ensured 𝓛 settled-in.ended (settled-in.clauses 𝓛 at_mem run) (κ, tt) (t, (x0, tt)) tt r) (fact 𝓤 (r ≡ record { copies = settled (copiesAt t.now x0) }))
-  said-settled-in κ t x0 r = ex_e 𝓤 _ (λ ws. snd∗ 𝓤 (sem 𝓛 (lasts settled-in.ended (κ, tt) (t, (x0, tt)) ws)) (fact 𝓤 (r ≡ record { copies = settled (copiesAt t.now x0) })))
+  said-settled-in : (κ : Lft) (t : Bor Table) (x0 : ℕ) (r : Copies) → ent 𝓤 (ensured 𝓛 settled-in.ended (settled-in.clauses 𝓛 at_mem run) (κ, tt) (t, (x0, tt)) tt r) (fact 𝓤 (r ≡ record { copies = settled (copies_at t.now x0) }))
+  said-settled-in κ t x0 r = ex_e 𝓤 _ (λ ws. snd∗ 𝓤 (sem 𝓛 (lasts settled-in.ended (κ, tt) (t, (x0, tt)) ws)) (fact 𝓤 (r ≡ record { copies = settled (copies_at t.now x0) })))
 
   abbrev C-store-in : Contract 𝓤
   C-store-in = triple_of 𝓛 store_in.signature (store_in.spec 𝓛 at_mem run)
@@ -104,7 +104,7 @@ module _ {M : Type 1} {𝓤 : Ura M} (𝓛 : Logic 𝓤) (at_mem : Memory → SP
   Post = (walk_of 𝓛 me.ended stayed (me.clauses 𝓛 at_mem run)).post (((κ, tt), (q, tt), tt, x, vs), tt)
 
   module _ (g2 : Is usize x2 ((vint w64 x2) ∷ [])) where
-    exits : (z : Table) → z ≡ withBlock h x2 → ent 𝓤 (⋆ 𝓛 (‵ ((MutRef (named 0) κ TableR.the_row).own_val (rt γ z) (vptr b o ∷ [])) ∷ ‵ (flft κ q) ∷ [])) (Post vunit)
+    exits : (z : Table) → z ≡ with_block h x2 → ent 𝓤 (⋆ 𝓛 (‵ ((MutRef (named 0) κ TableR.the_row).own_val (rt γ z) (vptr b o ∷ [])) ∷ ‵ (flft κ q) ∷ [])) (Post vunit)
     exits z eq =
         qed 𝓛 (‵ ((MutRef (named 0) κ TableR.the_row).own_val (rt γ z) (vptr b o ∷ [])) ∷ ‵ (flft κ q) ∷ []) ∵
         suffices ! _ (ends_at 𝓛 me.ended stayed (me.clauses 𝓛 at_mem run) (((κ, tt), (q, tt), tt, x, vs), tt) vunit tt (z, (tt, tt)) (tt, (tt, tt))) $ says ! eq $
@@ -135,7 +135,7 @@ module _ {M : Type 1} {𝓤 : Ura M} (𝓛 : Logic 𝓤) (at_mem : Memory → SP
           use2 𝓛 (raw ((C-settled-in 𝓛 at_mem run).pre (to-settled-in 𝓛 at_mem run (ν1 ∷ []) full_share (rt δ1 h) x2 (vint w64 x2)))) (goes-settled-in 𝓛 at_mem run (ν1 ∷ []) full_share (rt δ1 h) x2 (vint w64 x2) g2) $
           calls_at ! fm (C-settled-in 𝓛 at_mem run) known-settled-in (to-settled-in 𝓛 at_mem run (ν1 ∷ []) full_share (rt δ1 h) x2 (vint w64 x2)) (and_then ! (load ! (from ! (stop !)) (look ! 20 refl)) (and_then ! (load ! (from ! (stop !)) (look ! 24 {q = full_share} {τ = ty_int w64} {b = l2} {o = 0} {v = (vint w64 x2)} refl)) (no_more !))) (λ w1.
           use1 𝓛 (later (some (λ (r : Copies). ((‵ (flft (ν1 ∷ []) full_share) ⊛ ‵ ftrue) ⊛ ‵ ((CopiesR.the_row).own_val r (w1 ∷ []))) ⊛ raw (ensured 𝓛 settled-in.ended (settled-in.clauses 𝓛 at_mem run) ((ν1 ∷ []), tt) ((rt δ1 h), (x2, tt)) tt r)))) (id⊢ 𝓤 _) $ await ! tt $ pick ! (λ r1. split ! $ move ! (1 ∷ []) $
-          use1 𝓛 (raw (fact 𝓤 (r1 ≡ record { copies = settled (copiesAt h x2) }))) (said-settled-in 𝓛 at_mem run (ν1 ∷ []) (rt δ1 h) x2 r1) $ heard ! (r1 ≡ record { copies = settled (copiesAt h x2) }) (λ e1. split ! $ move ! (1 ∷ []) $ facts ! CopiesR.the_row (Is CopiesR.the_row) (shows 𝓛 CopiesR.the_row) r1 (w1 ∷ []) (λ is1.
+          use1 𝓛 (raw (fact 𝓤 (r1 ≡ record { copies = settled (copies_at h x2) }))) (said-settled-in 𝓛 at_mem run (ν1 ∷ []) (rt δ1 h) x2 r1) $ heard ! (r1 ≡ record { copies = settled (copies_at h x2) }) (λ e1. split ! $ move ! (1 ∷ []) $ facts ! CopiesR.the_row (Is CopiesR.the_row) (shows 𝓛 CopiesR.the_row) r1 (w1 ∷ []) (λ is1.
           land ! (from ! (stop !)) (init ! 22 {τ = CopiesL.mir} {v = w1} refl ((LL.lawful CopiesR.the_type CopiesL.the_laws 𝓛).typed r1 _ is1).0) $
           split ! $ lft_end ! tt $ move ! (0 ∷ 2 ∷ []) $ use2 𝓛 (later (‵ ((MutRef (named 0) κ TableR.the_row).own_val (rt γ h) (vptr b o ∷ [])) ⊛ ‵ (flft κ q))) (comes_home 𝓛 TableR.the_row (named 0) κ (ν1 ∷ []) q γ b o h) $ await ! tt $ split ! $ move ! (2 ∷ []) $ drop ! $
           assigns ! (addr ! (from ! (hop ! (look ! 26 refl) (stop !)))) (from ! (stop !)) (init ! 16 refl (tt, tt)) $
@@ -146,7 +146,7 @@ module _ {M : Type 1} {𝓤 : Ura M} (𝓛 : Logic 𝓤) (at_mem : Memory → SP
           use2 𝓛 (raw ((C-store-in 𝓛 at_mem run).pre (to-store-in 𝓛 at_mem run (ν2 ∷ []) full_share (rt δ2 h) r1 w1 0 (vint w64 0) x2 (vint w64 x2)))) (goes-store-in 𝓛 at_mem run (ν2 ∷ []) full_share (rt δ2 h) r1 w1 0 (vint w64 0) x2 (vint w64 x2) is1 (refl, lit< tt) g2) $
           calls_at ! fm (C-store-in 𝓛 at_mem run) known-store-in (to-store-in 𝓛 at_mem run (ν2 ∷ []) full_share (rt δ2 h) r1 w1 0 (vint w64 0) x2 (vint w64 x2)) (and_then ! (load ! (from ! (stop !)) (look ! 16 refl)) (and_then ! (load ! (from ! (stop !)) (look ! 22 {q = full_share} {τ = CopiesL.mir} {b = l3} {o = 0} {v = w1} refl)) (and_then ! (lit ! tt) (and_then ! (load ! (from ! (stop !)) (look ! 24 {q = full_share} {τ = ty_int w64} {b = l2} {o = 0} {v = (vint w64 x2)} refl)) (no_more !))))) (λ w2.
           use1 𝓛 (later (some (λ (r : Unit {0}). ((‵ (flft (ν2 ∷ []) full_share) ⊛ ‵ ftrue) ⊛ ‵ (Nothing.own r (w2 ∷ []))) ⊛ raw (ensured 𝓛 store_in.ended (store_in.clauses 𝓛 at_mem run) ((ν2 ∷ []), tt) ((rt δ2 h), (r1, (0, (x2, tt)))) tt r)))) (id⊢ 𝓤 _) $ await ! tt $ pick ! (λ r2. split ! $ move ! (1 ∷ []) $
-          use1 𝓛 (some (λ (z2 : Table × (Unit {0} × (Unit {0} × (Unit {0} × Unit {0})))). ‵ (lasts store_in.ended ((ν2 ∷ []), tt) ((rt δ2 h), (r1, (0, (x2, tt)))) z2) ⊛ raw (fact 𝓤 (z2.0 ≡ withHeld r1.copies x2 h 0)))) (id⊢ 𝓤 _) $ pick ! (λ z2. split ! $ move ! (1 ∷ []) $ heard ! (z2.0 ≡ withHeld r1.copies x2 h 0) (λ e2. fsplit ! $
+          use1 𝓛 (some (λ (z2 : Table × (Unit {0} × (Unit {0} × (Unit {0} × Unit {0})))). ‵ (lasts store_in.ended ((ν2 ∷ []), tt) ((rt δ2 h), (r1, (0, (x2, tt)))) z2) ⊛ raw (fact 𝓤 (z2.0 ≡ with_held r1.copies x2 h 0)))) (id⊢ 𝓤 _) $ pick ! (λ z2. split ! $ move ! (1 ∷ []) $ heard ! (z2.0 ≡ with_held r1.copies x2 h 0) (λ e2. fsplit ! $
           move ! (2 ∷ []) $ split ! $ move ! (1 ∷ []) $ facts ! Nothing (Is Nothing) (shows 𝓛 Nothing) r2 (w2 ∷ []) (λ is2.
           land ! (from ! (stop !)) (init ! 20 {τ = ty_unit} {v = w2} refl ((Nothing-Lawful 𝓛).typed r2 _ is2).0) $ split ! $ lft_end ! tt $ move ! (0 ∷ 4 ∷ 2 ∷ []) $
           use3 𝓛 (later (‵ ((MutRef (named 0) κ TableR.the_row).own_val (rt γ z2.0) (vptr b o ∷ [])) ⊛ ‵ (flft κ q))) (comes_back 𝓛 TableR.the_row (named 0) κ (ν2 ∷ []) q γ b o δ2 h z2.0) $ await ! tt $ split ! $ move ! (2 ∷ 3 ∷ []) $ drop ! $ drop ! $
@@ -158,7 +158,7 @@ module _ {M : Type 1} {𝓤 : Ura M} (𝓛 : Logic 𝓤) (at_mem : Memory → SP
           use2 𝓛 (raw ((C-store-in 𝓛 at_mem run).pre (to-store-in 𝓛 at_mem run (ν3 ∷ []) full_share (rt δ3 z2.0) r1 w1 1 (vint w64 1) x2 (vint w64 x2)))) (goes-store-in 𝓛 at_mem run (ν3 ∷ []) full_share (rt δ3 z2.0) r1 w1 1 (vint w64 1) x2 (vint w64 x2) is1 (refl, lit< tt) g2) $
           calls_at ! fm (C-store-in 𝓛 at_mem run) known-store-in (to-store-in 𝓛 at_mem run (ν3 ∷ []) full_share (rt δ3 z2.0) r1 w1 1 (vint w64 1) x2 (vint w64 x2)) (and_then ! (load ! (from ! (stop !)) (look ! 14 refl)) (and_then ! (load ! (from ! (stop !)) (look ! 22 {q = full_share} {τ = CopiesL.mir} {b = l3} {o = 0} {v = w1} refl)) (and_then ! (lit ! tt) (and_then ! (load ! (from ! (stop !)) (look ! 24 {q = full_share} {τ = ty_int w64} {b = l2} {o = 0} {v = (vint w64 x2)} refl)) (no_more !))))) (λ w3.
           use1 𝓛 (later (some (λ (r : Unit {0}). ((‵ (flft (ν3 ∷ []) full_share) ⊛ ‵ ftrue) ⊛ ‵ (Nothing.own r (w3 ∷ []))) ⊛ raw (ensured 𝓛 store_in.ended (store_in.clauses 𝓛 at_mem run) ((ν3 ∷ []), tt) ((rt δ3 z2.0), (r1, (1, (x2, tt)))) tt r)))) (id⊢ 𝓤 _) $ await ! tt $ pick ! (λ r3. split ! $ move ! (1 ∷ []) $
-          use1 𝓛 (some (λ (z3 : Table × (Unit {0} × (Unit {0} × (Unit {0} × Unit {0})))). ‵ (lasts store_in.ended ((ν3 ∷ []), tt) ((rt δ3 z2.0), (r1, (1, (x2, tt)))) z3) ⊛ raw (fact 𝓤 (z3.0 ≡ withHeld r1.copies x2 z2.0 1)))) (id⊢ 𝓤 _) $ pick ! (λ z3. split ! $ move ! (1 ∷ []) $ heard ! (z3.0 ≡ withHeld r1.copies x2 z2.0 1) (λ e3. fsplit ! $
+          use1 𝓛 (some (λ (z3 : Table × (Unit {0} × (Unit {0} × (Unit {0} × Unit {0})))). ‵ (lasts store_in.ended ((ν3 ∷ []), tt) ((rt δ3 z2.0), (r1, (1, (x2, tt)))) z3) ⊛ raw (fact 𝓤 (z3.0 ≡ with_held r1.copies x2 z2.0 1)))) (id⊢ 𝓤 _) $ pick ! (λ z3. split ! $ move ! (1 ∷ []) $ heard ! (z3.0 ≡ with_held r1.copies x2 z2.0 1) (λ e3. fsplit ! $
           move ! (2 ∷ []) $ split ! $ move ! (1 ∷ []) $ facts ! Nothing (Is Nothing) (shows 𝓛 Nothing) r3 (w3 ∷ []) (λ is3.
           land ! (from ! (stop !)) (store ! 20 {τ = ty_unit} {v = w3} refl ((Nothing-Lawful 𝓛).typed r3 _ is3).0) $ split ! $ lft_end ! tt $ move ! (0 ∷ 4 ∷ 2 ∷ []) $
           use3 𝓛 (later (‵ ((MutRef (named 0) κ TableR.the_row).own_val (rt γ z3.0) (vptr b o ∷ [])) ⊛ ‵ (flft κ q))) (comes_back 𝓛 TableR.the_row (named 0) κ (ν3 ∷ []) q γ b o δ3 z2.0 z3.0) $ await ! tt $ split ! $ move ! (2 ∷ 3 ∷ []) $ drop ! $ drop ! $
@@ -170,7 +170,7 @@ module _ {M : Type 1} {𝓤 : Ura M} (𝓛 : Logic 𝓤) (at_mem : Memory → SP
           use2 𝓛 (raw ((C-store-in 𝓛 at_mem run).pre (to-store-in 𝓛 at_mem run (ν4 ∷ []) full_share (rt δ4 z3.0) r1 w1 2 (vint w64 2) x2 (vint w64 x2)))) (goes-store-in 𝓛 at_mem run (ν4 ∷ []) full_share (rt δ4 z3.0) r1 w1 2 (vint w64 2) x2 (vint w64 x2) is1 (refl, lit< tt) g2) $
           calls_at ! fm (C-store-in 𝓛 at_mem run) known-store-in (to-store-in 𝓛 at_mem run (ν4 ∷ []) full_share (rt δ4 z3.0) r1 w1 2 (vint w64 2) x2 (vint w64 x2)) (and_then ! (load ! (from ! (stop !)) (look ! 12 refl)) (and_then ! (load ! (from ! (stop !)) (look ! 22 {q = full_share} {τ = CopiesL.mir} {b = l3} {o = 0} {v = w1} refl)) (and_then ! (lit ! tt) (and_then ! (load ! (from ! (stop !)) (look ! 24 {q = full_share} {τ = ty_int w64} {b = l2} {o = 0} {v = (vint w64 x2)} refl)) (no_more !))))) (λ w4.
           use1 𝓛 (later (some (λ (r : Unit {0}). ((‵ (flft (ν4 ∷ []) full_share) ⊛ ‵ ftrue) ⊛ ‵ (Nothing.own r (w4 ∷ []))) ⊛ raw (ensured 𝓛 store_in.ended (store_in.clauses 𝓛 at_mem run) ((ν4 ∷ []), tt) ((rt δ4 z3.0), (r1, (2, (x2, tt)))) tt r)))) (id⊢ 𝓤 _) $ await ! tt $ pick ! (λ r4. split ! $ move ! (1 ∷ []) $
-          use1 𝓛 (some (λ (z4 : Table × (Unit {0} × (Unit {0} × (Unit {0} × Unit {0})))). ‵ (lasts store_in.ended ((ν4 ∷ []), tt) ((rt δ4 z3.0), (r1, (2, (x2, tt)))) z4) ⊛ raw (fact 𝓤 (z4.0 ≡ withHeld r1.copies x2 z3.0 2)))) (id⊢ 𝓤 _) $ pick ! (λ z4. split ! $ move ! (1 ∷ []) $ heard ! (z4.0 ≡ withHeld r1.copies x2 z3.0 2) (λ e4. fsplit ! $
+          use1 𝓛 (some (λ (z4 : Table × (Unit {0} × (Unit {0} × (Unit {0} × Unit {0})))). ‵ (lasts store_in.ended ((ν4 ∷ []), tt) ((rt δ4 z3.0), (r1, (2, (x2, tt)))) z4) ⊛ raw (fact 𝓤 (z4.0 ≡ with_held r1.copies x2 z3.0 2)))) (id⊢ 𝓤 _) $ pick ! (λ z4. split ! $ move ! (1 ∷ []) $ heard ! (z4.0 ≡ with_held r1.copies x2 z3.0 2) (λ e4. fsplit ! $
           move ! (2 ∷ []) $ split ! $ move ! (1 ∷ []) $ facts ! Nothing (Is Nothing) (shows 𝓛 Nothing) r4 (w4 ∷ []) (λ is4.
           land ! (from ! (stop !)) (store ! 20 {τ = ty_unit} {v = w4} refl ((Nothing-Lawful 𝓛).typed r4 _ is4).0) $ split ! $ lft_end ! tt $ move ! (0 ∷ 4 ∷ 2 ∷ []) $
           use3 𝓛 (later (‵ ((MutRef (named 0) κ TableR.the_row).own_val (rt γ z4.0) (vptr b o ∷ [])) ⊛ ‵ (flft κ q))) (comes_back 𝓛 TableR.the_row (named 0) κ (ν4 ∷ []) q γ b o δ4 z3.0 z4.0) $ await ! tt $ split ! $ move ! (2 ∷ 3 ∷ []) $ drop ! $ drop ! $
@@ -182,7 +182,7 @@ module _ {M : Type 1} {𝓤 : Ura M} (𝓛 : Logic 𝓤) (at_mem : Memory → SP
           use2 𝓛 (raw ((C-store-in 𝓛 at_mem run).pre (to-store-in 𝓛 at_mem run (ν5 ∷ []) full_share (rt δ5 z4.0) r1 w1 3 (vint w64 3) x2 (vint w64 x2)))) (goes-store-in 𝓛 at_mem run (ν5 ∷ []) full_share (rt δ5 z4.0) r1 w1 3 (vint w64 3) x2 (vint w64 x2) is1 (refl, lit< tt) g2) $
           calls_at ! fm (C-store-in 𝓛 at_mem run) known-store-in (to-store-in 𝓛 at_mem run (ν5 ∷ []) full_share (rt δ5 z4.0) r1 w1 3 (vint w64 3) x2 (vint w64 x2)) (and_then ! (load ! (from ! (stop !)) (look ! 10 refl)) (and_then ! (load ! (from ! (stop !)) (look ! 22 {q = full_share} {τ = CopiesL.mir} {b = l3} {o = 0} {v = w1} refl)) (and_then ! (lit ! tt) (and_then ! (load ! (from ! (stop !)) (look ! 24 {q = full_share} {τ = ty_int w64} {b = l2} {o = 0} {v = (vint w64 x2)} refl)) (no_more !))))) (λ w5.
           use1 𝓛 (later (some (λ (r : Unit {0}). ((‵ (flft (ν5 ∷ []) full_share) ⊛ ‵ ftrue) ⊛ ‵ (Nothing.own r (w5 ∷ []))) ⊛ raw (ensured 𝓛 store_in.ended (store_in.clauses 𝓛 at_mem run) ((ν5 ∷ []), tt) ((rt δ5 z4.0), (r1, (3, (x2, tt)))) tt r)))) (id⊢ 𝓤 _) $ await ! tt $ pick ! (λ r5. split ! $ move ! (1 ∷ []) $
-          use1 𝓛 (some (λ (z5 : Table × (Unit {0} × (Unit {0} × (Unit {0} × Unit {0})))). ‵ (lasts store_in.ended ((ν5 ∷ []), tt) ((rt δ5 z4.0), (r1, (3, (x2, tt)))) z5) ⊛ raw (fact 𝓤 (z5.0 ≡ withHeld r1.copies x2 z4.0 3)))) (id⊢ 𝓤 _) $ pick ! (λ z5. split ! $ move ! (1 ∷ []) $ heard ! (z5.0 ≡ withHeld r1.copies x2 z4.0 3) (λ e5. fsplit ! $
+          use1 𝓛 (some (λ (z5 : Table × (Unit {0} × (Unit {0} × (Unit {0} × Unit {0})))). ‵ (lasts store_in.ended ((ν5 ∷ []), tt) ((rt δ5 z4.0), (r1, (3, (x2, tt)))) z5) ⊛ raw (fact 𝓤 (z5.0 ≡ with_held r1.copies x2 z4.0 3)))) (id⊢ 𝓤 _) $ pick ! (λ z5. split ! $ move ! (1 ∷ []) $ heard ! (z5.0 ≡ with_held r1.copies x2 z4.0 3) (λ e5. fsplit ! $
           move ! (2 ∷ []) $ split ! $ move ! (1 ∷ []) $ facts ! Nothing (Is Nothing) (shows 𝓛 Nothing) r5 (w5 ∷ []) (λ is5.
           land ! (from ! (stop !)) (store ! 20 {τ = ty_unit} {v = w5} refl ((Nothing-Lawful 𝓛).typed r5 _ is5).0) $ split ! $ lft_end ! tt $ move ! (0 ∷ 4 ∷ 2 ∷ []) $
           use3 𝓛 (later (‵ ((MutRef (named 0) κ TableR.the_row).own_val (rt γ z5.0) (vptr b o ∷ [])) ⊛ ‵ (flft κ q))) (comes_back 𝓛 TableR.the_row (named 0) κ (ν5 ∷ []) q γ b o δ5 z4.0 z5.0) $ await ! tt $ split ! $ move ! (2 ∷ 3 ∷ []) $ drop ! $ drop ! $
@@ -194,7 +194,7 @@ module _ {M : Type 1} {𝓤 : Ura M} (𝓛 : Logic 𝓤) (at_mem : Memory → SP
           use2 𝓛 (raw ((C-store-in 𝓛 at_mem run).pre (to-store-in 𝓛 at_mem run (ν6 ∷ []) full_share (rt δ6 z5.0) r1 w1 4 (vint w64 4) x2 (vint w64 x2)))) (goes-store-in 𝓛 at_mem run (ν6 ∷ []) full_share (rt δ6 z5.0) r1 w1 4 (vint w64 4) x2 (vint w64 x2) is1 (refl, lit< tt) g2) $
           calls_at ! fm (C-store-in 𝓛 at_mem run) known-store-in (to-store-in 𝓛 at_mem run (ν6 ∷ []) full_share (rt δ6 z5.0) r1 w1 4 (vint w64 4) x2 (vint w64 x2)) (and_then ! (load ! (from ! (stop !)) (look ! 8 refl)) (and_then ! (load ! (from ! (stop !)) (look ! 22 {q = full_share} {τ = CopiesL.mir} {b = l3} {o = 0} {v = w1} refl)) (and_then ! (lit ! tt) (and_then ! (load ! (from ! (stop !)) (look ! 24 {q = full_share} {τ = ty_int w64} {b = l2} {o = 0} {v = (vint w64 x2)} refl)) (no_more !))))) (λ w6.
           use1 𝓛 (later (some (λ (r : Unit {0}). ((‵ (flft (ν6 ∷ []) full_share) ⊛ ‵ ftrue) ⊛ ‵ (Nothing.own r (w6 ∷ []))) ⊛ raw (ensured 𝓛 store_in.ended (store_in.clauses 𝓛 at_mem run) ((ν6 ∷ []), tt) ((rt δ6 z5.0), (r1, (4, (x2, tt)))) tt r)))) (id⊢ 𝓤 _) $ await ! tt $ pick ! (λ r6. split ! $ move ! (1 ∷ []) $
-          use1 𝓛 (some (λ (z6 : Table × (Unit {0} × (Unit {0} × (Unit {0} × Unit {0})))). ‵ (lasts store_in.ended ((ν6 ∷ []), tt) ((rt δ6 z5.0), (r1, (4, (x2, tt)))) z6) ⊛ raw (fact 𝓤 (z6.0 ≡ withHeld r1.copies x2 z5.0 4)))) (id⊢ 𝓤 _) $ pick ! (λ z6. split ! $ move ! (1 ∷ []) $ heard ! (z6.0 ≡ withHeld r1.copies x2 z5.0 4) (λ e6. fsplit ! $
+          use1 𝓛 (some (λ (z6 : Table × (Unit {0} × (Unit {0} × (Unit {0} × Unit {0})))). ‵ (lasts store_in.ended ((ν6 ∷ []), tt) ((rt δ6 z5.0), (r1, (4, (x2, tt)))) z6) ⊛ raw (fact 𝓤 (z6.0 ≡ with_held r1.copies x2 z5.0 4)))) (id⊢ 𝓤 _) $ pick ! (λ z6. split ! $ move ! (1 ∷ []) $ heard ! (z6.0 ≡ with_held r1.copies x2 z5.0 4) (λ e6. fsplit ! $
           move ! (2 ∷ []) $ split ! $ move ! (1 ∷ []) $ facts ! Nothing (Is Nothing) (shows 𝓛 Nothing) r6 (w6 ∷ []) (λ is6.
           land ! (from ! (stop !)) (store ! 20 {τ = ty_unit} {v = w6} refl ((Nothing-Lawful 𝓛).typed r6 _ is6).0) $ split ! $ lft_end ! tt $ move ! (0 ∷ 4 ∷ 2 ∷ []) $
           use3 𝓛 (later (‵ ((MutRef (named 0) κ TableR.the_row).own_val (rt γ z6.0) (vptr b o ∷ [])) ⊛ ‵ (flft κ q))) (comes_back 𝓛 TableR.the_row (named 0) κ (ν6 ∷ []) q γ b o δ6 z5.0 z6.0) $ await ! tt $ split ! $ move ! (2 ∷ 3 ∷ []) $ drop ! $ drop ! $
@@ -206,7 +206,7 @@ module _ {M : Type 1} {𝓤 : Ura M} (𝓛 : Logic 𝓤) (at_mem : Memory → SP
           use2 𝓛 (raw ((C-store-in 𝓛 at_mem run).pre (to-store-in 𝓛 at_mem run (ν7 ∷ []) full_share (rt δ7 z6.0) r1 w1 5 (vint w64 5) x2 (vint w64 x2)))) (goes-store-in 𝓛 at_mem run (ν7 ∷ []) full_share (rt δ7 z6.0) r1 w1 5 (vint w64 5) x2 (vint w64 x2) is1 (refl, lit< tt) g2) $
           calls_at ! fm (C-store-in 𝓛 at_mem run) known-store-in (to-store-in 𝓛 at_mem run (ν7 ∷ []) full_share (rt δ7 z6.0) r1 w1 5 (vint w64 5) x2 (vint w64 x2)) (and_then ! (load ! (from ! (stop !)) (look ! 6 refl)) (and_then ! (load ! (from ! (stop !)) (look ! 22 {q = full_share} {τ = CopiesL.mir} {b = l3} {o = 0} {v = w1} refl)) (and_then ! (lit ! tt) (and_then ! (load ! (from ! (stop !)) (look ! 24 {q = full_share} {τ = ty_int w64} {b = l2} {o = 0} {v = (vint w64 x2)} refl)) (no_more !))))) (λ w7.
           use1 𝓛 (later (some (λ (r : Unit {0}). ((‵ (flft (ν7 ∷ []) full_share) ⊛ ‵ ftrue) ⊛ ‵ (Nothing.own r (w7 ∷ []))) ⊛ raw (ensured 𝓛 store_in.ended (store_in.clauses 𝓛 at_mem run) ((ν7 ∷ []), tt) ((rt δ7 z6.0), (r1, (5, (x2, tt)))) tt r)))) (id⊢ 𝓤 _) $ await ! tt $ pick ! (λ r7. split ! $ move ! (1 ∷ []) $
-          use1 𝓛 (some (λ (z7 : Table × (Unit {0} × (Unit {0} × (Unit {0} × Unit {0})))). ‵ (lasts store_in.ended ((ν7 ∷ []), tt) ((rt δ7 z6.0), (r1, (5, (x2, tt)))) z7) ⊛ raw (fact 𝓤 (z7.0 ≡ withHeld r1.copies x2 z6.0 5)))) (id⊢ 𝓤 _) $ pick ! (λ z7. split ! $ move ! (1 ∷ []) $ heard ! (z7.0 ≡ withHeld r1.copies x2 z6.0 5) (λ e7. fsplit ! $
+          use1 𝓛 (some (λ (z7 : Table × (Unit {0} × (Unit {0} × (Unit {0} × Unit {0})))). ‵ (lasts store_in.ended ((ν7 ∷ []), tt) ((rt δ7 z6.0), (r1, (5, (x2, tt)))) z7) ⊛ raw (fact 𝓤 (z7.0 ≡ with_held r1.copies x2 z6.0 5)))) (id⊢ 𝓤 _) $ pick ! (λ z7. split ! $ move ! (1 ∷ []) $ heard ! (z7.0 ≡ with_held r1.copies x2 z6.0 5) (λ e7. fsplit ! $
           move ! (2 ∷ []) $ split ! $ move ! (1 ∷ []) $ facts ! Nothing (Is Nothing) (shows 𝓛 Nothing) r7 (w7 ∷ []) (λ is7.
           land ! (from ! (stop !)) (store ! 20 {τ = ty_unit} {v = w7} refl ((Nothing-Lawful 𝓛).typed r7 _ is7).0) $ split ! $ lft_end ! tt $ move ! (0 ∷ 4 ∷ 2 ∷ []) $
           use3 𝓛 (later (‵ ((MutRef (named 0) κ TableR.the_row).own_val (rt γ z7.0) (vptr b o ∷ [])) ⊛ ‵ (flft κ q))) (comes_back 𝓛 TableR.the_row (named 0) κ (ν7 ∷ []) q γ b o δ7 z6.0 z7.0) $ await ! tt $ split ! $ move ! (2 ∷ 3 ∷ []) $ drop ! $ drop ! $
@@ -218,7 +218,7 @@ module _ {M : Type 1} {𝓤 : Ura M} (𝓛 : Logic 𝓤) (at_mem : Memory → SP
           use2 𝓛 (raw ((C-store-in 𝓛 at_mem run).pre (to-store-in 𝓛 at_mem run (ν8 ∷ []) full_share (rt δ8 z7.0) r1 w1 6 (vint w64 6) x2 (vint w64 x2)))) (goes-store-in 𝓛 at_mem run (ν8 ∷ []) full_share (rt δ8 z7.0) r1 w1 6 (vint w64 6) x2 (vint w64 x2) is1 (refl, lit< tt) g2) $
           calls_at ! fm (C-store-in 𝓛 at_mem run) known-store-in (to-store-in 𝓛 at_mem run (ν8 ∷ []) full_share (rt δ8 z7.0) r1 w1 6 (vint w64 6) x2 (vint w64 x2)) (and_then ! (load ! (from ! (stop !)) (look ! 4 refl)) (and_then ! (load ! (from ! (stop !)) (look ! 22 {q = full_share} {τ = CopiesL.mir} {b = l3} {o = 0} {v = w1} refl)) (and_then ! (lit ! tt) (and_then ! (load ! (from ! (stop !)) (look ! 24 {q = full_share} {τ = ty_int w64} {b = l2} {o = 0} {v = (vint w64 x2)} refl)) (no_more !))))) (λ w8.
           use1 𝓛 (later (some (λ (r : Unit {0}). ((‵ (flft (ν8 ∷ []) full_share) ⊛ ‵ ftrue) ⊛ ‵ (Nothing.own r (w8 ∷ []))) ⊛ raw (ensured 𝓛 store_in.ended (store_in.clauses 𝓛 at_mem run) ((ν8 ∷ []), tt) ((rt δ8 z7.0), (r1, (6, (x2, tt)))) tt r)))) (id⊢ 𝓤 _) $ await ! tt $ pick ! (λ r8. split ! $ move ! (1 ∷ []) $
-          use1 𝓛 (some (λ (z8 : Table × (Unit {0} × (Unit {0} × (Unit {0} × Unit {0})))). ‵ (lasts store_in.ended ((ν8 ∷ []), tt) ((rt δ8 z7.0), (r1, (6, (x2, tt)))) z8) ⊛ raw (fact 𝓤 (z8.0 ≡ withHeld r1.copies x2 z7.0 6)))) (id⊢ 𝓤 _) $ pick ! (λ z8. split ! $ move ! (1 ∷ []) $ heard ! (z8.0 ≡ withHeld r1.copies x2 z7.0 6) (λ e8. fsplit ! $
+          use1 𝓛 (some (λ (z8 : Table × (Unit {0} × (Unit {0} × (Unit {0} × Unit {0})))). ‵ (lasts store_in.ended ((ν8 ∷ []), tt) ((rt δ8 z7.0), (r1, (6, (x2, tt)))) z8) ⊛ raw (fact 𝓤 (z8.0 ≡ with_held r1.copies x2 z7.0 6)))) (id⊢ 𝓤 _) $ pick ! (λ z8. split ! $ move ! (1 ∷ []) $ heard ! (z8.0 ≡ with_held r1.copies x2 z7.0 6) (λ e8. fsplit ! $
           move ! (2 ∷ []) $ split ! $ move ! (1 ∷ []) $ facts ! Nothing (Is Nothing) (shows 𝓛 Nothing) r8 (w8 ∷ []) (λ is8.
           land ! (from ! (stop !)) (store ! 20 {τ = ty_unit} {v = w8} refl ((Nothing-Lawful 𝓛).typed r8 _ is8).0) $ split ! $ lft_end ! tt $ move ! (0 ∷ 4 ∷ 2 ∷ []) $
           use3 𝓛 (later (‵ ((MutRef (named 0) κ TableR.the_row).own_val (rt γ z8.0) (vptr b o ∷ [])) ⊛ ‵ (flft κ q))) (comes_back 𝓛 TableR.the_row (named 0) κ (ν8 ∷ []) q γ b o δ8 z7.0 z8.0) $ await ! tt $ split ! $ move ! (2 ∷ 3 ∷ []) $ drop ! $ drop ! $
@@ -230,7 +230,7 @@ module _ {M : Type 1} {𝓤 : Ura M} (𝓛 : Logic 𝓤) (at_mem : Memory → SP
           use2 𝓛 (raw ((C-store-in 𝓛 at_mem run).pre (to-store-in 𝓛 at_mem run (ν9 ∷ []) full_share (rt δ9 z8.0) r1 w1 7 (vint w64 7) x2 (vint w64 x2)))) (goes-store-in 𝓛 at_mem run (ν9 ∷ []) full_share (rt δ9 z8.0) r1 w1 7 (vint w64 7) x2 (vint w64 x2) is1 (refl, lit< tt) g2) $
           calls_at ! fm (C-store-in 𝓛 at_mem run) known-store-in (to-store-in 𝓛 at_mem run (ν9 ∷ []) full_share (rt δ9 z8.0) r1 w1 7 (vint w64 7) x2 (vint w64 x2)) (and_then ! (load ! (from ! (stop !)) (look ! 2 refl)) (and_then ! (load ! (from ! (stop !)) (look ! 22 {q = full_share} {τ = CopiesL.mir} {b = l3} {o = 0} {v = w1} refl)) (and_then ! (lit ! tt) (and_then ! (load ! (from ! (stop !)) (look ! 24 {q = full_share} {τ = ty_int w64} {b = l2} {o = 0} {v = (vint w64 x2)} refl)) (no_more !))))) (λ w9.
           use1 𝓛 (later (some (λ (r : Unit {0}). ((‵ (flft (ν9 ∷ []) full_share) ⊛ ‵ ftrue) ⊛ ‵ (Nothing.own r (w9 ∷ []))) ⊛ raw (ensured 𝓛 store_in.ended (store_in.clauses 𝓛 at_mem run) ((ν9 ∷ []), tt) ((rt δ9 z8.0), (r1, (7, (x2, tt)))) tt r)))) (id⊢ 𝓤 _) $ await ! tt $ pick ! (λ r9. split ! $ move ! (1 ∷ []) $
-          use1 𝓛 (some (λ (z9 : Table × (Unit {0} × (Unit {0} × (Unit {0} × Unit {0})))). ‵ (lasts store_in.ended ((ν9 ∷ []), tt) ((rt δ9 z8.0), (r1, (7, (x2, tt)))) z9) ⊛ raw (fact 𝓤 (z9.0 ≡ withHeld r1.copies x2 z8.0 7)))) (id⊢ 𝓤 _) $ pick ! (λ z9. split ! $ move ! (1 ∷ []) $ heard ! (z9.0 ≡ withHeld r1.copies x2 z8.0 7) (λ e9. fsplit ! $
+          use1 𝓛 (some (λ (z9 : Table × (Unit {0} × (Unit {0} × (Unit {0} × Unit {0})))). ‵ (lasts store_in.ended ((ν9 ∷ []), tt) ((rt δ9 z8.0), (r1, (7, (x2, tt)))) z9) ⊛ raw (fact 𝓤 (z9.0 ≡ with_held r1.copies x2 z8.0 7)))) (id⊢ 𝓤 _) $ pick ! (λ z9. split ! $ move ! (1 ∷ []) $ heard ! (z9.0 ≡ with_held r1.copies x2 z8.0 7) (λ e9. fsplit ! $
           move ! (2 ∷ []) $ split ! $ move ! (1 ∷ []) $ facts ! Nothing (Is Nothing) (shows 𝓛 Nothing) r9 (w9 ∷ []) (λ is9.
           land ! (from ! (stop !)) (store ! 20 {τ = ty_unit} {v = w9} refl ((Nothing-Lawful 𝓛).typed r9 _ is9).0) $ split ! $ lft_end ! tt $ move ! (0 ∷ 4 ∷ 2 ∷ []) $
           use3 𝓛 (later (‵ ((MutRef (named 0) κ TableR.the_row).own_val (rt γ z9.0) (vptr b o ∷ [])) ⊛ ‵ (flft κ q))) (comes_back 𝓛 TableR.the_row (named 0) κ (ν9 ∷ []) q γ b o δ9 z8.0 z9.0) $ await ! tt $ split ! $ move ! (2 ∷ 3 ∷ []) $ drop ! $ drop ! $
@@ -238,7 +238,7 @@ module _ {M : Type 1} {𝓤 : Ura M} (𝓛 : Logic 𝓤) (at_mem : Memory → SP
           returns ! (look ! 28 {q = full_share} {τ = ty_unit} {b = l0} {o = 0} {v = vunit} refl) $
           forget ! 2 refl $ forget ! 4 refl $ forget ! 6 refl $ forget ! 8 refl $ forget ! 10 refl $ forget ! 12 refl $ forget ! 14 refl $ forget ! 16 refl $ forget ! 18 refl $ forget ! 20 refl $ forget ! 22 refl $ forget ! 24 refl $ forget ! 26 refl $ forget ! 28 refl $
           move ! (28 ∷ 29 ∷ []) $ free1 ! $ move ! (26 ∷ 27 ∷ []) $ free1 ! $ move ! (24 ∷ 25 ∷ []) $ free1 ! $ move ! (22 ∷ 23 ∷ []) $ free1 ! $ move ! (20 ∷ 21 ∷ []) $ free1 ! $ move ! (18 ∷ 19 ∷ []) $ free1 ! $ move ! (16 ∷ 17 ∷ []) $ free1 ! $ move ! (14 ∷ 15 ∷ []) $ free1 ! $ move ! (12 ∷ 13 ∷ []) $ free1 ! $ move ! (10 ∷ 11 ∷ []) $ free1 ! $ move ! (8 ∷ 9 ∷ []) $ free1 ! $ move ! (6 ∷ 7 ∷ []) $ free1 ! $ move ! (4 ∷ 5 ∷ []) $ free1 ! $ move ! (2 ∷ 3 ∷ []) $ free1 ! $ free0 ! $
-          by ! (exits z9.0 (block-is h x2 r1 z2.0 z3.0 z4.0 z5.0 z6.0 z7.0 z8.0 z9.0 e1 e2 e3 e4 e5 e6 e7 e8 e9))))))))))))))))))))))))))))))))))))))))))))))))))))))))))))))))))))))))))))))
+          by ! (exits z9.0 (block_is h x2 r1 z2.0 z3.0 z4.0 z5.0 z6.0 z7.0 z8.0 z9.0 e1 e2 e3 e4 e5 e6 e7 e8 e9))))))))))))))))))))))))))))))))))))))))))))))))))))))))))))))))))))))))))))))
 
 module _ {M : Type 1} {𝓤 : Ura M} (𝓛 : Logic 𝓤) (at_mem : Memory → SProp 𝓤) (run : Routine → Fun 𝓤) where
   open 𝓛 use {H}

@@ -45,10 +45,10 @@ use denote.Triple.Table.{entered, cited}
 use denote.Triple.Walked.{says, Stays, stay_ref, walk_of, AllGo, Walks, ends_at, walked, Goes-ref, walk_Meets}
 use Rattle.rules.specs.declared.Table.{Table}
 use Rattle.rules.specs.contracts.Table as TableR
-use Rattle.rules.specs.Tables.{withRecords}
-use Rattle.rules.specs.Events.{settledIn}
-use Rattle.epoch_lent.specs.Steps.{withBlock}
-use Rattle.epoch_lent.proofs.Laws.{tableTo, table-begins, table-next, table-ends}
+use Rattle.rules.specs.Tables.{with_records}
+use Rattle.rules.specs.Events.{settled_in}
+use Rattle.epoch_lent.specs.Steps.{with_block}
+use Rattle.epoch_lent.proofs.Laws.{table_to, table-begins, table-next, table-ends}
 use Rattle.table_lent.proofs.Bodies.{ty_at, inside, after}
 use Rattle.table_lent.proofs.Hole.{reaches, passes}
 use Rattle.table_lent.proofs.Parts.{records-sized}
@@ -104,7 +104,7 @@ module _ {M : Type 1} {𝓤 : Ura M} (𝓛 : Logic 𝓤) (at_mem : Memory → SP
   Post = (walk_of 𝓛 me.ended stayed (me.clauses 𝓛 at_mem run)).post (((κ, tt), (q, tt), tt, x, vs), tt)
 
   module _ (_ : Unit {0}) where
-    exits : (z : Table) → z ≡ withRecords h (settledIn h.creation h.chunks h.records) → ent 𝓤 (⋆ 𝓛 (‵ ((MutRef (named 0) κ TableR.the_row).own_val (rt γ z) (vptr b o ∷ [])) ∷ ‵ (flft κ q) ∷ [])) (Post vunit)
+    exits : (z : Table) → z ≡ with_records h (settled_in h.creation h.chunks h.records) → ent 𝓤 (⋆ 𝓛 (‵ ((MutRef (named 0) κ TableR.the_row).own_val (rt γ z) (vptr b o ∷ [])) ∷ ‵ (flft κ q) ∷ [])) (Post vunit)
     exits z eq =
         qed 𝓛 (‵ ((MutRef (named 0) κ TableR.the_row).own_val (rt γ z) (vptr b o ∷ [])) ∷ ‵ (flft κ q) ∷ []) ∵
         suffices ! _ (ends_at 𝓛 me.ended stayed (me.clauses 𝓛 at_mem run) (((κ, tt), (q, tt), tt, x, vs), tt) vunit tt (z, tt) (tt, tt)) $ says ! eq $
@@ -132,7 +132,7 @@ module _ {M : Type 1} {𝓤 : Ura M} (𝓛 : Logic 𝓤) (at_mem : Memory → SP
       module _ (records-len : length h.records ≡ 128) (l0 l1 l2 l3 l4 l5 l6 : ℕ) where
         abbrev At : Upto → List (Item 𝓤)
         At i =
-            ‵ ((MutRef (named 0) κ TableR.the_row).own_val (rt γ (tableTo h records-len i.0)) (vptr b o ∷ [])) ∷ ‵ (flft κ q)
+            ‵ ((MutRef (named 0) κ TableR.the_row).own_val (rt γ (table_to h records-len i.0)) (vptr b o ∷ [])) ∷ ‵ (flft κ q)
             ∷ ‵ (froom (ty 6) l6 0) ∷ ‵ (fdies (ty 6) l6)
             ∷ ‵ (froom (ty 5) l5 0) ∷ ‵ (fdies (ty 5) l5)
             ∷ ‵ (froom (ty 4) l4 0) ∷ ‵ (fdies (ty 4) l4)
@@ -157,15 +157,15 @@ module _ {M : Type 1} {𝓤 : Ura M} (𝓛 : Logic 𝓤) (at_mem : Memory → SP
             assigns ! (addr ! (from ! (hop ! (look ! 12 refl) (stop !)))) (from ! (stop !)) (init ! 2 refl (tt, tt)) $
             -- _5 = epoch_lent::settle_block_in(_6, _2)
             lft_new ! tt (λ ν1. move ! (1 ∷ 2 ∷ []) $
-            use2 𝓛 (later (some (λ (δ : GName). ‵ ((MutRef (named 0) (ν1 ∷ []) TableR.the_row).own_val (rt δ (tableTo h records-len i.0)) (vptr b o ∷ [])) ⊛ ‵ (LentAgain TableR.the_row κ (ν1 ∷ []) q γ b o δ (tableTo h records-len i.0))))) (lends_again 𝓛 TableR.the_row (named 0) κ (ν1 ∷ []) q γ b o (named 0) (tableTo h records-len i.0)) $
+            use2 𝓛 (later (some (λ (δ : GName). ‵ ((MutRef (named 0) (ν1 ∷ []) TableR.the_row).own_val (rt δ (table_to h records-len i.0)) (vptr b o ∷ [])) ⊛ ‵ (LentAgain TableR.the_row κ (ν1 ∷ []) q γ b o δ (table_to h records-len i.0))))) (lends_again 𝓛 TableR.the_row (named 0) κ (ν1 ∷ []) q γ b o (named 0) (table_to h records-len i.0)) $
             await ! tt $ pick ! (λ δ1. split ! $ move ! (2 ∷ 0 ∷ []) $
-            use2 𝓛 (raw ((C-settle-block-in 𝓛 at_mem run).pre (to-settle-block-in 𝓛 at_mem run (ν1 ∷ []) full_share (rt δ1 (tableTo h records-len i.0)) i.0 (vint w64 i.0)))) (goes-settle-block-in 𝓛 at_mem run (ν1 ∷ []) full_share (rt δ1 (tableTo h records-len i.0)) i.0 (vint w64 i.0) (refl, lt_of_le_of_lt i.1 (lit< tt))) $
-            calls_at ! fm (C-settle-block-in 𝓛 at_mem run) known-settle-block-in (to-settle-block-in 𝓛 at_mem run (ν1 ∷ []) full_share (rt δ1 (tableTo h records-len i.0)) i.0 (vint w64 i.0)) (and_then ! (load ! (from ! (stop !)) (look ! 2 refl)) (and_then ! (load ! (from ! (stop !)) (look ! 10 {q = full_share} {τ = ty_int w64} {b = l2} {o = 0} {v = (vint w64 i.0)} refl)) (no_more !))) (λ w1.
-            use1 𝓛 (later (some (λ (r : Unit {0}). ((‵ (flft (ν1 ∷ []) full_share) ⊛ ‵ ftrue) ⊛ ‵ (Nothing.own r (w1 ∷ []))) ⊛ raw (ensured 𝓛 settle-block-in.ended (settle-block-in.clauses 𝓛 at_mem run) ((ν1 ∷ []), tt) ((rt δ1 (tableTo h records-len i.0)), (i.0, tt)) tt r)))) (id⊢ 𝓤 _) $ await ! tt $ pick ! (λ r1. split ! $ move ! (1 ∷ []) $
-            use1 𝓛 (some (λ (z1 : Table × (Unit {0} × Unit {0})). ‵ (lasts settle-block-in.ended ((ν1 ∷ []), tt) ((rt δ1 (tableTo h records-len i.0)), (i.0, tt)) z1) ⊛ raw (fact 𝓤 (z1.0 ≡ withBlock (tableTo h records-len i.0) i.0)))) (id⊢ 𝓤 _) $ pick ! (λ z1. split ! $ move ! (1 ∷ []) $ heard ! (z1.0 ≡ withBlock (tableTo h records-len i.0) i.0) (λ e1. fsplit ! $
+            use2 𝓛 (raw ((C-settle-block-in 𝓛 at_mem run).pre (to-settle-block-in 𝓛 at_mem run (ν1 ∷ []) full_share (rt δ1 (table_to h records-len i.0)) i.0 (vint w64 i.0)))) (goes-settle-block-in 𝓛 at_mem run (ν1 ∷ []) full_share (rt δ1 (table_to h records-len i.0)) i.0 (vint w64 i.0) (refl, lt_of_le_of_lt i.1 (lit< tt))) $
+            calls_at ! fm (C-settle-block-in 𝓛 at_mem run) known-settle-block-in (to-settle-block-in 𝓛 at_mem run (ν1 ∷ []) full_share (rt δ1 (table_to h records-len i.0)) i.0 (vint w64 i.0)) (and_then ! (load ! (from ! (stop !)) (look ! 2 refl)) (and_then ! (load ! (from ! (stop !)) (look ! 10 {q = full_share} {τ = ty_int w64} {b = l2} {o = 0} {v = (vint w64 i.0)} refl)) (no_more !))) (λ w1.
+            use1 𝓛 (later (some (λ (r : Unit {0}). ((‵ (flft (ν1 ∷ []) full_share) ⊛ ‵ ftrue) ⊛ ‵ (Nothing.own r (w1 ∷ []))) ⊛ raw (ensured 𝓛 settle-block-in.ended (settle-block-in.clauses 𝓛 at_mem run) ((ν1 ∷ []), tt) ((rt δ1 (table_to h records-len i.0)), (i.0, tt)) tt r)))) (id⊢ 𝓤 _) $ await ! tt $ pick ! (λ r1. split ! $ move ! (1 ∷ []) $
+            use1 𝓛 (some (λ (z1 : Table × (Unit {0} × Unit {0})). ‵ (lasts settle-block-in.ended ((ν1 ∷ []), tt) ((rt δ1 (table_to h records-len i.0)), (i.0, tt)) z1) ⊛ raw (fact 𝓤 (z1.0 ≡ with_block (table_to h records-len i.0) i.0)))) (id⊢ 𝓤 _) $ pick ! (λ z1. split ! $ move ! (1 ∷ []) $ heard ! (z1.0 ≡ with_block (table_to h records-len i.0) i.0) (λ e1. fsplit ! $
             move ! (2 ∷ []) $ split ! $ move ! (1 ∷ []) $ facts ! Nothing (Is Nothing) (shows 𝓛 Nothing) r1 (w1 ∷ []) (λ is1.
             land ! (from ! (stop !)) (init ! 6 {τ = ty_unit} {v = w1} refl ((Nothing-Lawful 𝓛).typed r1 _ is1).0) $ split ! $ lft_end ! tt $ move ! (0 ∷ 4 ∷ 2 ∷ []) $
-            use3 𝓛 (later (‵ ((MutRef (named 0) κ TableR.the_row).own_val (rt γ z1.0) (vptr b o ∷ [])) ⊛ ‵ (flft κ q))) (comes_back 𝓛 TableR.the_row (named 0) κ (ν1 ∷ []) q γ b o δ1 (tableTo h records-len i.0) z1.0) $ await ! tt $ split ! $ move ! (2 ∷ 3 ∷ []) $ drop ! $ drop ! $
+            use3 𝓛 (later (‵ ((MutRef (named 0) κ TableR.the_row).own_val (rt γ z1.0) (vptr b o ∷ [])) ⊛ ‵ (flft κ q))) (comes_back 𝓛 TableR.the_row (named 0) κ (ν1 ∷ []) q γ b o δ1 (table_to h records-len i.0) z1.0) $ await ! tt $ split ! $ move ! (2 ∷ 3 ∷ []) $ drop ! $ drop ! $
             assigns_last ! (bin ! (load ! (from ! (stop !)) (look ! 10 {q = full_share} {τ = ty_int w64} {b = l2} {o = 0} {v = (vint w64 i.0)} refl)) (lit ! tt) (record { fits = lt_of_le_of_lt (add-one-le (reaches i.0 _ 16 held (leb→le _ _ tt))) (lit< tt) })) (from ! (stop !)) (store ! 10 refl (tt, record { fits = lt_of_le_of_lt (add-one-le (reaches i.0 _ 16 held (leb→le _ _ tt))) (lit< tt) })) $
             rewrite ! 0 (λ (z : Table). ‵ ((MutRef (named 0) κ TableR.the_row).own_val (rt γ z) (vptr b o ∷ []))) (e1 ∙ table-next h records-len i.0 (reaches i.0 _ 16 held (leb→le _ _ tt))) refl $
             forget ! 2 refl $ forget ! 4 refl $ forget ! 6 refl $ forget ! 8 refl $ again ! Nearer At i (i.0 + 1, add-one-le (reaches i.0 _ 16 held (leb→le _ _ tt))) (add-one-dec 16 i.0 (reaches i.0 _ 16 held (leb→le _ _ tt)))))))))))
@@ -176,7 +176,7 @@ module _ {M : Type 1} {𝓤 : Ura M} (𝓛 : Logic 𝓤) (at_mem : Memory → SP
             returns ! (look ! 14 {q = full_share} {τ = ty_unit} {b = l0} {o = 0} {v = vunit} refl) $
             forget ! 6 refl $ forget ! 8 refl $ forget ! 10 refl $ forget ! 12 refl $ forget ! 14 refl $
             move ! (14 ∷ 15 ∷ []) $ free1 ! $ move ! (12 ∷ 13 ∷ []) $ free1 ! $ move ! (10 ∷ 11 ∷ []) $ free1 ! $ move ! (8 ∷ 9 ∷ []) $ free1 ! $ move ! (6 ∷ 7 ∷ []) $ free1 ! $ move ! (4 ∷ 5 ∷ []) $ free1 ! $ move ! (2 ∷ 3 ∷ []) $ free1 ! $ free0 ! $
-            by ! (exits (tableTo h records-len i.0) (table-ends h records-len i.0 i.1 (passes i.0 _ 16 failed (leb→le _ _ tt)))))
+            by ! (exits (table_to h records-len i.0) (table-ends h records-len i.0 i.1 (passes i.0 _ 16 failed (leb→le _ _ tt)))))
 
       walk : ent 𝓤 (on_entry 𝓛 me.signature (κ, tt) (q, tt) x vs) (WpFn 𝓤 H C Λ code.function (vptr b o ∷ []) Post)
       walk =

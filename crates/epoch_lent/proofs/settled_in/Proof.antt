@@ -43,8 +43,8 @@ use Rattle.rules.proofs.Copy.TheLaws as CopyL
 use Rattle.rules.specs.declared.Table.{Table}
 use Rattle.rules.specs.contracts.Table as TableR
 use Rattle.rules.specs.Settlement.{settled}
-use Rattle.epoch_lent.specs.Steps.{copy_at, copiesAt}
-use Rattle.epoch_lent.proofs.Laws.{copies-are}
+use Rattle.epoch_lent.specs.Steps.{copy_at, copies_at}
+use Rattle.epoch_lent.proofs.Laws.{copies_are}
 use Rattle.epoch_lent.specs.contracts.copy_in as copy-in
 use Rattle.epoch_lent.proofs.copy_in.Symbol as copy-in-def
 use Rattle.epoch_lent.proofs.copy_in.Symbol.{name as #epoch_lent·copy-in}
@@ -106,7 +106,7 @@ module _ {M : Type 1} {𝓤 : Ura M} (𝓛 : Logic 𝓤) (at_mem : Memory → SP
   Post = (walk_of 𝓛 me.ended stayed (me.clauses 𝓛 at_mem run)).post (((κ, tt), (q, tt), tt, x, vs), tt)
 
   module _ (g2 : Is usize x2 ((vint w64 x2) ∷ [])) where
-    exits : (r : Copies) (v : Val) → Is CopiesR.the_row r (v ∷ []) → r ≡ record { copies = settled (copiesAt h x2) } → ent 𝓤 (⋆ 𝓛 (‵ (flft κ q) ∷ ‵ ((ShrRef (named 0) κ TableR.the_row).own_val (rt γ h) (vptr b o ∷ [])) ∷ [])) (Post v)
+    exits : (r : Copies) (v : Val) → Is CopiesR.the_row r (v ∷ []) → r ≡ record { copies = settled (copies_at h x2) } → ent 𝓤 (⋆ 𝓛 (‵ (flft κ q) ∷ ‵ ((ShrRef (named 0) κ TableR.the_row).own_val (rt γ h) (vptr b o ∷ [])) ∷ [])) (Post v)
     exits r v g eq =
         qed 𝓛 (‵ (flft κ q) ∷ ‵ ((ShrRef (named 0) κ TableR.the_row).own_val (rt γ h) (vptr b o ∷ [])) ∷ []) ∵
         suffices ! _ (ends_at 𝓛 me.ended stayed (me.clauses 𝓛 at_mem run) (((κ, tt), (q, tt), tt, x, vs), tt) v r (tt, (tt, tt)) (tt, (tt, tt))) $ says ! eq $
@@ -202,7 +202,7 @@ module _ {M : Type 1} {𝓤 : Ura M} (𝓛 : Logic 𝓤) (at_mem : Memory → SP
           returns ! (look ! 22 {q = full_share} {τ = CopiesL.mir} {b = l0} {o = 0} {v = w9} refl) $
           forget ! 2 refl $ forget ! 4 refl $ forget ! 6 refl $ forget ! 8 refl $ forget ! 10 refl $ forget ! 12 refl $ forget ! 14 refl $ forget ! 16 refl $ forget ! 18 refl $ forget ! 20 refl $ forget ! 22 refl $
           move ! (22 ∷ 23 ∷ []) $ free1 ! $ move ! (20 ∷ 21 ∷ []) $ free1 ! $ move ! (18 ∷ 19 ∷ []) $ free1 ! $ move ! (16 ∷ 17 ∷ []) $ free1 ! $ move ! (14 ∷ 15 ∷ []) $ free1 ! $ move ! (12 ∷ 13 ∷ []) $ free1 ! $ move ! (10 ∷ 11 ∷ []) $ free1 ! $ move ! (8 ∷ 9 ∷ []) $ free1 ! $ move ! (6 ∷ 7 ∷ []) $ free1 ! $ move ! (4 ∷ 5 ∷ []) $ free1 ! $ move ! (2 ∷ 3 ∷ []) $ free1 ! $ free0 ! $
-          by ! (exits r9 w9 is9 (copies-are h x2 r1 r2 r3 r4 r5 r6 r7 r8 e1 e2 e3 e4 e5 e6 e7 e8 r9 e9)))))))))))))))))))))))))))))))))))))))))))))))))
+          by ! (exits r9 w9 is9 (copies_are h x2 r1 r2 r3 r4 r5 r6 r7 r8 e1 e2 e3 e4 e5 e6 e7 e8 r9 e9)))))))))))))))))))))))))))))))))))))))))))))))))
 
 module _ {M : Type 1} {𝓤 : Ura M} (𝓛 : Logic 𝓤) (at_mem : Memory → SProp 𝓤) (run : Routine → Fun 𝓤) where
   open 𝓛 use {H}

@@ -44,9 +44,9 @@ use Rattle.rules.specs.contracts.Chunk as ChunkR
 use Rattle.rules.proofs.Chunk.TheLaws as ChunkL
 use Rattle.rules.specs.declared.Table.{Table}
 use Rattle.rules.specs.contracts.Table as TableR
-use Rattle.rules.specs.Tables.{withChunks}
-use Rattle.rules.specs.Tables.{withChunk}
-use Rattle.epoch_lent.specs.Steps.{chunkAt, withChunkAt}
+use Rattle.rules.specs.Tables.{with_chunks}
+use Rattle.rules.specs.Tables.{with_chunk}
+use Rattle.epoch_lent.specs.Steps.{chunk_at, with_chunk_at}
 use Rattle.epoch_lent.specs.contracts.chunk_at as chunk-at
 use Rattle.epoch_lent.proofs.chunk_at.Symbol as chunk-at-def
 use Rattle.epoch_lent.proofs.chunk_at.Symbol.{name as #epoch_lent·chunk-at}
@@ -67,8 +67,8 @@ module _ {M : Type 1} {𝓤 : Ura M} (𝓛 : Logic 𝓤) (at_mem : Memory → SP
   abbrev C-chunk-at : Contract 𝓤
   C-chunk-at = triple_of 𝓛 chunk-at.signature (chunk-at.spec 𝓛 at_mem run)
 
-  said-chunk-at : (x0 : Chunks) (x1 : ℕ) (r : Chunk) → ent 𝓤 (ensured 𝓛 chunk-at.ended (chunk-at.clauses 𝓛 at_mem run) tt (x0, (x1, tt)) tt r) (fact 𝓤 (r ≡ chunkAt x0.chunks x1))
-  said-chunk-at x0 x1 r = ex_e 𝓤 _ (λ ws. snd∗ 𝓤 (sem 𝓛 (lasts chunk-at.ended tt (x0, (x1, tt)) ws)) (fact 𝓤 (r ≡ chunkAt x0.chunks x1)))
+  said-chunk-at : (x0 : Chunks) (x1 : ℕ) (r : Chunk) → ent 𝓤 (ensured 𝓛 chunk-at.ended (chunk-at.clauses 𝓛 at_mem run) tt (x0, (x1, tt)) tt r) (fact 𝓤 (r ≡ chunk_at x0.chunks x1))
+  said-chunk-at x0 x1 r = ex_e 𝓤 _ (λ ws. snd∗ 𝓤 (sem 𝓛 (lasts chunk-at.ended tt (x0, (x1, tt)) ws)) (fact 𝓤 (r ≡ chunk_at x0.chunks x1)))
 
   abbrev C-put-chunk : Contract 𝓤
   C-put-chunk = triple_of 𝓛 put-chunk.signature (put-chunk.spec 𝓛 at_mem run)
@@ -105,7 +105,7 @@ module _ {M : Type 1} {𝓤 : Ura M} (𝓛 : Logic 𝓤) (at_mem : Memory → SP
   Post = (walk_of 𝓛 me.ended stayed (me.clauses 𝓛 at_mem run)).post (((κ, tt), (q, tt), tt, x, vs), tt)
 
   module _ (g2 : Is ChunksR.the_row x2 (m2 ∷ [])) (g3 : Is usize x3 ((vint w64 x3) ∷ [])) where
-    exits : (z : Table) → z ≡ withChunkAt x2.chunks h x3 → ent 𝓤 (⋆ 𝓛 (‵ ((MutRef (named 0) κ TableR.the_row).own_val (rt γ z) (vptr b o ∷ [])) ∷ ‵ (flft κ q) ∷ [])) (Post vunit)
+    exits : (z : Table) → z ≡ with_chunk_at x2.chunks h x3 → ent 𝓤 (⋆ 𝓛 (‵ ((MutRef (named 0) κ TableR.the_row).own_val (rt γ z) (vptr b o ∷ [])) ∷ ‵ (flft κ q) ∷ [])) (Post vunit)
     exits z eq =
         qed 𝓛 (‵ ((MutRef (named 0) κ TableR.the_row).own_val (rt γ z) (vptr b o ∷ [])) ∷ ‵ (flft κ q) ∷ []) ∵
         suffices ! _ (ends_at 𝓛 me.ended stayed (me.clauses 𝓛 at_mem run) (((κ, tt), (q, tt), tt, x, vs), tt) vunit tt (z, (tt, (tt, tt))) (tt, (tt, (tt, tt)))) $ says ! eq $
@@ -132,7 +132,7 @@ module _ {M : Type 1} {𝓤 : Ura M} (𝓛 : Logic 𝓤) (at_mem : Memory → SP
           nothing ! $ use1 𝓛 (raw ((C-chunk-at 𝓛 at_mem run).pre (to-chunk-at 𝓛 at_mem run x2 m2 x3 (vint w64 x3)))) (goes-chunk-at 𝓛 at_mem run x2 m2 x3 (vint w64 x3) g2 g3) $
           calls_at ! fm (C-chunk-at 𝓛 at_mem run) known-chunk-at (to-chunk-at 𝓛 at_mem run x2 m2 x3 (vint w64 x3)) (and_then ! (load ! (from ! (stop !)) (look ! 11 {q = full_share} {τ = ChunksL.mir} {b = l2} {o = 0} {v = m2} refl)) (and_then ! (load ! (from ! (stop !)) (look ! 9 {q = full_share} {τ = ty_int w64} {b = l3} {o = 0} {v = (vint w64 x3)} refl)) (no_more !))) (λ w1.
           use1 𝓛 (later (some (λ (r : Chunk). (‵ ftrue ⊛ ‵ ((ChunkR.the_row).own_val r (w1 ∷ []))) ⊛ raw (ensured 𝓛 chunk-at.ended (chunk-at.clauses 𝓛 at_mem run) tt (x2, (x3, tt)) tt r)))) (id⊢ 𝓤 _) $ await ! tt $ pick ! (λ r1. split ! $ move ! (1 ∷ []) $
-          use1 𝓛 (raw (fact 𝓤 (r1 ≡ chunkAt x2.chunks x3))) (said-chunk-at 𝓛 at_mem run x2 x3 r1) $ heard ! (r1 ≡ chunkAt x2.chunks x3) (λ e1. split ! $ drop ! $ facts ! ChunkR.the_row (Is ChunkR.the_row) (shows 𝓛 ChunkR.the_row) r1 (w1 ∷ []) (λ is1.
+          use1 𝓛 (raw (fact 𝓤 (r1 ≡ chunk_at x2.chunks x3))) (said-chunk-at 𝓛 at_mem run x2 x3 r1) $ heard ! (r1 ≡ chunk_at x2.chunks x3) (λ e1. split ! $ drop ! $ facts ! ChunkR.the_row (Is ChunkR.the_row) (shows 𝓛 ChunkR.the_row) r1 (w1 ∷ []) (λ is1.
           land ! (from ! (stop !)) (init ! 6 {τ = ChunkL.mir} {v = w1} refl ((LL.lawful ChunkR.the_type ChunkL.the_laws 𝓛).typed r1 _ is1).0) $
           assigns ! (addr ! (from ! (hop ! (look ! 12 refl) (stop !)))) (from ! (stop !)) (init ! 2 refl (tt, tt)) $
           -- _5 = table_chunks::put_chunk(_6, _3, _4)
@@ -142,7 +142,7 @@ module _ {M : Type 1} {𝓤 : Ura M} (𝓛 : Logic 𝓤) (at_mem : Memory → SP
           use2 𝓛 (raw ((C-put-chunk 𝓛 at_mem run).pre (to-put-chunk 𝓛 at_mem run (ν2 ∷ []) full_share (rt δ2 h) x3 (vint w64 x3) r1 w1))) (goes-put-chunk 𝓛 at_mem run (ν2 ∷ []) full_share (rt δ2 h) x3 (vint w64 x3) r1 w1 g3 is1) $
           calls_at ! fm (C-put-chunk 𝓛 at_mem run) known-put-chunk (to-put-chunk 𝓛 at_mem run (ν2 ∷ []) full_share (rt δ2 h) x3 (vint w64 x3) r1 w1) (and_then ! (load ! (from ! (stop !)) (look ! 2 refl)) (and_then ! (load ! (from ! (stop !)) (look ! 8 {q = full_share} {τ = ty_int w64} {b = l3} {o = 0} {v = (vint w64 x3)} refl)) (and_then ! (load ! (from ! (stop !)) (look ! 6 {q = full_share} {τ = ChunkL.mir} {b = l4} {o = 0} {v = w1} refl)) (no_more !)))) (λ w2.
           use1 𝓛 (later (some (λ (r : Unit {0}). ((‵ (flft (ν2 ∷ []) full_share) ⊛ ‵ ftrue) ⊛ ‵ (Nothing.own r (w2 ∷ []))) ⊛ raw (ensured 𝓛 put-chunk.ended (put-chunk.clauses 𝓛 at_mem run) ((ν2 ∷ []), tt) ((rt δ2 h), (x3, (r1, tt))) tt r)))) (id⊢ 𝓤 _) $ await ! tt $ pick ! (λ r2. split ! $ move ! (1 ∷ []) $
-          use1 𝓛 (some (λ (z2 : Table × (Unit {0} × (Unit {0} × Unit {0}))). ‵ (lasts put-chunk.ended ((ν2 ∷ []), tt) ((rt δ2 h), (x3, (r1, tt))) z2) ⊛ raw (fact 𝓤 (z2.0 ≡ withChunks h (set h.chunks x3 r1))))) (id⊢ 𝓤 _) $ pick ! (λ z2. split ! $ move ! (1 ∷ []) $ heard ! (z2.0 ≡ withChunks h (set h.chunks x3 r1)) (λ e2. fsplit ! $
+          use1 𝓛 (some (λ (z2 : Table × (Unit {0} × (Unit {0} × Unit {0}))). ‵ (lasts put-chunk.ended ((ν2 ∷ []), tt) ((rt δ2 h), (x3, (r1, tt))) z2) ⊛ raw (fact 𝓤 (z2.0 ≡ with_chunks h (set h.chunks x3 r1))))) (id⊢ 𝓤 _) $ pick ! (λ z2. split ! $ move ! (1 ∷ []) $ heard ! (z2.0 ≡ with_chunks h (set h.chunks x3 r1)) (λ e2. fsplit ! $
           move ! (2 ∷ []) $ split ! $ move ! (1 ∷ []) $ facts ! Nothing (Is Nothing) (shows 𝓛 Nothing) r2 (w2 ∷ []) (λ is2.
           land ! (from ! (stop !)) (init ! 6 {τ = ty_unit} {v = w2} refl ((Nothing-Lawful 𝓛).typed r2 _ is2).0) $ split ! $ lft_end ! tt $ move ! (0 ∷ 4 ∷ 2 ∷ []) $
           use3 𝓛 (later (‵ ((MutRef (named 0) κ TableR.the_row).own_val (rt γ z2.0) (vptr b o ∷ [])) ⊛ ‵ (flft κ q))) (comes_back 𝓛 TableR.the_row (named 0) κ (ν2 ∷ []) q γ b o δ2 h z2.0) $ await ! tt $ split ! $ move ! (2 ∷ 3 ∷ []) $ drop ! $ drop ! $
@@ -150,7 +150,7 @@ module _ {M : Type 1} {𝓤 : Ura M} (𝓛 : Logic 𝓤) (at_mem : Memory → SP
           returns ! (look ! 14 {q = full_share} {τ = ty_unit} {b = l0} {o = 0} {v = vunit} refl) $
           forget ! 2 refl $ forget ! 4 refl $ forget ! 6 refl $ forget ! 8 refl $ forget ! 10 refl $ forget ! 12 refl $ forget ! 14 refl $
           move ! (14 ∷ 15 ∷ []) $ free1 ! $ move ! (12 ∷ 13 ∷ []) $ free1 ! $ move ! (10 ∷ 11 ∷ []) $ free1 ! $ move ! (8 ∷ 9 ∷ []) $ free1 ! $ move ! (6 ∷ 7 ∷ []) $ free1 ! $ move ! (4 ∷ 5 ∷ []) $ free1 ! $ move ! (2 ∷ 3 ∷ []) $ free1 ! $ free0 ! $
-          by ! (exits z2.0 (e2 ∙ ap (λ (c : Chunk). withChunk h x3 c) e1))))))))))))))))))))
+          by ! (exits z2.0 (e2 ∙ ap (λ (c : Chunk). with_chunk h x3 c) e1))))))))))))))))))))
 
 module _ {M : Type 1} {𝓤 : Ura M} (𝓛 : Logic 𝓤) (at_mem : Memory → SProp 𝓤) (run : Routine → Fun 𝓤) where
   open 𝓛 use {H}

@@ -44,10 +44,10 @@ use Rattle.rules.specs.contracts.Record as RecordR
 use Rattle.rules.proofs.Record.TheLaws as RecordL
 use Rattle.rules.specs.declared.Table.{Table}
 use Rattle.rules.specs.contracts.Table as TableR
-use Rattle.rules.specs.Tables.{withRecords}
-use Rattle.table_records.specs.Numbers.{recordNumber}
-use Rattle.epoch_lent.specs.Steps.{heldAt, withHeld}
-use Rattle.epoch_lent.proofs.Laws.{held-is}
+use Rattle.rules.specs.Tables.{with_records}
+use Rattle.table_records.specs.Numbers.{record_number}
+use Rattle.epoch_lent.specs.Steps.{held_at, with_held}
+use Rattle.epoch_lent.proofs.Laws.{held_is}
 use Rattle.table_records.specs.contracts.record_number as record-number
 use Rattle.table_records.proofs.record_number.Symbol as record-number-def
 use Rattle.table_records.proofs.record_number.Symbol.{name as #table_records·record-number}
@@ -72,14 +72,14 @@ module _ {M : Type 1} {𝓤 : Ura M} (𝓛 : Logic 𝓤) (at_mem : Memory → SP
   abbrev C-record-number : Contract 𝓤
   C-record-number = triple_of 𝓛 record-number.signature (record-number.spec 𝓛 at_mem run)
 
-  said-record-number : (x0 : ℕ) (x1 : ℕ) (r : ℕ) → ent 𝓤 (ensured 𝓛 record-number.ended (record-number.clauses 𝓛 at_mem run) tt (x0, (x1, tt)) tt r) (fact 𝓤 (r ≡ recordNumber x0 x1))
-  said-record-number x0 x1 r = ex_e 𝓤 _ (λ ws. snd∗ 𝓤 (sem 𝓛 (lasts record-number.ended tt (x0, (x1, tt)) ws)) (fact 𝓤 (r ≡ recordNumber x0 x1)))
+  said-record-number : (x0 : ℕ) (x1 : ℕ) (r : ℕ) → ent 𝓤 (ensured 𝓛 record-number.ended (record-number.clauses 𝓛 at_mem run) tt (x0, (x1, tt)) tt r) (fact 𝓤 (r ≡ record_number x0 x1))
+  said-record-number x0 x1 r = ex_e 𝓤 _ (λ ws. snd∗ 𝓤 (sem 𝓛 (lasts record-number.ended tt (x0, (x1, tt)) ws)) (fact 𝓤 (r ≡ record_number x0 x1)))
 
   abbrev C-held-at : Contract 𝓤
   C-held-at = triple_of 𝓛 held_at.signature (held_at.spec 𝓛 at_mem run)
 
-  said-held-at : (x0 : Copies) (x1 : ℕ) (r : Record) → ent 𝓤 (ensured 𝓛 held_at.ended (held_at.clauses 𝓛 at_mem run) tt (x0, (x1, tt)) tt r) (fact 𝓤 (r ≡ heldAt x0.copies x1))
-  said-held-at x0 x1 r = ex_e 𝓤 _ (λ ws. snd∗ 𝓤 (sem 𝓛 (lasts held_at.ended tt (x0, (x1, tt)) ws)) (fact 𝓤 (r ≡ heldAt x0.copies x1)))
+  said-held-at : (x0 : Copies) (x1 : ℕ) (r : Record) → ent 𝓤 (ensured 𝓛 held_at.ended (held_at.clauses 𝓛 at_mem run) tt (x0, (x1, tt)) tt r) (fact 𝓤 (r ≡ held_at x0.copies x1))
+  said-held-at x0 x1 r = ex_e 𝓤 _ (λ ws. snd∗ 𝓤 (sem 𝓛 (lasts held_at.ended tt (x0, (x1, tt)) ws)) (fact 𝓤 (r ≡ held_at x0.copies x1)))
 
   abbrev C-put-record : Contract 𝓤
   C-put-record = triple_of 𝓛 put_record.signature (put_record.spec 𝓛 at_mem run)
@@ -122,7 +122,7 @@ module _ {M : Type 1} {𝓤 : Ura M} (𝓛 : Logic 𝓤) (at_mem : Memory → SP
   Post = (walk_of 𝓛 me.ended stayed (me.clauses 𝓛 at_mem run)).post (((κ, tt), (q, tt), tt, x, vs), tt)
 
   module _ (g2 : Is CopiesR.the_row x2 (m2 ∷ [])) (g3 : Is usize x3 ((vint w64 x3) ∷ [])) (g4 : Is usize x4 ((vint w64 x4) ∷ [])) where
-    exits : (z : Table) → z ≡ withHeld x2.copies x4 h x3 → ent 𝓤 (⋆ 𝓛 (‵ ((MutRef (named 0) κ TableR.the_row).own_val (rt γ z) (vptr b o ∷ [])) ∷ ‵ (flft κ q) ∷ [])) (Post vunit)
+    exits : (z : Table) → z ≡ with_held x2.copies x4 h x3 → ent 𝓤 (⋆ 𝓛 (‵ ((MutRef (named 0) κ TableR.the_row).own_val (rt γ z) (vptr b o ∷ [])) ∷ ‵ (flft κ q) ∷ [])) (Post vunit)
     exits z eq =
         qed 𝓛 (‵ ((MutRef (named 0) κ TableR.the_row).own_val (rt γ z) (vptr b o ∷ [])) ∷ ‵ (flft κ q) ∷ []) ∵
         suffices ! _ (ends_at 𝓛 me.ended stayed (me.clauses 𝓛 at_mem run) (((κ, tt), (q, tt), tt, x, vs), tt) vunit tt (z, (tt, (tt, (tt, tt)))) (tt, (tt, (tt, (tt, tt))))) $ says ! eq $
@@ -149,13 +149,13 @@ module _ {M : Type 1} {𝓤 : Ura M} (𝓛 : Logic 𝓤) (at_mem : Memory → SP
           nothing ! $ use1 𝓛 (raw ((C-record-number 𝓛 at_mem run).pre (to-record-number 𝓛 at_mem run x3 (vint w64 x3) x4 (vint w64 x4)))) (goes-record-number 𝓛 at_mem run x3 (vint w64 x3) x4 (vint w64 x4) g3 g4) $
           calls_at ! fm (C-record-number 𝓛 at_mem run) known-record-number (to-record-number 𝓛 at_mem run x3 (vint w64 x3) x4 (vint w64 x4)) (and_then ! (load ! (from ! (stop !)) (look ! 13 {q = full_share} {τ = ty_int w64} {b = l3} {o = 0} {v = (vint w64 x3)} refl)) (and_then ! (load ! (from ! (stop !)) (look ! 11 {q = full_share} {τ = ty_int w64} {b = l4} {o = 0} {v = (vint w64 x4)} refl)) (no_more !))) (λ w1.
           use1 𝓛 (later (some (λ (r : ℕ). (‵ ftrue ⊛ ‵ (usize.own_val r (w1 ∷ []))) ⊛ raw (ensured 𝓛 record-number.ended (record-number.clauses 𝓛 at_mem run) tt (x3, (x4, tt)) tt r)))) (id⊢ 𝓤 _) $ await ! tt $ pick ! (λ r1. split ! $ move ! (1 ∷ []) $
-          use1 𝓛 (raw (fact 𝓤 (r1 ≡ recordNumber x3 x4))) (said-record-number 𝓛 at_mem run x3 x4 r1) $ heard ! (r1 ≡ recordNumber x3 x4) (λ e1. split ! $ drop ! $ facts ! usize (Is usize) (shows 𝓛 usize) r1 (w1 ∷ []) (λ is1.
+          use1 𝓛 (raw (fact 𝓤 (r1 ≡ record_number x3 x4))) (said-record-number 𝓛 at_mem run x3 x4 r1) $ heard ! (r1 ≡ record_number x3 x4) (λ e1. split ! $ drop ! $ facts ! usize (Is usize) (shows 𝓛 usize) r1 (w1 ∷ []) (λ is1.
           land ! (from ! (stop !)) (init ! 8 {τ = ty_int w64} {v = w1} refl ((uint_Lawful 𝓛 w64).typed r1 _ is1).0) $
           -- _6 = epoch_lent::held_at(_2, _3)
           nothing ! $ use1 𝓛 (raw ((C-held-at 𝓛 at_mem run).pre (to-held-at 𝓛 at_mem run x2 m2 x3 (vint w64 x3)))) (goes-held-at 𝓛 at_mem run x2 m2 x3 (vint w64 x3) g2 g3) $
           calls_at ! fm (C-held-at 𝓛 at_mem run) known-held-at (to-held-at 𝓛 at_mem run x2 m2 x3 (vint w64 x3)) (and_then ! (load ! (from ! (stop !)) (look ! 15 {q = full_share} {τ = CopiesL.mir} {b = l2} {o = 0} {v = m2} refl)) (and_then ! (load ! (from ! (stop !)) (look ! 13 {q = full_share} {τ = ty_int w64} {b = l3} {o = 0} {v = (vint w64 x3)} refl)) (no_more !))) (λ w2.
           use1 𝓛 (later (some (λ (r : Record). (‵ ftrue ⊛ ‵ ((RecordR.the_row).own_val r (w2 ∷ []))) ⊛ raw (ensured 𝓛 held_at.ended (held_at.clauses 𝓛 at_mem run) tt (x2, (x3, tt)) tt r)))) (id⊢ 𝓤 _) $ await ! tt $ pick ! (λ r2. split ! $ move ! (1 ∷ []) $
-          use1 𝓛 (raw (fact 𝓤 (r2 ≡ heldAt x2.copies x3))) (said-held-at 𝓛 at_mem run x2 x3 r2) $ heard ! (r2 ≡ heldAt x2.copies x3) (λ e2. split ! $ drop ! $ facts ! RecordR.the_row (Is RecordR.the_row) (shows 𝓛 RecordR.the_row) r2 (w2 ∷ []) (λ is2.
+          use1 𝓛 (raw (fact 𝓤 (r2 ≡ held_at x2.copies x3))) (said-held-at 𝓛 at_mem run x2 x3 r2) $ heard ! (r2 ≡ held_at x2.copies x3) (λ e2. split ! $ drop ! $ facts ! RecordR.the_row (Is RecordR.the_row) (shows 𝓛 RecordR.the_row) r2 (w2 ∷ []) (λ is2.
           land ! (from ! (stop !)) (init ! 6 {τ = RecordL.mir} {v = w2} refl ((LL.lawful RecordR.the_type RecordL.the_laws 𝓛).typed r2 _ is2).0) $
           assigns ! (addr ! (from ! (hop ! (look ! 16 refl) (stop !)))) (from ! (stop !)) (init ! 2 refl (tt, tt)) $
           -- _7 = table_records::put_record(_8, _5, _6)
@@ -165,7 +165,7 @@ module _ {M : Type 1} {𝓤 : Ura M} (𝓛 : Logic 𝓤) (at_mem : Memory → SP
           use2 𝓛 (raw ((C-put-record 𝓛 at_mem run).pre (to-put-record 𝓛 at_mem run (ν3 ∷ []) full_share (rt δ3 h) r1 w1 r2 w2))) (goes-put-record 𝓛 at_mem run (ν3 ∷ []) full_share (rt δ3 h) r1 w1 r2 w2 is1 is2) $
           calls_at ! fm (C-put-record 𝓛 at_mem run) known-put-record (to-put-record 𝓛 at_mem run (ν3 ∷ []) full_share (rt δ3 h) r1 w1 r2 w2) (and_then ! (load ! (from ! (stop !)) (look ! 2 refl)) (and_then ! (load ! (from ! (stop !)) (look ! 8 {q = full_share} {τ = ty_int w64} {b = l5} {o = 0} {v = w1} refl)) (and_then ! (load ! (from ! (stop !)) (look ! 6 {q = full_share} {τ = RecordL.mir} {b = l6} {o = 0} {v = w2} refl)) (no_more !)))) (λ w3.
           use1 𝓛 (later (some (λ (r : Unit {0}). ((‵ (flft (ν3 ∷ []) full_share) ⊛ ‵ ftrue) ⊛ ‵ (Nothing.own r (w3 ∷ []))) ⊛ raw (ensured 𝓛 put_record.ended (put_record.clauses 𝓛 at_mem run) ((ν3 ∷ []), tt) ((rt δ3 h), (r1, (r2, tt))) tt r)))) (id⊢ 𝓤 _) $ await ! tt $ pick ! (λ r3. split ! $ move ! (1 ∷ []) $
-          use1 𝓛 (some (λ (z3 : Table × (Unit {0} × (Unit {0} × Unit {0}))). ‵ (lasts put_record.ended ((ν3 ∷ []), tt) ((rt δ3 h), (r1, (r2, tt))) z3) ⊛ raw (fact 𝓤 (z3.0 ≡ withRecords h (set h.records r1 r2))))) (id⊢ 𝓤 _) $ pick ! (λ z3. split ! $ move ! (1 ∷ []) $ heard ! (z3.0 ≡ withRecords h (set h.records r1 r2)) (λ e3. fsplit ! $
+          use1 𝓛 (some (λ (z3 : Table × (Unit {0} × (Unit {0} × Unit {0}))). ‵ (lasts put_record.ended ((ν3 ∷ []), tt) ((rt δ3 h), (r1, (r2, tt))) z3) ⊛ raw (fact 𝓤 (z3.0 ≡ with_records h (set h.records r1 r2))))) (id⊢ 𝓤 _) $ pick ! (λ z3. split ! $ move ! (1 ∷ []) $ heard ! (z3.0 ≡ with_records h (set h.records r1 r2)) (λ e3. fsplit ! $
           move ! (2 ∷ []) $ split ! $ move ! (1 ∷ []) $ facts ! Nothing (Is Nothing) (shows 𝓛 Nothing) r3 (w3 ∷ []) (λ is3.
           land ! (from ! (stop !)) (init ! 6 {τ = ty_unit} {v = w3} refl ((Nothing-Lawful 𝓛).typed r3 _ is3).0) $ split ! $ lft_end ! tt $ move ! (0 ∷ 4 ∷ 2 ∷ []) $
           use3 𝓛 (later (‵ ((MutRef (named 0) κ TableR.the_row).own_val (rt γ z3.0) (vptr b o ∷ [])) ⊛ ‵ (flft κ q))) (comes_back 𝓛 TableR.the_row (named 0) κ (ν3 ∷ []) q γ b o δ3 h z3.0) $ await ! tt $ split ! $ move ! (2 ∷ 3 ∷ []) $ drop ! $ drop ! $
@@ -173,7 +173,7 @@ module _ {M : Type 1} {𝓤 : Ura M} (𝓛 : Logic 𝓤) (at_mem : Memory → SP
           returns ! (look ! 18 {q = full_share} {τ = ty_unit} {b = l0} {o = 0} {v = vunit} refl) $
           forget ! 2 refl $ forget ! 4 refl $ forget ! 6 refl $ forget ! 8 refl $ forget ! 10 refl $ forget ! 12 refl $ forget ! 14 refl $ forget ! 16 refl $ forget ! 18 refl $
           move ! (18 ∷ 19 ∷ []) $ free1 ! $ move ! (16 ∷ 17 ∷ []) $ free1 ! $ move ! (14 ∷ 15 ∷ []) $ free1 ! $ move ! (12 ∷ 13 ∷ []) $ free1 ! $ move ! (10 ∷ 11 ∷ []) $ free1 ! $ move ! (8 ∷ 9 ∷ []) $ free1 ! $ move ! (6 ∷ 7 ∷ []) $ free1 ! $ move ! (4 ∷ 5 ∷ []) $ free1 ! $ move ! (2 ∷ 3 ∷ []) $ free1 ! $ free0 ! $
-          by ! (exits z3.0 (held-is h z3.0 x2 x3 x4 r1 r2 e1 e2 e3))))))))))))))))))))))))))
+          by ! (exits z3.0 (held_is h z3.0 x2 x3 x4 r1 r2 e1 e2 e3))))))))))))))))))))))))))
 
 module _ {M : Type 1} {𝓤 : Ura M} (𝓛 : Logic 𝓤) (at_mem : Memory → SProp 𝓤) (run : Routine → Fun 𝓤) where
   open 𝓛 use {H}

@@ -6,7 +6,7 @@ use lib.ListN.{length, drop}
 use borrow.Author.Rules.{rules}
 use borrow.Author.Tests.{not-true, not-false}
 use Rattle.rules.specs.Words.{every}
-use Rattle.rules.specs.Zero.{noCopy}
+use Rattle.rules.specs.Zero.{no_copy}
 use Rattle.rules.proofs.Loops.{every-other, every_here, every-end}
 use Rattle.epoch_settle.specs.Steps.{agrees}
 use Rattle.epoch_settle.proofs.Laws.{agreed-steps}
@@ -20,7 +20,7 @@ abbrev decreases-loop : tie.decreases-loop
 decreases-loop t copies i₀ i = 8 - i
 
 len : (c : tie.Start invariant-loop decreases-loop) → length c.args.t1 ≡ 8
-len c = c.well-formed.0.1.0.1
+len c = c.well_formed_lem.0.1.0.1
 
 loop-holds : tie.Need-loop-init invariant-loop decreases-loop
 loop-holds c = (search rules, refl)
@@ -30,21 +30,21 @@ returns c =
     let l = c.before.before.before.before in
     let a = l.before.args in
     let k = len l.before in
-    sym (sym (agreed-steps a.t a.t1) ∙ l.loop.invariant.1 ∙ every_here (agrees a.t) noCopy a.t1 l.loop.i (omega arith) (sym c.before.agrees.ensures ∙ not-true _ c.if1.true))
+    sym (sym (agreed-steps a.t a.t1) ∙ l.loop.invariant.1 ∙ every_here (agrees a.t) no_copy a.t1 l.loop.i (omega arith) (sym c.before.agrees.ensures ∙ not-true _ c.if1.true))
 
 loop-again : tie.Need-loop-preserved invariant-loop decreases-loop
 loop-again c =
     let l = c.before.before.before.before in
     let a = l.before.args in
     let k = len l.before in
-    (omega arith, l.loop.invariant.1 ∙ every-other (agrees a.t) noCopy a.t1 l.loop.i (omega arith) (sym c.before.agrees.ensures ∙ not-false _ c.if1.false))
+    (omega arith, l.loop.invariant.1 ∙ every-other (agrees a.t) no_copy a.t1 l.loop.i (omega arith) (sym c.before.agrees.ensures ∙ not-false _ c.if1.false))
 
 returns-2 : tie.Need-returns-2 invariant-loop decreases-loop
 returns-2 c =
     let l = c.before in
     let a = l.before.args in
     let k = len l.before in
-    sym (sym (agreed-steps a.t a.t1) ∙ l.loop.invariant.1 ∙ every-end (agrees a.t) noCopy a.t1 l.loop.i (omega arith))
+    sym (sym (agreed-steps a.t a.t1) ∙ l.loop.invariant.1 ∙ every-end (agrees a.t) no_copy a.t1 l.loop.i (omega arith))
 
 pub agreed-spec : {M : Type 1} → statement M
 agreed-spec =

@@ -6,20 +6,20 @@ use lib.ListN.{length}
 use borrow.Author.Rules.{rules}
 use Rattle.rules.specs.declared.Record.{Record}
 use Rattle.rules.specs.Words.{each}
-use Rattle.rules.specs.Zero.{zeroWaiting, noCopy}
-use Rattle.rules.proofs.Loops.{eachTo, each-end}
-use Rattle.epoch_settle.proofs.Laws.{settledCopy, copy-next, settled_is}
+use Rattle.rules.specs.Zero.{zero_waiting, no_copy}
+use Rattle.rules.proofs.Loops.{each_to, each-end}
+use Rattle.epoch_settle.proofs.Laws.{settled_copy, copy-next, settled_is}
 use Rattle.epoch_settle.proofs.settle.Statement.{statement}
 use Rattle.epoch_settle.proofs.settle.Tie as tie
 
 abbrev invariant-loop : tie.invariant-loop
-invariant-loop copies s copy₀ out₀ i₀ copy out i = (i ≤ 8) × (copy.held.waiting ≡ zeroWaiting) × (out ≡ eachTo (settledCopy copies) i copies)
+invariant-loop copies s copy₀ out₀ i₀ copy out i = (i ≤ 8) × (copy.held.waiting ≡ zero_waiting) × (out ≡ each_to (settled_copy copies) i copies)
 
 abbrev decreases-loop : tie.decreases-loop
 decreases-loop copies s copy₀ out₀ i₀ copy out i = 8 - i
 
 len : (c : tie.Start invariant-loop decreases-loop) → length c.args.t1 ≡ 8
-len c = c.well-formed.0.1.0.1
+len c = c.well_formed_lem.0.1.0.1
 
 loop-holds : tie.Need-loop-init invariant-loop decreases-loop
 unfolding each
@@ -43,7 +43,7 @@ returns c =
     let l = c.before in
     let s = l.before.before.before in
     let k = len s in
-    l.loop.invariant.2 ∙ each-end (settledCopy s.args.t1) noCopy s.args.t1 l.loop.i (omega arith) ∙ settled_is s.args.t1
+    l.loop.invariant.2 ∙ each-end (settled_copy s.args.t1) no_copy s.args.t1 l.loop.i (omega arith) ∙ settled_is s.args.t1
 
 pub settle-spec : {M : Type 1} → statement M
 settle-spec =

@@ -52,10 +52,10 @@ use Rattle.rules.specs.contracts.Slot as SlotR
 use Rattle.rules.proofs.Slot.TheLaws as SlotL
 use Rattle.rules.specs.declared.Table.{Table}
 use Rattle.rules.specs.contracts.Table as TableR
-use Rattle.rules.specs.Zero.{zeroHost, zeroPlace}
-use Rattle.event_operands.specs.Address.{placeAt, hostAt}
-use Rattle.event_lent.specs.Touches.{hereBy, hereIn}
-use Rattle.event_lent.proofs.Laws.{here-is}
+use Rattle.rules.specs.Zero.{zero_host, zero_place}
+use Rattle.event_operands.specs.Address.{place_at, host_at}
+use Rattle.event_lent.specs.Touches.{here_by, here_in}
+use Rattle.event_lent.proofs.Laws.{here_is}
 use Rattle.event_operands.specs.contracts.place_at as place_at
 use Rattle.event_operands.proofs.place_at.Symbol as place-at-def
 use Rattle.event_operands.proofs.place_at.Symbol.{name as #event_operands·place-at}
@@ -92,14 +92,14 @@ module _ {M : Type 1} {𝓤 : Ura M} (𝓛 : Logic 𝓤) (at_mem : Memory → SP
   abbrev C-place-at : Contract 𝓤
   C-place-at = triple_of 𝓛 place_at.signature (place_at.spec 𝓛 at_mem run)
 
-  said-place-at : (x0 : Event) (r : ℕ) → ent 𝓤 (ensured 𝓛 place_at.ended (place_at.clauses 𝓛 at_mem run) tt (x0, tt) tt r) (fact 𝓤 (r ≡ placeAt x0))
-  said-place-at x0 r = ex_e 𝓤 _ (λ ws. snd∗ 𝓤 (sem 𝓛 (lasts place_at.ended tt (x0, tt) ws)) (fact 𝓤 (r ≡ placeAt x0)))
+  said-place-at : (x0 : Event) (r : ℕ) → ent 𝓤 (ensured 𝓛 place_at.ended (place_at.clauses 𝓛 at_mem run) tt (x0, tt) tt r) (fact 𝓤 (r ≡ place_at x0))
+  said-place-at x0 r = ex_e 𝓤 _ (λ ws. snd∗ 𝓤 (sem 𝓛 (lasts place_at.ended tt (x0, tt) ws)) (fact 𝓤 (r ≡ place_at x0)))
 
   abbrev C-place-in : Contract 𝓤
   C-place-in = triple_of 𝓛 IsPlace-in.signature (IsPlace-in.spec 𝓛 at_mem run)
 
-  said-place-in : (κ : Lft) (t : Bor Table) (x0 : ℕ) (r : Place) → ent 𝓤 (ensured 𝓛 IsPlace-in.ended (IsPlace-in.clauses 𝓛 at_mem run) (κ, tt) (t, (x0, tt)) tt r) (fact 𝓤 (r ≡ get_or t.now.places x0 zeroPlace))
-  said-place-in κ t x0 r = ex_e 𝓤 _ (λ ws. snd∗ 𝓤 (sem 𝓛 (lasts IsPlace-in.ended (κ, tt) (t, (x0, tt)) ws)) (fact 𝓤 (r ≡ get_or t.now.places x0 zeroPlace)))
+  said-place-in : (κ : Lft) (t : Bor Table) (x0 : ℕ) (r : Place) → ent 𝓤 (ensured 𝓛 IsPlace-in.ended (IsPlace-in.clauses 𝓛 at_mem run) (κ, tt) (t, (x0, tt)) tt r) (fact 𝓤 (r ≡ get_or t.now.places x0 zero_place))
+  said-place-in κ t x0 r = ex_e 𝓤 _ (λ ws. snd∗ 𝓤 (sem 𝓛 (lasts IsPlace-in.ended (κ, tt) (t, (x0, tt)) ws)) (fact 𝓤 (r ≡ get_or t.now.places x0 zero_place)))
 
   abbrev C-slot-of : Contract 𝓤
   C-slot-of = triple_of 𝓛 slot_of.signature (slot_of.spec 𝓛 at_mem run)
@@ -110,20 +110,20 @@ module _ {M : Type 1} {𝓤 : Ura M} (𝓛 : Logic 𝓤) (at_mem : Memory → SP
   abbrev C-host-at : Contract 𝓤
   C-host-at = triple_of 𝓛 host-at.signature (host-at.spec 𝓛 at_mem run)
 
-  said-host-at : (x0 : Event) (x1 : Slot) (r : ℕ) → ent 𝓤 (ensured 𝓛 host-at.ended (host-at.clauses 𝓛 at_mem run) tt (x0, (x1, tt)) tt r) (fact 𝓤 (r ≡ hostAt x0 x1))
-  said-host-at x0 x1 r = ex_e 𝓤 _ (λ ws. snd∗ 𝓤 (sem 𝓛 (lasts host-at.ended tt (x0, (x1, tt)) ws)) (fact 𝓤 (r ≡ hostAt x0 x1)))
+  said-host-at : (x0 : Event) (x1 : Slot) (r : ℕ) → ent 𝓤 (ensured 𝓛 host-at.ended (host-at.clauses 𝓛 at_mem run) tt (x0, (x1, tt)) tt r) (fact 𝓤 (r ≡ host_at x0 x1))
+  said-host-at x0 x1 r = ex_e 𝓤 _ (λ ws. snd∗ 𝓤 (sem 𝓛 (lasts host-at.ended tt (x0, (x1, tt)) ws)) (fact 𝓤 (r ≡ host_at x0 x1)))
 
   abbrev C-host-in : Contract 𝓤
   C-host-in = triple_of 𝓛 host-in.signature (host-in.spec 𝓛 at_mem run)
 
-  said-host-in : (κ : Lft) (t : Bor Table) (x0 : ℕ) (r : Host) → ent 𝓤 (ensured 𝓛 host-in.ended (host-in.clauses 𝓛 at_mem run) (κ, tt) (t, (x0, tt)) tt r) (fact 𝓤 (r ≡ get_or t.now.hosts x0 zeroHost))
-  said-host-in κ t x0 r = ex_e 𝓤 _ (λ ws. snd∗ 𝓤 (sem 𝓛 (lasts host-in.ended (κ, tt) (t, (x0, tt)) ws)) (fact 𝓤 (r ≡ get_or t.now.hosts x0 zeroHost)))
+  said-host-in : (κ : Lft) (t : Bor Table) (x0 : ℕ) (r : Host) → ent 𝓤 (ensured 𝓛 host-in.ended (host-in.clauses 𝓛 at_mem run) (κ, tt) (t, (x0, tt)) tt r) (fact 𝓤 (r ≡ get_or t.now.hosts x0 zero_host))
+  said-host-in κ t x0 r = ex_e 𝓤 _ (λ ws. snd∗ 𝓤 (sem 𝓛 (lasts host-in.ended (κ, tt) (t, (x0, tt)) ws)) (fact 𝓤 (r ≡ get_or t.now.hosts x0 zero_host)))
 
   abbrev C-here-by : Contract 𝓤
   C-here-by = triple_of 𝓛 here-by.signature (here-by.spec 𝓛 at_mem run)
 
-  said-here-by : (x0 : Event) (x1 : Slot) (x2 : ℕ) (x3 : Host) (r : Here) → ent 𝓤 (ensured 𝓛 here-by.ended (here-by.clauses 𝓛 at_mem run) tt (x0, (x1, (x2, (x3, tt)))) tt r) (fact 𝓤 (r ≡ hereBy x0 x1 x2 x3))
-  said-here-by x0 x1 x2 x3 r = ex_e 𝓤 _ (λ ws. snd∗ 𝓤 (sem 𝓛 (lasts here-by.ended tt (x0, (x1, (x2, (x3, tt)))) ws)) (fact 𝓤 (r ≡ hereBy x0 x1 x2 x3)))
+  said-here-by : (x0 : Event) (x1 : Slot) (x2 : ℕ) (x3 : Host) (r : Here) → ent 𝓤 (ensured 𝓛 here-by.ended (here-by.clauses 𝓛 at_mem run) tt (x0, (x1, (x2, (x3, tt)))) tt r) (fact 𝓤 (r ≡ here_by x0 x1 x2 x3))
+  said-here-by x0 x1 x2 x3 r = ex_e 𝓤 _ (λ ws. snd∗ 𝓤 (sem 𝓛 (lasts here-by.ended tt (x0, (x1, (x2, (x3, tt)))) ws)) (fact 𝓤 (r ≡ here_by x0 x1 x2 x3)))
 
 module _ {M : Type 1} {𝓤 : Ura M} (𝓛 : Logic 𝓤) (at_mem : Memory → SProp 𝓤) (run : Routine → Fun 𝓤) where
   open 𝓛 use {A}
@@ -182,7 +182,7 @@ module _ {M : Type 1} {𝓤 : Ura M} (𝓛 : Logic 𝓤) (at_mem : Memory → SP
   Post = (walk_of 𝓛 me.ended stayed (me.clauses 𝓛 at_mem run)).post (((κ, tt), (q, tt), tt, x, vs), tt)
 
   module _ (g2 : Is EventR.the_row x2 (m2 ∷ [])) where
-    exits : (r : Here) (v : Val) → Is HereR.the_row r (v ∷ []) → r ≡ hereIn h x2 → ent 𝓤 (⋆ 𝓛 (‵ (flft κ q) ∷ ‵ ((ShrRef (named 0) κ TableR.the_row).own_val (rt γ h) (vptr b o ∷ [])) ∷ [])) (Post v)
+    exits : (r : Here) (v : Val) → Is HereR.the_row r (v ∷ []) → r ≡ here_in h x2 → ent 𝓤 (⋆ 𝓛 (‵ (flft κ q) ∷ ‵ ((ShrRef (named 0) κ TableR.the_row).own_val (rt γ h) (vptr b o ∷ [])) ∷ [])) (Post v)
     exits r v g eq =
         qed 𝓛 (‵ (flft κ q) ∷ ‵ ((ShrRef (named 0) κ TableR.the_row).own_val (rt γ h) (vptr b o ∷ [])) ∷ []) ∵
         suffices ! _ (ends_at 𝓛 me.ended stayed (me.clauses 𝓛 at_mem run) (((κ, tt), (q, tt), tt, x, vs), tt) v r (tt, (tt, tt)) (tt, (tt, tt))) $ says ! eq $
@@ -209,14 +209,14 @@ module _ {M : Type 1} {𝓤 : Ura M} (𝓛 : Logic 𝓤) (at_mem : Memory → SP
           nothing ! $ use1 𝓛 (raw ((C-place-at 𝓛 at_mem run).pre (to-place-at 𝓛 at_mem run x2 m2))) (goes-place-at 𝓛 at_mem run x2 m2 g2) $
           calls_at ! fm (C-place-at 𝓛 at_mem run) known-place-at (to-place-at 𝓛 at_mem run x2 m2) (and_then ! (load ! (from ! (stop !)) (look ! 13 {q = full_share} {τ = EventL.mir} {b = l2} {o = 0} {v = m2} refl)) (no_more !)) (λ w1.
           use1 𝓛 (later (some (λ (r : ℕ). (‵ ftrue ⊛ ‵ (usize.own_val r (w1 ∷ []))) ⊛ raw (ensured 𝓛 place_at.ended (place_at.clauses 𝓛 at_mem run) tt (x2, tt) tt r)))) (id⊢ 𝓤 _) $ await ! tt $ pick ! (λ r1. split ! $ move ! (1 ∷ []) $
-          use1 𝓛 (raw (fact 𝓤 (r1 ≡ placeAt x2))) (said-place-at 𝓛 at_mem run x2 r1) $ heard ! (r1 ≡ placeAt x2) (λ e1. split ! $ drop ! $ facts ! usize (Is usize) (shows 𝓛 usize) r1 (w1 ∷ []) (λ is1.
+          use1 𝓛 (raw (fact 𝓤 (r1 ≡ place_at x2))) (said-place-at 𝓛 at_mem run x2 r1) $ heard ! (r1 ≡ place_at x2) (λ e1. split ! $ drop ! $ facts ! usize (Is usize) (shows 𝓛 usize) r1 (w1 ∷ []) (λ is1.
           land ! (from ! (stop !)) (init ! 4 {τ = ty_int w64} {v = w1} refl ((uint_Lawful 𝓛 w64).typed r1 _ is1).0) $
           -- _5 = table_places::place_in(_1, _6)
           move ! (1 ∷ []) $ use1 𝓛 (‵ ((ShrRef (named 0) κ TableR.the_row).own_val (rt γ h) (vptr b o ∷ [])) ⊛ ‵ ((ShrRef (named 0) κ TableR.the_row).own_val (rt γ h) (vptr b o ∷ []))) ((shr_copy 𝓛 (named 0) κ TableR.the_row).twice (rt γ h) (vptr b o ∷ [])) $ split ! $ move ! (2 ∷ 0 ∷ []) $
           use2 𝓛 (raw ((C-place-in 𝓛 at_mem run).pre (to-place-in 𝓛 at_mem run κ q (rt γ h) r1 w1))) (goes-place-in 𝓛 at_mem run κ q (rt γ h) r1 w1 is1) $
           calls_at ! fm (C-place-in 𝓛 at_mem run) known-place-in (to-place-in 𝓛 at_mem run κ q (rt γ h) r1 w1) (and_then ! (load ! (from ! (stop !)) (look ! 14 refl)) (and_then ! (load ! (from ! (stop !)) (look ! 4 {q = full_share} {τ = ty_int w64} {b = l6} {o = 0} {v = w1} refl)) (no_more !))) (λ w2.
           use1 𝓛 (later (some (λ (r : Place). ((‵ (flft κ q) ⊛ ‵ ftrue) ⊛ ‵ ((PlaceR.the_row).own_val r (w2 ∷ []))) ⊛ raw (ensured 𝓛 IsPlace-in.ended (IsPlace-in.clauses 𝓛 at_mem run) (κ, tt) ((rt γ h), (r1, tt)) tt r)))) (id⊢ 𝓤 _) $ await ! tt $ pick ! (λ r2. split ! $ move ! (1 ∷ []) $
-          use1 𝓛 (raw (fact 𝓤 (r2 ≡ get_or h.places r1 zeroPlace))) (said-place-in 𝓛 at_mem run κ (rt γ h) r1 r2) $ heard ! (r2 ≡ get_or h.places r1 zeroPlace) (λ e2. split ! $ move ! (1 ∷ []) $ facts ! PlaceR.the_row (Is PlaceR.the_row) (shows 𝓛 PlaceR.the_row) r2 (w2 ∷ []) (λ is2.
+          use1 𝓛 (raw (fact 𝓤 (r2 ≡ get_or h.places r1 zero_place))) (said-place-in 𝓛 at_mem run κ (rt γ h) r1 r2) $ heard ! (r2 ≡ get_or h.places r1 zero_place) (λ e2. split ! $ move ! (1 ∷ []) $ facts ! PlaceR.the_row (Is PlaceR.the_row) (shows 𝓛 PlaceR.the_row) r2 (w2 ∷ []) (λ is2.
           land ! (from ! (stop !)) (init ! 6 {τ = PlaceL.mir} {v = w2} refl ((LL.lawful PlaceR.the_type PlaceL.the_laws 𝓛).typed r2 _ is2).0) $
           split ! $ move ! (1 ∷ []) $ drop ! $
           -- _3 = event_lent::slot_of(_5)
@@ -229,26 +229,26 @@ module _ {M : Type 1} {𝓤 : Ura M} (𝓛 : Logic 𝓤) (at_mem : Memory → SP
           nothing ! $ use1 𝓛 (raw ((C-host-at 𝓛 at_mem run).pre (to-host-at 𝓛 at_mem run x2 m2 r3 w3))) (goes-host-at 𝓛 at_mem run x2 m2 r3 w3 g2 is3) $
           calls_at ! fm (C-host-at 𝓛 at_mem run) known-host-at (to-host-at 𝓛 at_mem run x2 m2 r3 w3) (and_then ! (load ! (from ! (stop !)) (look ! 13 {q = full_share} {τ = EventL.mir} {b = l2} {o = 0} {v = m2} refl)) (and_then ! (load ! (from ! (stop !)) (look ! 11 {q = full_share} {τ = SlotL.mir} {b = l3} {o = 0} {v = w3} refl)) (no_more !))) (λ w4.
           use1 𝓛 (later (some (λ (r : ℕ). (‵ ftrue ⊛ ‵ (usize.own_val r (w4 ∷ []))) ⊛ raw (ensured 𝓛 host-at.ended (host-at.clauses 𝓛 at_mem run) tt (x2, (r3, tt)) tt r)))) (id⊢ 𝓤 _) $ await ! tt $ pick ! (λ r4. split ! $ move ! (1 ∷ []) $
-          use1 𝓛 (raw (fact 𝓤 (r4 ≡ hostAt x2 r3))) (said-host-at 𝓛 at_mem run x2 r3 r4) $ heard ! (r4 ≡ hostAt x2 r3) (λ e4. split ! $ drop ! $ facts ! usize (Is usize) (shows 𝓛 usize) r4 (w4 ∷ []) (λ is4.
+          use1 𝓛 (raw (fact 𝓤 (r4 ≡ host_at x2 r3))) (said-host-at 𝓛 at_mem run x2 r3 r4) $ heard ! (r4 ≡ host_at x2 r3) (λ e4. split ! $ drop ! $ facts ! usize (Is usize) (shows 𝓛 usize) r4 (w4 ∷ []) (λ is4.
           land ! (from ! (stop !)) (init ! 8 {τ = ty_int w64} {v = w4} refl ((uint_Lawful 𝓛 w64).typed r4 _ is4).0) $
           -- _7 = table_hosts::host_in(_1, _4)
           move ! (1 ∷ []) $ use1 𝓛 (‵ ((ShrRef (named 0) κ TableR.the_row).own_val (rt γ h) (vptr b o ∷ [])) ⊛ ‵ ((ShrRef (named 0) κ TableR.the_row).own_val (rt γ h) (vptr b o ∷ []))) ((shr_copy 𝓛 (named 0) κ TableR.the_row).twice (rt γ h) (vptr b o ∷ [])) $ split ! $ move ! (2 ∷ 0 ∷ []) $
           use2 𝓛 (raw ((C-host-in 𝓛 at_mem run).pre (to-host-in 𝓛 at_mem run κ q (rt γ h) r4 w4))) (goes-host-in 𝓛 at_mem run κ q (rt γ h) r4 w4 is4) $
           calls_at ! fm (C-host-in 𝓛 at_mem run) known-host-in (to-host-in 𝓛 at_mem run κ q (rt γ h) r4 w4) (and_then ! (load ! (from ! (stop !)) (look ! 14 refl)) (and_then ! (load ! (from ! (stop !)) (look ! 8 {q = full_share} {τ = ty_int w64} {b = l4} {o = 0} {v = w4} refl)) (no_more !))) (λ w5.
           use1 𝓛 (later (some (λ (r : Host). ((‵ (flft κ q) ⊛ ‵ ftrue) ⊛ ‵ ((HostR.the_row).own_val r (w5 ∷ []))) ⊛ raw (ensured 𝓛 host-in.ended (host-in.clauses 𝓛 at_mem run) (κ, tt) ((rt γ h), (r4, tt)) tt r)))) (id⊢ 𝓤 _) $ await ! tt $ pick ! (λ r5. split ! $ move ! (1 ∷ []) $
-          use1 𝓛 (raw (fact 𝓤 (r5 ≡ get_or h.hosts r4 zeroHost))) (said-host-in 𝓛 at_mem run κ (rt γ h) r4 r5) $ heard ! (r5 ≡ get_or h.hosts r4 zeroHost) (λ e5. split ! $ move ! (1 ∷ []) $ facts ! HostR.the_row (Is HostR.the_row) (shows 𝓛 HostR.the_row) r5 (w5 ∷ []) (λ is5.
+          use1 𝓛 (raw (fact 𝓤 (r5 ≡ get_or h.hosts r4 zero_host))) (said-host-in 𝓛 at_mem run κ (rt γ h) r4 r5) $ heard ! (r5 ≡ get_or h.hosts r4 zero_host) (λ e5. split ! $ move ! (1 ∷ []) $ facts ! HostR.the_row (Is HostR.the_row) (shows 𝓛 HostR.the_row) r5 (w5 ∷ []) (λ is5.
           land ! (from ! (stop !)) (init ! 2 {τ = HostL.mir} {v = w5} refl ((LL.lawful HostR.the_type HostL.the_laws 𝓛).typed r5 _ is5).0) $
           split ! $ move ! (1 ∷ []) $ drop ! $
           -- _0 = event_lent::here_by(_2, _3, _4, _7)
           nothing ! $ use1 𝓛 (raw ((C-here-by 𝓛 at_mem run).pre (to-here-by 𝓛 at_mem run x2 m2 r3 w3 r4 w4 r5 w5))) (goes-here-by 𝓛 at_mem run x2 m2 r3 w3 r4 w4 r5 w5 g2 is3 is4 is5) $
           calls_at ! fm (C-here-by 𝓛 at_mem run) known-here-by (to-here-by 𝓛 at_mem run x2 m2 r3 w3 r4 w4 r5 w5) (and_then ! (load ! (from ! (stop !)) (look ! 13 {q = full_share} {τ = EventL.mir} {b = l2} {o = 0} {v = m2} refl)) (and_then ! (load ! (from ! (stop !)) (look ! 11 {q = full_share} {τ = SlotL.mir} {b = l3} {o = 0} {v = w3} refl)) (and_then ! (load ! (from ! (stop !)) (look ! 9 {q = full_share} {τ = ty_int w64} {b = l4} {o = 0} {v = w4} refl)) (and_then ! (load ! (from ! (stop !)) (look ! 3 {q = full_share} {τ = HostL.mir} {b = l7} {o = 0} {v = w5} refl)) (no_more !))))) (λ w6.
           use1 𝓛 (later (some (λ (r : Here). (‵ ftrue ⊛ ‵ ((HereR.the_row).own_val r (w6 ∷ []))) ⊛ raw (ensured 𝓛 here-by.ended (here-by.clauses 𝓛 at_mem run) tt (x2, (r3, (r4, (r5, tt)))) tt r)))) (id⊢ 𝓤 _) $ await ! tt $ pick ! (λ r6. split ! $ move ! (1 ∷ []) $
-          use1 𝓛 (raw (fact 𝓤 (r6 ≡ hereBy x2 r3 r4 r5))) (said-here-by 𝓛 at_mem run x2 r3 r4 r5 r6) $ heard ! (r6 ≡ hereBy x2 r3 r4 r5) (λ e6. split ! $ drop ! $ facts ! HereR.the_row (Is HereR.the_row) (shows 𝓛 HereR.the_row) r6 (w6 ∷ []) (λ is6.
+          use1 𝓛 (raw (fact 𝓤 (r6 ≡ here_by x2 r3 r4 r5))) (said-here-by 𝓛 at_mem run x2 r3 r4 r5 r6) $ heard ! (r6 ≡ here_by x2 r3 r4 r5) (λ e6. split ! $ drop ! $ facts ! HereR.the_row (Is HereR.the_row) (shows 𝓛 HereR.the_row) r6 (w6 ∷ []) (λ is6.
           land ! (from ! (stop !)) (init ! 16 {τ = HereL.mir} {v = w6} refl ((LL.lawful HereR.the_type HereL.the_laws 𝓛).typed r6 _ is6).0) $
           returns ! (look ! 16 {q = full_share} {τ = HereL.mir} {b = l0} {o = 0} {v = w6} refl) $
           forget ! 2 refl $ forget ! 4 refl $ forget ! 6 refl $ forget ! 8 refl $ forget ! 10 refl $ forget ! 12 refl $ forget ! 14 refl $ forget ! 16 refl $
           move ! (16 ∷ 17 ∷ []) $ free1 ! $ move ! (14 ∷ 15 ∷ []) $ free1 ! $ move ! (12 ∷ 13 ∷ []) $ free1 ! $ move ! (10 ∷ 11 ∷ []) $ free1 ! $ move ! (8 ∷ 9 ∷ []) $ free1 ! $ move ! (6 ∷ 7 ∷ []) $ free1 ! $ move ! (4 ∷ 5 ∷ []) $ free1 ! $ move ! (2 ∷ 3 ∷ []) $ free1 ! $ free0 ! $
-          by ! (exits r6 w6 is6 (e6 ∙ here-is h x2 r1 e1 r2 e2 r3 e3 r4 e4 r5 e5))))))))))))))))))))))))))))))))))
+          by ! (exits r6 w6 is6 (e6 ∙ here_is h x2 r1 e1 r2 e2 r3 e3 r4 e4 r5 e5))))))))))))))))))))))))))))))))))
 
 module _ {M : Type 1} {𝓤 : Ura M} (𝓛 : Logic 𝓤) (at_mem : Memory → SProp 𝓤) (run : Routine → Fun 𝓤) where
   open 𝓛 use {H}

@@ -53,10 +53,10 @@ use Rattle.rules.specs.contracts.Record as RecordR
 use Rattle.rules.proofs.Record.TheLaws as RecordL
 use Rattle.rules.specs.declared.Table.{Table}
 use Rattle.rules.specs.contracts.Table as TableR
-use Rattle.rules.specs.Tables.{withHosts, withChunks, withRecords, withPlaces}
+use Rattle.rules.specs.Tables.{with_hosts, with_chunks, with_records, with_places}
 use Rattle.rules.specs.Network.{removed}
 use Rattle.event_lent.specs.Touches.{keeping}
-use Rattle.event_lent.proofs.Laws.{keep-is}
+use Rattle.event_lent.proofs.Laws.{keep_is}
 use Rattle.event_lent.specs.contracts.host_number as host-number
 use Rattle.event_lent.proofs.host_number.Symbol as host-number-def
 use Rattle.event_lent.proofs.host_number.Symbol.{name as #event_lent·host-number}
@@ -296,7 +296,7 @@ module _ {M : Type 1} {𝓤 : Ura M} (𝓛 : Logic 𝓤) (at_mem : Memory → SP
           use2 𝓛 (raw ((C-put-host 𝓛 at_mem run).pre (to-put-host 𝓛 at_mem run (ν3 ∷ []) full_share (rt δ3 h) r1 w1 r2 w2))) (goes-put-host 𝓛 at_mem run (ν3 ∷ []) full_share (rt δ3 h) r1 w1 r2 w2 is1 is2) $
           calls_at ! fm (C-put-host 𝓛 at_mem run) known-put-host (to-put-host 𝓛 at_mem run (ν3 ∷ []) full_share (rt δ3 h) r1 w1 r2 w2) (and_then ! (load ! (from ! (stop !)) (look ! 16 refl)) (and_then ! (load ! (from ! (stop !)) (look ! 14 {q = full_share} {τ = ty_int w64} {b = l6} {o = 0} {v = w1} refl)) (and_then ! (load ! (from ! (stop !)) (look ! 12 {q = full_share} {τ = HostL.mir} {b = l7} {o = 0} {v = w2} refl)) (no_more !)))) (λ w3.
           use1 𝓛 (later (some (λ (r : Unit {0}). ((‵ (flft (ν3 ∷ []) full_share) ⊛ ‵ ftrue) ⊛ ‵ (Nothing.own r (w3 ∷ []))) ⊛ raw (ensured 𝓛 put-host.ended (put-host.clauses 𝓛 at_mem run) ((ν3 ∷ []), tt) ((rt δ3 h), (r1, (r2, tt))) tt r)))) (id⊢ 𝓤 _) $ await ! tt $ pick ! (λ r3. split ! $ move ! (1 ∷ []) $
-          use1 𝓛 (some (λ (z3 : Table × (Unit {0} × (Unit {0} × Unit {0}))). ‵ (lasts put-host.ended ((ν3 ∷ []), tt) ((rt δ3 h), (r1, (r2, tt))) z3) ⊛ raw (fact 𝓤 (z3.0 ≡ withHosts h (set h.hosts r1 r2))))) (id⊢ 𝓤 _) $ pick ! (λ z3. split ! $ move ! (1 ∷ []) $ heard ! (z3.0 ≡ withHosts h (set h.hosts r1 r2)) (λ e3. fsplit ! $
+          use1 𝓛 (some (λ (z3 : Table × (Unit {0} × (Unit {0} × Unit {0}))). ‵ (lasts put-host.ended ((ν3 ∷ []), tt) ((rt δ3 h), (r1, (r2, tt))) z3) ⊛ raw (fact 𝓤 (z3.0 ≡ with_hosts h (set h.hosts r1 r2))))) (id⊢ 𝓤 _) $ pick ! (λ z3. split ! $ move ! (1 ∷ []) $ heard ! (z3.0 ≡ with_hosts h (set h.hosts r1 r2)) (λ e3. fsplit ! $
           move ! (2 ∷ []) $ split ! $ move ! (1 ∷ []) $ facts ! Nothing (Is Nothing) (shows 𝓛 Nothing) r3 (w3 ∷ []) (λ is3.
           land ! (from ! (stop !)) (init ! 20 {τ = ty_unit} {v = w3} refl ((Nothing-Lawful 𝓛).typed r3 _ is3).0) $ split ! $ lft_end ! tt $ move ! (0 ∷ 4 ∷ 2 ∷ []) $
           use3 𝓛 (later (‵ ((MutRef (named 0) κ TableR.the_row).own_val (rt γ z3.0) (vptr b o ∷ [])) ⊛ ‵ (flft κ q))) (comes_back 𝓛 TableR.the_row (named 0) κ (ν3 ∷ []) q γ b o δ3 h z3.0) $ await ! tt $ split ! $ move ! (2 ∷ 3 ∷ []) $ drop ! $ drop ! $
@@ -320,7 +320,7 @@ module _ {M : Type 1} {𝓤 : Ura M} (𝓛 : Logic 𝓤) (at_mem : Memory → SP
           use2 𝓛 (raw ((C-put-chunk 𝓛 at_mem run).pre (to-put-chunk 𝓛 at_mem run (ν6 ∷ []) full_share (rt δ6 z3.0) r4 w4 r5 w5))) (goes-put-chunk 𝓛 at_mem run (ν6 ∷ []) full_share (rt δ6 z3.0) r4 w4 r5 w5 is4 is5) $
           calls_at ! fm (C-put-chunk 𝓛 at_mem run) known-put-chunk (to-put-chunk 𝓛 at_mem run (ν6 ∷ []) full_share (rt δ6 z3.0) r4 w4 r5 w5) (and_then ! (load ! (from ! (stop !)) (look ! 10 refl)) (and_then ! (load ! (from ! (stop !)) (look ! 14 {q = full_share} {τ = ty_int w64} {b = l6} {o = 0} {v = w4} refl)) (and_then ! (load ! (from ! (stop !)) (look ! 8 {q = full_share} {τ = ChunkL.mir} {b = l9} {o = 0} {v = w5} refl)) (no_more !)))) (λ w6.
           use1 𝓛 (later (some (λ (r : Unit {0}). ((‵ (flft (ν6 ∷ []) full_share) ⊛ ‵ ftrue) ⊛ ‵ (Nothing.own r (w6 ∷ []))) ⊛ raw (ensured 𝓛 put-chunk.ended (put-chunk.clauses 𝓛 at_mem run) ((ν6 ∷ []), tt) ((rt δ6 z3.0), (r4, (r5, tt))) tt r)))) (id⊢ 𝓤 _) $ await ! tt $ pick ! (λ r6. split ! $ move ! (1 ∷ []) $
-          use1 𝓛 (some (λ (z6 : Table × (Unit {0} × (Unit {0} × Unit {0}))). ‵ (lasts put-chunk.ended ((ν6 ∷ []), tt) ((rt δ6 z3.0), (r4, (r5, tt))) z6) ⊛ raw (fact 𝓤 (z6.0 ≡ withChunks z3.0 (set z3.0.chunks r4 r5))))) (id⊢ 𝓤 _) $ pick ! (λ z6. split ! $ move ! (1 ∷ []) $ heard ! (z6.0 ≡ withChunks z3.0 (set z3.0.chunks r4 r5)) (λ e6. fsplit ! $
+          use1 𝓛 (some (λ (z6 : Table × (Unit {0} × (Unit {0} × Unit {0}))). ‵ (lasts put-chunk.ended ((ν6 ∷ []), tt) ((rt δ6 z3.0), (r4, (r5, tt))) z6) ⊛ raw (fact 𝓤 (z6.0 ≡ with_chunks z3.0 (set z3.0.chunks r4 r5))))) (id⊢ 𝓤 _) $ pick ! (λ z6. split ! $ move ! (1 ∷ []) $ heard ! (z6.0 ≡ with_chunks z3.0 (set z3.0.chunks r4 r5)) (λ e6. fsplit ! $
           move ! (2 ∷ []) $ split ! $ move ! (1 ∷ []) $ facts ! Nothing (Is Nothing) (shows 𝓛 Nothing) r6 (w6 ∷ []) (λ is6.
           land ! (from ! (stop !)) (store ! 20 {τ = ty_unit} {v = w6} refl ((Nothing-Lawful 𝓛).typed r6 _ is6).0) $ split ! $ lft_end ! tt $ move ! (0 ∷ 4 ∷ 2 ∷ []) $
           use3 𝓛 (later (‵ ((MutRef (named 0) κ TableR.the_row).own_val (rt γ z6.0) (vptr b o ∷ [])) ⊛ ‵ (flft κ q))) (comes_back 𝓛 TableR.the_row (named 0) κ (ν6 ∷ []) q γ b o δ6 z3.0 z6.0) $ await ! tt $ split ! $ move ! (2 ∷ 3 ∷ []) $ drop ! $ drop ! $
@@ -344,7 +344,7 @@ module _ {M : Type 1} {𝓤 : Ura M} (𝓛 : Logic 𝓤) (at_mem : Memory → SP
           use2 𝓛 (raw ((C-put-record 𝓛 at_mem run).pre (to-put-record 𝓛 at_mem run (ν9 ∷ []) full_share (rt δ9 z6.0) r7 w7 r8 w8))) (goes-put-record 𝓛 at_mem run (ν9 ∷ []) full_share (rt δ9 z6.0) r7 w7 r8 w8 is7 is8) $
           calls_at ! fm (C-put-record 𝓛 at_mem run) known-put-record (to-put-record 𝓛 at_mem run (ν9 ∷ []) full_share (rt δ9 z6.0) r7 w7 r8 w8) (and_then ! (load ! (from ! (stop !)) (look ! 6 refl)) (and_then ! (load ! (from ! (stop !)) (look ! 14 {q = full_share} {τ = ty_int w64} {b = l6} {o = 0} {v = w7} refl)) (and_then ! (load ! (from ! (stop !)) (look ! 4 {q = full_share} {τ = RecordL.mir} {b = l11} {o = 0} {v = w8} refl)) (no_more !)))) (λ w9.
           use1 𝓛 (later (some (λ (r : Unit {0}). ((‵ (flft (ν9 ∷ []) full_share) ⊛ ‵ ftrue) ⊛ ‵ (Nothing.own r (w9 ∷ []))) ⊛ raw (ensured 𝓛 put_record.ended (put_record.clauses 𝓛 at_mem run) ((ν9 ∷ []), tt) ((rt δ9 z6.0), (r7, (r8, tt))) tt r)))) (id⊢ 𝓤 _) $ await ! tt $ pick ! (λ r9. split ! $ move ! (1 ∷ []) $
-          use1 𝓛 (some (λ (z9 : Table × (Unit {0} × (Unit {0} × Unit {0}))). ‵ (lasts put_record.ended ((ν9 ∷ []), tt) ((rt δ9 z6.0), (r7, (r8, tt))) z9) ⊛ raw (fact 𝓤 (z9.0 ≡ withRecords z6.0 (set z6.0.records r7 r8))))) (id⊢ 𝓤 _) $ pick ! (λ z9. split ! $ move ! (1 ∷ []) $ heard ! (z9.0 ≡ withRecords z6.0 (set z6.0.records r7 r8)) (λ e9. fsplit ! $
+          use1 𝓛 (some (λ (z9 : Table × (Unit {0} × (Unit {0} × Unit {0}))). ‵ (lasts put_record.ended ((ν9 ∷ []), tt) ((rt δ9 z6.0), (r7, (r8, tt))) z9) ⊛ raw (fact 𝓤 (z9.0 ≡ with_records z6.0 (set z6.0.records r7 r8))))) (id⊢ 𝓤 _) $ pick ! (λ z9. split ! $ move ! (1 ∷ []) $ heard ! (z9.0 ≡ with_records z6.0 (set z6.0.records r7 r8)) (λ e9. fsplit ! $
           move ! (2 ∷ []) $ split ! $ move ! (1 ∷ []) $ facts ! Nothing (Is Nothing) (shows 𝓛 Nothing) r9 (w9 ∷ []) (λ is9.
           land ! (from ! (stop !)) (store ! 20 {τ = ty_unit} {v = w9} refl ((Nothing-Lawful 𝓛).typed r9 _ is9).0) $ split ! $ lft_end ! tt $ move ! (0 ∷ 4 ∷ 2 ∷ []) $
           use3 𝓛 (later (‵ ((MutRef (named 0) κ TableR.the_row).own_val (rt γ z9.0) (vptr b o ∷ [])) ⊛ ‵ (flft κ q))) (comes_back 𝓛 TableR.the_row (named 0) κ (ν9 ∷ []) q γ b o δ9 z6.0 z9.0) $ await ! tt $ split ! $ move ! (2 ∷ 3 ∷ []) $ drop ! $ drop ! $
@@ -362,7 +362,7 @@ module _ {M : Type 1} {𝓤 : Ura M} (𝓛 : Logic 𝓤) (at_mem : Memory → SP
           use2 𝓛 (raw ((C-remove-in 𝓛 at_mem run).pre (to-remove-in 𝓛 at_mem run (ν11 ∷ []) full_share (rt δ11 z9.0) r10 w10))) (goes-remove-in 𝓛 at_mem run (ν11 ∷ []) full_share (rt δ11 z9.0) r10 w10 is10) $
           calls_at ! fm (C-remove-in 𝓛 at_mem run) known-remove-in (to-remove-in 𝓛 at_mem run (ν11 ∷ []) full_share (rt δ11 z9.0) r10 w10) (and_then ! (load ! (from ! (stop !)) (look ! 2 refl)) (and_then ! (load ! (from ! (stop !)) (look ! 14 {q = full_share} {τ = ty_int w64} {b = l6} {o = 0} {v = w10} refl)) (no_more !))) (λ w11.
           use1 𝓛 (later (some (λ (r : Unit {0}). ((‵ (flft (ν11 ∷ []) full_share) ⊛ ‵ ftrue) ⊛ ‵ (Nothing.own r (w11 ∷ []))) ⊛ raw (ensured 𝓛 remove-in.ended (remove-in.clauses 𝓛 at_mem run) ((ν11 ∷ []), tt) ((rt δ11 z9.0), (r10, tt)) tt r)))) (id⊢ 𝓤 _) $ await ! tt $ pick ! (λ r11. split ! $ move ! (1 ∷ []) $
-          use1 𝓛 (some (λ (z11 : Table × (Unit {0} × Unit {0})). ‵ (lasts remove-in.ended ((ν11 ∷ []), tt) ((rt δ11 z9.0), (r10, tt)) z11) ⊛ raw (fact 𝓤 (z11.0 ≡ withPlaces z9.0 (removed z9.0.places r10))))) (id⊢ 𝓤 _) $ pick ! (λ z11. split ! $ move ! (1 ∷ []) $ heard ! (z11.0 ≡ withPlaces z9.0 (removed z9.0.places r10)) (λ e11. fsplit ! $
+          use1 𝓛 (some (λ (z11 : Table × (Unit {0} × Unit {0})). ‵ (lasts remove-in.ended ((ν11 ∷ []), tt) ((rt δ11 z9.0), (r10, tt)) z11) ⊛ raw (fact 𝓤 (z11.0 ≡ with_places z9.0 (removed z9.0.places r10))))) (id⊢ 𝓤 _) $ pick ! (λ z11. split ! $ move ! (1 ∷ []) $ heard ! (z11.0 ≡ with_places z9.0 (removed z9.0.places r10)) (λ e11. fsplit ! $
           move ! (2 ∷ []) $ split ! $ move ! (1 ∷ []) $ facts ! Nothing (Is Nothing) (shows 𝓛 Nothing) r11 (w11 ∷ []) (λ is11.
           land ! (from ! (stop !)) (store ! 20 {τ = ty_unit} {v = w11} refl ((Nothing-Lawful 𝓛).typed r11 _ is11).0) $ split ! $ lft_end ! tt $ move ! (0 ∷ 4 ∷ 2 ∷ []) $
           use3 𝓛 (later (‵ ((MutRef (named 0) κ TableR.the_row).own_val (rt γ z11.0) (vptr b o ∷ [])) ⊛ ‵ (flft κ q))) (comes_back 𝓛 TableR.the_row (named 0) κ (ν11 ∷ []) q γ b o δ11 z9.0 z11.0) $ await ! tt $ split ! $ move ! (2 ∷ 3 ∷ []) $ drop ! $ drop ! $
@@ -370,7 +370,7 @@ module _ {M : Type 1} {𝓤 : Ura M} (𝓛 : Logic 𝓤) (at_mem : Memory → SP
           returns ! (look ! 26 {q = full_share} {τ = ty_unit} {b = l0} {o = 0} {v = vunit} refl) $
           forget ! 2 refl $ forget ! 4 refl $ forget ! 6 refl $ forget ! 8 refl $ forget ! 10 refl $ forget ! 12 refl $ forget ! 14 refl $ forget ! 16 refl $ forget ! 18 refl $ forget ! 20 refl $ forget ! 22 refl $ forget ! 24 refl $ forget ! 26 refl $
           move ! (26 ∷ 27 ∷ []) $ free1 ! $ move ! (24 ∷ 25 ∷ []) $ free1 ! $ move ! (22 ∷ 23 ∷ []) $ free1 ! $ move ! (20 ∷ 21 ∷ []) $ free1 ! $ move ! (18 ∷ 19 ∷ []) $ free1 ! $ move ! (16 ∷ 17 ∷ []) $ free1 ! $ move ! (14 ∷ 15 ∷ []) $ free1 ! $ move ! (12 ∷ 13 ∷ []) $ free1 ! $ move ! (10 ∷ 11 ∷ []) $ free1 ! $ move ! (8 ∷ 9 ∷ []) $ free1 ! $ move ! (6 ∷ 7 ∷ []) $ free1 ! $ move ! (4 ∷ 5 ∷ []) $ free1 ! $ move ! (2 ∷ 3 ∷ []) $ free1 ! $ free0 ! $
-          by ! (exits z11.0 (keep-is h x2 x3 r1 e1 r2 e2 z3.0 e3 r4 e4 r5 e5 z6.0 e6 r7 e7 r8 e8 z9.0 e9 r10 e10 z11.0 e11)))))))))))))))))))))))))))))))))))))))))))))))))))))))))))))))))))))))
+          by ! (exits z11.0 (keep_is h x2 x3 r1 e1 r2 e2 z3.0 e3 r4 e4 r5 e5 z6.0 e6 r7 e7 r8 e8 z9.0 e9 r10 e10 z11.0 e11)))))))))))))))))))))))))))))))))))))))))))))))))))))))))))))))))))))))
 
 module _ {M : Type 1} {𝓤 : Ura M} (𝓛 : Logic 𝓤) (at_mem : Memory → SProp 𝓤) (run : Routine → Fun 𝓤) where
   open 𝓛 use {H}

@@ -63,10 +63,10 @@ use Rattle.rules.specs.contracts.Record as RecordR
 use Rattle.rules.proofs.Record.TheLaws as RecordL
 use Rattle.rules.specs.declared.Table.{Table}
 use Rattle.rules.specs.contracts.Table as TableR
-use Rattle.rules.specs.Zero.{zeroHost, zeroChunk, zeroRecord}
-use Rattle.rules.specs.Network.{freePlaces}
+use Rattle.rules.specs.Zero.{zero_host, zero_chunk, zero_record}
+use Rattle.rules.specs.Network.{free_places}
 use Rattle.event_parts.specs.Acts.{acted}
-use Rattle.event_lent.specs.Touches.{partsBy, parts_in}
+use Rattle.event_lent.specs.Touches.{parts_by, parts_in}
 use Rattle.event_lent.proofs.Laws.{parts_are}
 use Rattle.table_numbers.specs.contracts.creation_in as creation-in
 use Rattle.table_numbers.proofs.creation_in.Symbol as creation-in-def
@@ -142,8 +142,8 @@ module _ {M : Type 1} {𝓤 : Ura M} (𝓛 : Logic 𝓤) (at_mem : Memory → SP
   abbrev C-host-in : Contract 𝓤
   C-host-in = triple_of 𝓛 host-in.signature (host-in.spec 𝓛 at_mem run)
 
-  said-host-in : (κ : Lft) (t : Bor Table) (x0 : ℕ) (r : Host) → ent 𝓤 (ensured 𝓛 host-in.ended (host-in.clauses 𝓛 at_mem run) (κ, tt) (t, (x0, tt)) tt r) (fact 𝓤 (r ≡ get_or t.now.hosts x0 zeroHost))
-  said-host-in κ t x0 r = ex_e 𝓤 _ (λ ws. snd∗ 𝓤 (sem 𝓛 (lasts host-in.ended (κ, tt) (t, (x0, tt)) ws)) (fact 𝓤 (r ≡ get_or t.now.hosts x0 zeroHost)))
+  said-host-in : (κ : Lft) (t : Bor Table) (x0 : ℕ) (r : Host) → ent 𝓤 (ensured 𝓛 host-in.ended (host-in.clauses 𝓛 at_mem run) (κ, tt) (t, (x0, tt)) tt r) (fact 𝓤 (r ≡ get_or t.now.hosts x0 zero_host))
+  said-host-in κ t x0 r = ex_e 𝓤 _ (λ ws. snd∗ 𝓤 (sem 𝓛 (lasts host-in.ended (κ, tt) (t, (x0, tt)) ws)) (fact 𝓤 (r ≡ get_or t.now.hosts x0 zero_host)))
 
   abbrev C-chunk-number : Contract 𝓤
   C-chunk-number = triple_of 𝓛 chunk-number.signature (chunk-number.spec 𝓛 at_mem run)
@@ -154,8 +154,8 @@ module _ {M : Type 1} {𝓤 : Ura M} (𝓛 : Logic 𝓤) (at_mem : Memory → SP
   abbrev C-chunk-in : Contract 𝓤
   C-chunk-in = triple_of 𝓛 chunk_in.signature (chunk_in.spec 𝓛 at_mem run)
 
-  said-chunk-in : (κ : Lft) (t : Bor Table) (x0 : ℕ) (r : Chunk) → ent 𝓤 (ensured 𝓛 chunk_in.ended (chunk_in.clauses 𝓛 at_mem run) (κ, tt) (t, (x0, tt)) tt r) (fact 𝓤 (r ≡ get_or t.now.chunks x0 zeroChunk))
-  said-chunk-in κ t x0 r = ex_e 𝓤 _ (λ ws. snd∗ 𝓤 (sem 𝓛 (lasts chunk_in.ended (κ, tt) (t, (x0, tt)) ws)) (fact 𝓤 (r ≡ get_or t.now.chunks x0 zeroChunk)))
+  said-chunk-in : (κ : Lft) (t : Bor Table) (x0 : ℕ) (r : Chunk) → ent 𝓤 (ensured 𝓛 chunk_in.ended (chunk_in.clauses 𝓛 at_mem run) (κ, tt) (t, (x0, tt)) tt r) (fact 𝓤 (r ≡ get_or t.now.chunks x0 zero_chunk))
+  said-chunk-in κ t x0 r = ex_e 𝓤 _ (λ ws. snd∗ 𝓤 (sem 𝓛 (lasts chunk_in.ended (κ, tt) (t, (x0, tt)) ws)) (fact 𝓤 (r ≡ get_or t.now.chunks x0 zero_chunk)))
 
   abbrev C-held-number : Contract 𝓤
   C-held-number = triple_of 𝓛 held_number.signature (held_number.spec 𝓛 at_mem run)
@@ -166,20 +166,20 @@ module _ {M : Type 1} {𝓤 : Ura M} (𝓛 : Logic 𝓤) (at_mem : Memory → SP
   abbrev C-record-in : Contract 𝓤
   C-record-in = triple_of 𝓛 record-in.signature (record-in.spec 𝓛 at_mem run)
 
-  said-record-in : (κ : Lft) (t : Bor Table) (x0 : ℕ) (r : Record) → ent 𝓤 (ensured 𝓛 record-in.ended (record-in.clauses 𝓛 at_mem run) (κ, tt) (t, (x0, tt)) tt r) (fact 𝓤 (r ≡ get_or t.now.records x0 zeroRecord))
-  said-record-in κ t x0 r = ex_e 𝓤 _ (λ ws. snd∗ 𝓤 (sem 𝓛 (lasts record-in.ended (κ, tt) (t, (x0, tt)) ws)) (fact 𝓤 (r ≡ get_or t.now.records x0 zeroRecord)))
+  said-record-in : (κ : Lft) (t : Bor Table) (x0 : ℕ) (r : Record) → ent 𝓤 (ensured 𝓛 record-in.ended (record-in.clauses 𝓛 at_mem run) (κ, tt) (t, (x0, tt)) tt r) (fact 𝓤 (r ≡ get_or t.now.records x0 zero_record))
+  said-record-in κ t x0 r = ex_e 𝓤 _ (λ ws. snd∗ 𝓤 (sem 𝓛 (lasts record-in.ended (κ, tt) (t, (x0, tt)) ws)) (fact 𝓤 (r ≡ get_or t.now.records x0 zero_record)))
 
   abbrev C-free-in : Contract 𝓤
   C-free-in = triple_of 𝓛 Free-in.signature (Free-in.spec 𝓛 at_mem run)
 
-  said-free-in : (κ : Lft) (t : Bor Table) (r : ℕ) → ent 𝓤 (ensured 𝓛 Free-in.ended (Free-in.clauses 𝓛 at_mem run) (κ, tt) (t, tt) tt r) (fact 𝓤 (r ≡ freePlaces t.now.places))
-  said-free-in κ t r = ex_e 𝓤 _ (λ ws. snd∗ 𝓤 (sem 𝓛 (lasts Free-in.ended (κ, tt) (t, tt) ws)) (fact 𝓤 (r ≡ freePlaces t.now.places)))
+  said-free-in : (κ : Lft) (t : Bor Table) (r : ℕ) → ent 𝓤 (ensured 𝓛 Free-in.ended (Free-in.clauses 𝓛 at_mem run) (κ, tt) (t, tt) tt r) (fact 𝓤 (r ≡ free_places t.now.places))
+  said-free-in κ t r = ex_e 𝓤 _ (λ ws. snd∗ 𝓤 (sem 𝓛 (lasts Free-in.ended (κ, tt) (t, tt) ws)) (fact 𝓤 (r ≡ free_places t.now.places)))
 
   abbrev C-parts-by : Contract 𝓤
   C-parts-by = triple_of 𝓛 parts-by.signature (parts-by.spec 𝓛 at_mem run)
 
-  said-parts-by : (x0 : Creation) (x1 : Epoch) (x2 : Here) (x3 : Host) (x4 : Chunk) (x5 : Record) (x6 : ℕ) (r : Parts) → ent 𝓤 (ensured 𝓛 parts-by.ended (parts-by.clauses 𝓛 at_mem run) tt (x0, (x1, (x2, (x3, (x4, (x5, (x6, tt))))))) tt r) (fact 𝓤 (r ≡ partsBy x0 x1 x2 x3 x4 x5 x6))
-  said-parts-by x0 x1 x2 x3 x4 x5 x6 r = ex_e 𝓤 _ (λ ws. snd∗ 𝓤 (sem 𝓛 (lasts parts-by.ended tt (x0, (x1, (x2, (x3, (x4, (x5, (x6, tt))))))) ws)) (fact 𝓤 (r ≡ partsBy x0 x1 x2 x3 x4 x5 x6)))
+  said-parts-by : (x0 : Creation) (x1 : Epoch) (x2 : Here) (x3 : Host) (x4 : Chunk) (x5 : Record) (x6 : ℕ) (r : Parts) → ent 𝓤 (ensured 𝓛 parts-by.ended (parts-by.clauses 𝓛 at_mem run) tt (x0, (x1, (x2, (x3, (x4, (x5, (x6, tt))))))) tt r) (fact 𝓤 (r ≡ parts_by x0 x1 x2 x3 x4 x5 x6))
+  said-parts-by x0 x1 x2 x3 x4 x5 x6 r = ex_e 𝓤 _ (λ ws. snd∗ 𝓤 (sem 𝓛 (lasts parts-by.ended tt (x0, (x1, (x2, (x3, (x4, (x5, (x6, tt))))))) ws)) (fact 𝓤 (r ≡ parts_by x0 x1 x2 x3 x4 x5 x6)))
 
   abbrev C-parts-act : Contract 𝓤
   C-parts-act = triple_of 𝓛 parts-act.signature (parts-act.spec 𝓛 at_mem run)
@@ -328,7 +328,7 @@ module _ {M : Type 1} {𝓤 : Ura M} (𝓛 : Logic 𝓤) (at_mem : Memory → SP
           use2 𝓛 (raw ((C-host-in 𝓛 at_mem run).pre (to-host-in 𝓛 at_mem run κ q (rt γ h) r3 w3))) (goes-host-in 𝓛 at_mem run κ q (rt γ h) r3 w3 is3) $
           calls_at ! fm (C-host-in 𝓛 at_mem run) known-host-in (to-host-in 𝓛 at_mem run κ q (rt γ h) r3 w3) (and_then ! (load ! (from ! (stop !)) (look ! 22 refl)) (and_then ! (load ! (from ! (stop !)) (look ! 4 {q = full_share} {τ = ty_int w64} {b = l10} {o = 0} {v = w3} refl)) (no_more !))) (λ w4.
           use1 𝓛 (later (some (λ (r : Host). ((‵ (flft κ q) ⊛ ‵ ftrue) ⊛ ‵ ((HostR.the_row).own_val r (w4 ∷ []))) ⊛ raw (ensured 𝓛 host-in.ended (host-in.clauses 𝓛 at_mem run) (κ, tt) ((rt γ h), (r3, tt)) tt r)))) (id⊢ 𝓤 _) $ await ! tt $ pick ! (λ r4. split ! $ move ! (1 ∷ []) $
-          use1 𝓛 (raw (fact 𝓤 (r4 ≡ get_or h.hosts r3 zeroHost))) (said-host-in 𝓛 at_mem run κ (rt γ h) r3 r4) $ heard ! (r4 ≡ get_or h.hosts r3 zeroHost) (λ e4. split ! $ move ! (1 ∷ []) $ facts ! HostR.the_row (Is HostR.the_row) (shows 𝓛 HostR.the_row) r4 (w4 ∷ []) (λ is4.
+          use1 𝓛 (raw (fact 𝓤 (r4 ≡ get_or h.hosts r3 zero_host))) (said-host-in 𝓛 at_mem run κ (rt γ h) r3 r4) $ heard ! (r4 ≡ get_or h.hosts r3 zero_host) (λ e4. split ! $ move ! (1 ∷ []) $ facts ! HostR.the_row (Is HostR.the_row) (shows 𝓛 HostR.the_row) r4 (w4 ∷ []) (λ is4.
           land ! (from ! (stop !)) (init ! 12 {τ = HostL.mir} {v = w4} refl ((LL.lawful HostR.the_type HostL.the_laws 𝓛).typed r4 _ is4).0) $
           split ! $ move ! (1 ∷ []) $ drop ! $
           -- _10 = event_lent::chunk_number(_3)
@@ -342,7 +342,7 @@ module _ {M : Type 1} {𝓤 : Ura M} (𝓛 : Logic 𝓤) (at_mem : Memory → SP
           use2 𝓛 (raw ((C-chunk-in 𝓛 at_mem run).pre (to-chunk-in 𝓛 at_mem run κ q (rt γ h) r5 w5))) (goes-chunk-in 𝓛 at_mem run κ q (rt γ h) r5 w5 is5) $
           calls_at ! fm (C-chunk-in 𝓛 at_mem run) known-chunk-in (to-chunk-in 𝓛 at_mem run κ q (rt γ h) r5 w5) (and_then ! (load ! (from ! (stop !)) (look ! 22 refl)) (and_then ! (load ! (from ! (stop !)) (look ! 4 {q = full_share} {τ = ty_int w64} {b = l10} {o = 0} {v = w5} refl)) (no_more !))) (λ w6.
           use1 𝓛 (later (some (λ (r : Chunk). ((‵ (flft κ q) ⊛ ‵ ftrue) ⊛ ‵ ((ChunkR.the_row).own_val r (w6 ∷ []))) ⊛ raw (ensured 𝓛 chunk_in.ended (chunk_in.clauses 𝓛 at_mem run) (κ, tt) ((rt γ h), (r5, tt)) tt r)))) (id⊢ 𝓤 _) $ await ! tt $ pick ! (λ r6. split ! $ move ! (1 ∷ []) $
-          use1 𝓛 (raw (fact 𝓤 (r6 ≡ get_or h.chunks r5 zeroChunk))) (said-chunk-in 𝓛 at_mem run κ (rt γ h) r5 r6) $ heard ! (r6 ≡ get_or h.chunks r5 zeroChunk) (λ e6. split ! $ move ! (1 ∷ []) $ facts ! ChunkR.the_row (Is ChunkR.the_row) (shows 𝓛 ChunkR.the_row) r6 (w6 ∷ []) (λ is6.
+          use1 𝓛 (raw (fact 𝓤 (r6 ≡ get_or h.chunks r5 zero_chunk))) (said-chunk-in 𝓛 at_mem run κ (rt γ h) r5 r6) $ heard ! (r6 ≡ get_or h.chunks r5 zero_chunk) (λ e6. split ! $ move ! (1 ∷ []) $ facts ! ChunkR.the_row (Is ChunkR.the_row) (shows 𝓛 ChunkR.the_row) r6 (w6 ∷ []) (λ is6.
           land ! (from ! (stop !)) (init ! 10 {τ = ChunkL.mir} {v = w6} refl ((LL.lawful ChunkR.the_type ChunkL.the_laws 𝓛).typed r6 _ is6).0) $
           split ! $ move ! (1 ∷ []) $ drop ! $
           -- _10 = event_lent::held_number(_3)
@@ -356,7 +356,7 @@ module _ {M : Type 1} {𝓤 : Ura M} (𝓛 : Logic 𝓤) (at_mem : Memory → SP
           use2 𝓛 (raw ((C-record-in 𝓛 at_mem run).pre (to-record-in 𝓛 at_mem run κ q (rt γ h) r7 w7))) (goes-record-in 𝓛 at_mem run κ q (rt γ h) r7 w7 is7) $
           calls_at ! fm (C-record-in 𝓛 at_mem run) known-record-in (to-record-in 𝓛 at_mem run κ q (rt γ h) r7 w7) (and_then ! (load ! (from ! (stop !)) (look ! 22 refl)) (and_then ! (load ! (from ! (stop !)) (look ! 4 {q = full_share} {τ = ty_int w64} {b = l10} {o = 0} {v = w7} refl)) (no_more !))) (λ w8.
           use1 𝓛 (later (some (λ (r : Record). ((‵ (flft κ q) ⊛ ‵ ftrue) ⊛ ‵ ((RecordR.the_row).own_val r (w8 ∷ []))) ⊛ raw (ensured 𝓛 record-in.ended (record-in.clauses 𝓛 at_mem run) (κ, tt) ((rt γ h), (r7, tt)) tt r)))) (id⊢ 𝓤 _) $ await ! tt $ pick ! (λ r8. split ! $ move ! (1 ∷ []) $
-          use1 𝓛 (raw (fact 𝓤 (r8 ≡ get_or h.records r7 zeroRecord))) (said-record-in 𝓛 at_mem run κ (rt γ h) r7 r8) $ heard ! (r8 ≡ get_or h.records r7 zeroRecord) (λ e8. split ! $ move ! (1 ∷ []) $ facts ! RecordR.the_row (Is RecordR.the_row) (shows 𝓛 RecordR.the_row) r8 (w8 ∷ []) (λ is8.
+          use1 𝓛 (raw (fact 𝓤 (r8 ≡ get_or h.records r7 zero_record))) (said-record-in 𝓛 at_mem run κ (rt γ h) r7 r8) $ heard ! (r8 ≡ get_or h.records r7 zero_record) (λ e8. split ! $ move ! (1 ∷ []) $ facts ! RecordR.the_row (Is RecordR.the_row) (shows 𝓛 RecordR.the_row) r8 (w8 ∷ []) (λ is8.
           land ! (from ! (stop !)) (init ! 8 {τ = RecordL.mir} {v = w8} refl ((LL.lawful RecordR.the_type RecordL.the_laws 𝓛).typed r8 _ is8).0) $
           split ! $ move ! (1 ∷ []) $ drop ! $
           -- _9 = table_places::free_in(_1)
@@ -364,14 +364,14 @@ module _ {M : Type 1} {𝓤 : Ura M} (𝓛 : Logic 𝓤) (at_mem : Memory → SP
           use2 𝓛 (raw ((C-free-in 𝓛 at_mem run).pre (to-free-in 𝓛 at_mem run κ q (rt γ h)))) (goes-free-in 𝓛 at_mem run κ q (rt γ h)) $
           calls_at ! fm (C-free-in 𝓛 at_mem run) known-free-in (to-free-in 𝓛 at_mem run κ q (rt γ h)) (and_then ! (load ! (from ! (stop !)) (look ! 22 refl)) (no_more !)) (λ w9.
           use1 𝓛 (later (some (λ (r : ℕ). ((‵ (flft κ q) ⊛ ‵ ftrue) ⊛ ‵ (usize.own_val r (w9 ∷ []))) ⊛ raw (ensured 𝓛 Free-in.ended (Free-in.clauses 𝓛 at_mem run) (κ, tt) ((rt γ h), tt) tt r)))) (id⊢ 𝓤 _) $ await ! tt $ pick ! (λ r9. split ! $ move ! (1 ∷ []) $
-          use1 𝓛 (raw (fact 𝓤 (r9 ≡ freePlaces h.places))) (said-free-in 𝓛 at_mem run κ (rt γ h) r9) $ heard ! (r9 ≡ freePlaces h.places) (λ e9. split ! $ move ! (1 ∷ []) $ facts ! usize (Is usize) (shows 𝓛 usize) r9 (w9 ∷ []) (λ is9.
+          use1 𝓛 (raw (fact 𝓤 (r9 ≡ free_places h.places))) (said-free-in 𝓛 at_mem run κ (rt γ h) r9) $ heard ! (r9 ≡ free_places h.places) (λ e9. split ! $ move ! (1 ∷ []) $ facts ! usize (Is usize) (shows 𝓛 usize) r9 (w9 ∷ []) (λ is9.
           land ! (from ! (stop !)) (init ! 6 {τ = ty_int w64} {v = w9} refl ((uint_Lawful 𝓛 w64).typed r9 _ is9).0) $
           split ! $ move ! (1 ∷ []) $ drop ! $
           -- _11 = event_lent::parts_by(_4, _5, _3, _6, _7, _8, _9)
           nothing ! $ use1 𝓛 (raw ((C-parts-by 𝓛 at_mem run).pre (to-parts-by 𝓛 at_mem run r1 w1 r2 w2 x3 m3 r4 w4 r6 w6 r8 w8 r9 w9))) (goes-parts-by 𝓛 at_mem run r1 w1 r2 w2 x3 m3 r4 w4 r6 w6 r8 w8 r9 w9 is1 is2 g3 is4 is6 is8 is9) $
           calls_at ! fm (C-parts-by 𝓛 at_mem run) known-parts-by (to-parts-by 𝓛 at_mem run r1 w1 r2 w2 x3 m3 r4 w4 r6 w6 r8 w8 r9 w9) (and_then ! (load ! (from ! (stop !)) (look ! 17 {q = full_share} {τ = CreationL.mir} {b = l4} {o = 0} {v = w1} refl)) (and_then ! (load ! (from ! (stop !)) (look ! 15 {q = full_share} {τ = EpochL.mir} {b = l5} {o = 0} {v = w2} refl)) (and_then ! (load ! (from ! (stop !)) (look ! 19 {q = full_share} {τ = HereL.mir} {b = l3} {o = 0} {v = m3} refl)) (and_then ! (load ! (from ! (stop !)) (look ! 13 {q = full_share} {τ = HostL.mir} {b = l6} {o = 0} {v = w4} refl)) (and_then ! (load ! (from ! (stop !)) (look ! 11 {q = full_share} {τ = ChunkL.mir} {b = l7} {o = 0} {v = w6} refl)) (and_then ! (load ! (from ! (stop !)) (look ! 9 {q = full_share} {τ = RecordL.mir} {b = l8} {o = 0} {v = w8} refl)) (and_then ! (load ! (from ! (stop !)) (look ! 7 {q = full_share} {τ = ty_int w64} {b = l9} {o = 0} {v = w9} refl)) (no_more !)))))))) (λ w10.
           use1 𝓛 (later (some (λ (r : Parts). (‵ ftrue ⊛ ‵ ((PartsR.the_row).own_val r (w10 ∷ []))) ⊛ raw (ensured 𝓛 parts-by.ended (parts-by.clauses 𝓛 at_mem run) tt (r1, (r2, (x3, (r4, (r6, (r8, (r9, tt))))))) tt r)))) (id⊢ 𝓤 _) $ await ! tt $ pick ! (λ r10. split ! $ move ! (1 ∷ []) $
-          use1 𝓛 (raw (fact 𝓤 (r10 ≡ partsBy r1 r2 x3 r4 r6 r8 r9))) (said-parts-by 𝓛 at_mem run r1 r2 x3 r4 r6 r8 r9 r10) $ heard ! (r10 ≡ partsBy r1 r2 x3 r4 r6 r8 r9) (λ e10. split ! $ drop ! $ facts ! PartsR.the_row (Is PartsR.the_row) (shows 𝓛 PartsR.the_row) r10 (w10 ∷ []) (λ is10.
+          use1 𝓛 (raw (fact 𝓤 (r10 ≡ parts_by r1 r2 x3 r4 r6 r8 r9))) (said-parts-by 𝓛 at_mem run r1 r2 x3 r4 r6 r8 r9 r10) $ heard ! (r10 ≡ parts_by r1 r2 x3 r4 r6 r8 r9) (λ e10. split ! $ drop ! $ facts ! PartsR.the_row (Is PartsR.the_row) (shows 𝓛 PartsR.the_row) r10 (w10 ∷ []) (λ is10.
           land ! (from ! (stop !)) (init ! 2 {τ = PartsL.mir} {v = w10} refl ((LL.lawful PartsR.the_type PartsL.the_laws 𝓛).typed r10 _ is10).0) $
           -- _0 = event_parts::act(_2, _11)
           nothing ! $ use1 𝓛 (raw ((C-parts-act 𝓛 at_mem run).pre (to-parts-act 𝓛 at_mem run x2 m2 r10 w10))) (goes-parts-act 𝓛 at_mem run x2 m2 r10 w10 g2 is10) $

@@ -42,11 +42,11 @@ use Rattle.event_parts.specs.contracts.Acted as ActedR
 use Rattle.event_parts.proofs.Acted.TheLaws as ActedL
 use Rattle.rules.specs.declared.Table.{Table}
 use Rattle.rules.specs.contracts.Table as TableR
-use Rattle.rules.specs.Zero.{zeroPlace}
-use Rattle.rules.specs.Tables.{withPlaces}
-use Rattle.rules.specs.Limits.{chunkLimit}
+use Rattle.rules.specs.Zero.{zero_place}
+use Rattle.rules.specs.Tables.{with_places}
+use Rattle.rules.specs.Limits.{chunk_limit}
 use Rattle.rules.specs.Network.{replied}
-use Rattle.network_places.specs.Sending.{sentAll}
+use Rattle.network_places.specs.Sending.{sent_all}
 use Rattle.event_lent.proofs.Laws.{sends-each}
 use Rattle.event_lent.specs.contracts.send_one as send-one
 use Rattle.event_lent.proofs.send_one.Symbol as send-one-def
@@ -90,7 +90,7 @@ module _ {M : Type 1} {𝓤 : Ura M} (𝓛 : Logic 𝓤) (at_mem : Memory → SP
   Post = (walk_of 𝓛 me.ended stayed (me.clauses 𝓛 at_mem run)).post (((κ, tt), (q, tt), tt, x, vs), tt)
 
   module _ (g2 : Is ActedR.the_row x2 (m2 ∷ [])) where
-    exits : (z : Table) → z ≡ withPlaces h (sentAll h.places x2.messages) → ent 𝓤 (⋆ 𝓛 (‵ ((MutRef (named 0) κ TableR.the_row).own_val (rt γ z) (vptr b o ∷ [])) ∷ ‵ (flft κ q) ∷ [])) (Post vunit)
+    exits : (z : Table) → z ≡ with_places h (sent_all h.places x2.messages) → ent 𝓤 (⋆ 𝓛 (‵ ((MutRef (named 0) κ TableR.the_row).own_val (rt γ z) (vptr b o ∷ [])) ∷ ‵ (flft κ q) ∷ [])) (Post vunit)
     exits z eq =
         qed 𝓛 (‵ ((MutRef (named 0) κ TableR.the_row).own_val (rt γ z) (vptr b o ∷ [])) ∷ ‵ (flft κ q) ∷ []) ∵
         suffices ! _ (ends_at 𝓛 me.ended stayed (me.clauses 𝓛 at_mem run) (((κ, tt), (q, tt), tt, x, vs), tt) vunit tt (z, (tt, tt)) (tt, (tt, tt))) $ says ! eq $
@@ -121,7 +121,7 @@ module _ {M : Type 1} {𝓤 : Ura M} (𝓛 : Logic 𝓤) (at_mem : Memory → SP
           use2 𝓛 (raw ((C-send-one 𝓛 at_mem run).pre (to-send-one 𝓛 at_mem run (ν1 ∷ []) full_share (rt δ1 h) x2 m2 0 (vint w64 0)))) (goes-send-one 𝓛 at_mem run (ν1 ∷ []) full_share (rt δ1 h) x2 m2 0 (vint w64 0) g2 (refl, lit< tt)) $
           calls_at ! fm (C-send-one 𝓛 at_mem run) known-send-one (to-send-one 𝓛 at_mem run (ν1 ∷ []) full_share (rt δ1 h) x2 m2 0 (vint w64 0)) (and_then ! (load ! (from ! (stop !)) (look ! 16 refl)) (and_then ! (load ! (from ! (stop !)) (look ! 20 {q = full_share} {τ = ActedL.mir} {b = l2} {o = 0} {v = m2} refl)) (and_then ! (lit ! tt) (no_more !)))) (λ w1.
           use1 𝓛 (later (some (λ (r : Unit {0}). ((‵ (flft (ν1 ∷ []) full_share) ⊛ ‵ ftrue) ⊛ ‵ (Nothing.own r (w1 ∷ []))) ⊛ raw (ensured 𝓛 send-one.ended (send-one.clauses 𝓛 at_mem run) ((ν1 ∷ []), tt) ((rt δ1 h), (x2, (0, tt))) tt r)))) (id⊢ 𝓤 _) $ await ! tt $ pick ! (λ r1. split ! $ move ! (1 ∷ []) $
-          use1 𝓛 (some (λ (z1 : Table × (Unit {0} × (Unit {0} × Unit {0}))). ‵ (lasts send-one.ended ((ν1 ∷ []), tt) ((rt δ1 h), (x2, (0, tt))) z1) ⊛ raw (fact 𝓤 ((z1.0 ≡ withPlaces h (replied h.places (get_or x2.messages 0 zeroPlace).slot)) × (length x2.messages ≡ chunkLimit))))) (id⊢ 𝓤 _) $ pick ! (λ z1. split ! $ move ! (1 ∷ []) $ heard ! ((z1.0 ≡ withPlaces h (replied h.places (get_or x2.messages 0 zeroPlace).slot)) × (length x2.messages ≡ chunkLimit)) (λ e1. fsplit ! $
+          use1 𝓛 (some (λ (z1 : Table × (Unit {0} × (Unit {0} × Unit {0}))). ‵ (lasts send-one.ended ((ν1 ∷ []), tt) ((rt δ1 h), (x2, (0, tt))) z1) ⊛ raw (fact 𝓤 ((z1.0 ≡ with_places h (replied h.places (get_or x2.messages 0 zero_place).slot)) × (length x2.messages ≡ chunk_limit))))) (id⊢ 𝓤 _) $ pick ! (λ z1. split ! $ move ! (1 ∷ []) $ heard ! ((z1.0 ≡ with_places h (replied h.places (get_or x2.messages 0 zero_place).slot)) × (length x2.messages ≡ chunk_limit)) (λ e1. fsplit ! $
           move ! (2 ∷ []) $ split ! $ move ! (1 ∷ []) $ facts ! Nothing (Is Nothing) (shows 𝓛 Nothing) r1 (w1 ∷ []) (λ is1.
           land ! (from ! (stop !)) (init ! 20 {τ = ty_unit} {v = w1} refl ((Nothing-Lawful 𝓛).typed r1 _ is1).0) $ split ! $ lft_end ! tt $ move ! (0 ∷ 4 ∷ 2 ∷ []) $
           use3 𝓛 (later (‵ ((MutRef (named 0) κ TableR.the_row).own_val (rt γ z1.0) (vptr b o ∷ [])) ⊛ ‵ (flft κ q))) (comes_back 𝓛 TableR.the_row (named 0) κ (ν1 ∷ []) q γ b o δ1 h z1.0) $ await ! tt $ split ! $ move ! (2 ∷ 3 ∷ []) $ drop ! $ drop ! $
@@ -133,7 +133,7 @@ module _ {M : Type 1} {𝓤 : Ura M} (𝓛 : Logic 𝓤) (at_mem : Memory → SP
           use2 𝓛 (raw ((C-send-one 𝓛 at_mem run).pre (to-send-one 𝓛 at_mem run (ν2 ∷ []) full_share (rt δ2 z1.0) x2 m2 1 (vint w64 1)))) (goes-send-one 𝓛 at_mem run (ν2 ∷ []) full_share (rt δ2 z1.0) x2 m2 1 (vint w64 1) g2 (refl, lit< tt)) $
           calls_at ! fm (C-send-one 𝓛 at_mem run) known-send-one (to-send-one 𝓛 at_mem run (ν2 ∷ []) full_share (rt δ2 z1.0) x2 m2 1 (vint w64 1)) (and_then ! (load ! (from ! (stop !)) (look ! 14 refl)) (and_then ! (load ! (from ! (stop !)) (look ! 20 {q = full_share} {τ = ActedL.mir} {b = l2} {o = 0} {v = m2} refl)) (and_then ! (lit ! tt) (no_more !)))) (λ w2.
           use1 𝓛 (later (some (λ (r : Unit {0}). ((‵ (flft (ν2 ∷ []) full_share) ⊛ ‵ ftrue) ⊛ ‵ (Nothing.own r (w2 ∷ []))) ⊛ raw (ensured 𝓛 send-one.ended (send-one.clauses 𝓛 at_mem run) ((ν2 ∷ []), tt) ((rt δ2 z1.0), (x2, (1, tt))) tt r)))) (id⊢ 𝓤 _) $ await ! tt $ pick ! (λ r2. split ! $ move ! (1 ∷ []) $
-          use1 𝓛 (some (λ (z2 : Table × (Unit {0} × (Unit {0} × Unit {0}))). ‵ (lasts send-one.ended ((ν2 ∷ []), tt) ((rt δ2 z1.0), (x2, (1, tt))) z2) ⊛ raw (fact 𝓤 ((z2.0 ≡ withPlaces z1.0 (replied z1.0.places (get_or x2.messages 1 zeroPlace).slot)) × (length x2.messages ≡ chunkLimit))))) (id⊢ 𝓤 _) $ pick ! (λ z2. split ! $ move ! (1 ∷ []) $ heard ! ((z2.0 ≡ withPlaces z1.0 (replied z1.0.places (get_or x2.messages 1 zeroPlace).slot)) × (length x2.messages ≡ chunkLimit)) (λ e2. fsplit ! $
+          use1 𝓛 (some (λ (z2 : Table × (Unit {0} × (Unit {0} × Unit {0}))). ‵ (lasts send-one.ended ((ν2 ∷ []), tt) ((rt δ2 z1.0), (x2, (1, tt))) z2) ⊛ raw (fact 𝓤 ((z2.0 ≡ with_places z1.0 (replied z1.0.places (get_or x2.messages 1 zero_place).slot)) × (length x2.messages ≡ chunk_limit))))) (id⊢ 𝓤 _) $ pick ! (λ z2. split ! $ move ! (1 ∷ []) $ heard ! ((z2.0 ≡ with_places z1.0 (replied z1.0.places (get_or x2.messages 1 zero_place).slot)) × (length x2.messages ≡ chunk_limit)) (λ e2. fsplit ! $
           move ! (2 ∷ []) $ split ! $ move ! (1 ∷ []) $ facts ! Nothing (Is Nothing) (shows 𝓛 Nothing) r2 (w2 ∷ []) (λ is2.
           land ! (from ! (stop !)) (store ! 20 {τ = ty_unit} {v = w2} refl ((Nothing-Lawful 𝓛).typed r2 _ is2).0) $ split ! $ lft_end ! tt $ move ! (0 ∷ 4 ∷ 2 ∷ []) $
           use3 𝓛 (later (‵ ((MutRef (named 0) κ TableR.the_row).own_val (rt γ z2.0) (vptr b o ∷ [])) ⊛ ‵ (flft κ q))) (comes_back 𝓛 TableR.the_row (named 0) κ (ν2 ∷ []) q γ b o δ2 z1.0 z2.0) $ await ! tt $ split ! $ move ! (2 ∷ 3 ∷ []) $ drop ! $ drop ! $
@@ -145,7 +145,7 @@ module _ {M : Type 1} {𝓤 : Ura M} (𝓛 : Logic 𝓤) (at_mem : Memory → SP
           use2 𝓛 (raw ((C-send-one 𝓛 at_mem run).pre (to-send-one 𝓛 at_mem run (ν3 ∷ []) full_share (rt δ3 z2.0) x2 m2 2 (vint w64 2)))) (goes-send-one 𝓛 at_mem run (ν3 ∷ []) full_share (rt δ3 z2.0) x2 m2 2 (vint w64 2) g2 (refl, lit< tt)) $
           calls_at ! fm (C-send-one 𝓛 at_mem run) known-send-one (to-send-one 𝓛 at_mem run (ν3 ∷ []) full_share (rt δ3 z2.0) x2 m2 2 (vint w64 2)) (and_then ! (load ! (from ! (stop !)) (look ! 12 refl)) (and_then ! (load ! (from ! (stop !)) (look ! 20 {q = full_share} {τ = ActedL.mir} {b = l2} {o = 0} {v = m2} refl)) (and_then ! (lit ! tt) (no_more !)))) (λ w3.
           use1 𝓛 (later (some (λ (r : Unit {0}). ((‵ (flft (ν3 ∷ []) full_share) ⊛ ‵ ftrue) ⊛ ‵ (Nothing.own r (w3 ∷ []))) ⊛ raw (ensured 𝓛 send-one.ended (send-one.clauses 𝓛 at_mem run) ((ν3 ∷ []), tt) ((rt δ3 z2.0), (x2, (2, tt))) tt r)))) (id⊢ 𝓤 _) $ await ! tt $ pick ! (λ r3. split ! $ move ! (1 ∷ []) $
-          use1 𝓛 (some (λ (z3 : Table × (Unit {0} × (Unit {0} × Unit {0}))). ‵ (lasts send-one.ended ((ν3 ∷ []), tt) ((rt δ3 z2.0), (x2, (2, tt))) z3) ⊛ raw (fact 𝓤 ((z3.0 ≡ withPlaces z2.0 (replied z2.0.places (get_or x2.messages 2 zeroPlace).slot)) × (length x2.messages ≡ chunkLimit))))) (id⊢ 𝓤 _) $ pick ! (λ z3. split ! $ move ! (1 ∷ []) $ heard ! ((z3.0 ≡ withPlaces z2.0 (replied z2.0.places (get_or x2.messages 2 zeroPlace).slot)) × (length x2.messages ≡ chunkLimit)) (λ e3. fsplit ! $
+          use1 𝓛 (some (λ (z3 : Table × (Unit {0} × (Unit {0} × Unit {0}))). ‵ (lasts send-one.ended ((ν3 ∷ []), tt) ((rt δ3 z2.0), (x2, (2, tt))) z3) ⊛ raw (fact 𝓤 ((z3.0 ≡ with_places z2.0 (replied z2.0.places (get_or x2.messages 2 zero_place).slot)) × (length x2.messages ≡ chunk_limit))))) (id⊢ 𝓤 _) $ pick ! (λ z3. split ! $ move ! (1 ∷ []) $ heard ! ((z3.0 ≡ with_places z2.0 (replied z2.0.places (get_or x2.messages 2 zero_place).slot)) × (length x2.messages ≡ chunk_limit)) (λ e3. fsplit ! $
           move ! (2 ∷ []) $ split ! $ move ! (1 ∷ []) $ facts ! Nothing (Is Nothing) (shows 𝓛 Nothing) r3 (w3 ∷ []) (λ is3.
           land ! (from ! (stop !)) (store ! 20 {τ = ty_unit} {v = w3} refl ((Nothing-Lawful 𝓛).typed r3 _ is3).0) $ split ! $ lft_end ! tt $ move ! (0 ∷ 4 ∷ 2 ∷ []) $
           use3 𝓛 (later (‵ ((MutRef (named 0) κ TableR.the_row).own_val (rt γ z3.0) (vptr b o ∷ [])) ⊛ ‵ (flft κ q))) (comes_back 𝓛 TableR.the_row (named 0) κ (ν3 ∷ []) q γ b o δ3 z2.0 z3.0) $ await ! tt $ split ! $ move ! (2 ∷ 3 ∷ []) $ drop ! $ drop ! $
@@ -157,7 +157,7 @@ module _ {M : Type 1} {𝓤 : Ura M} (𝓛 : Logic 𝓤) (at_mem : Memory → SP
           use2 𝓛 (raw ((C-send-one 𝓛 at_mem run).pre (to-send-one 𝓛 at_mem run (ν4 ∷ []) full_share (rt δ4 z3.0) x2 m2 3 (vint w64 3)))) (goes-send-one 𝓛 at_mem run (ν4 ∷ []) full_share (rt δ4 z3.0) x2 m2 3 (vint w64 3) g2 (refl, lit< tt)) $
           calls_at ! fm (C-send-one 𝓛 at_mem run) known-send-one (to-send-one 𝓛 at_mem run (ν4 ∷ []) full_share (rt δ4 z3.0) x2 m2 3 (vint w64 3)) (and_then ! (load ! (from ! (stop !)) (look ! 10 refl)) (and_then ! (load ! (from ! (stop !)) (look ! 20 {q = full_share} {τ = ActedL.mir} {b = l2} {o = 0} {v = m2} refl)) (and_then ! (lit ! tt) (no_more !)))) (λ w4.
           use1 𝓛 (later (some (λ (r : Unit {0}). ((‵ (flft (ν4 ∷ []) full_share) ⊛ ‵ ftrue) ⊛ ‵ (Nothing.own r (w4 ∷ []))) ⊛ raw (ensured 𝓛 send-one.ended (send-one.clauses 𝓛 at_mem run) ((ν4 ∷ []), tt) ((rt δ4 z3.0), (x2, (3, tt))) tt r)))) (id⊢ 𝓤 _) $ await ! tt $ pick ! (λ r4. split ! $ move ! (1 ∷ []) $
-          use1 𝓛 (some (λ (z4 : Table × (Unit {0} × (Unit {0} × Unit {0}))). ‵ (lasts send-one.ended ((ν4 ∷ []), tt) ((rt δ4 z3.0), (x2, (3, tt))) z4) ⊛ raw (fact 𝓤 ((z4.0 ≡ withPlaces z3.0 (replied z3.0.places (get_or x2.messages 3 zeroPlace).slot)) × (length x2.messages ≡ chunkLimit))))) (id⊢ 𝓤 _) $ pick ! (λ z4. split ! $ move ! (1 ∷ []) $ heard ! ((z4.0 ≡ withPlaces z3.0 (replied z3.0.places (get_or x2.messages 3 zeroPlace).slot)) × (length x2.messages ≡ chunkLimit)) (λ e4. fsplit ! $
+          use1 𝓛 (some (λ (z4 : Table × (Unit {0} × (Unit {0} × Unit {0}))). ‵ (lasts send-one.ended ((ν4 ∷ []), tt) ((rt δ4 z3.0), (x2, (3, tt))) z4) ⊛ raw (fact 𝓤 ((z4.0 ≡ with_places z3.0 (replied z3.0.places (get_or x2.messages 3 zero_place).slot)) × (length x2.messages ≡ chunk_limit))))) (id⊢ 𝓤 _) $ pick ! (λ z4. split ! $ move ! (1 ∷ []) $ heard ! ((z4.0 ≡ with_places z3.0 (replied z3.0.places (get_or x2.messages 3 zero_place).slot)) × (length x2.messages ≡ chunk_limit)) (λ e4. fsplit ! $
           move ! (2 ∷ []) $ split ! $ move ! (1 ∷ []) $ facts ! Nothing (Is Nothing) (shows 𝓛 Nothing) r4 (w4 ∷ []) (λ is4.
           land ! (from ! (stop !)) (store ! 20 {τ = ty_unit} {v = w4} refl ((Nothing-Lawful 𝓛).typed r4 _ is4).0) $ split ! $ lft_end ! tt $ move ! (0 ∷ 4 ∷ 2 ∷ []) $
           use3 𝓛 (later (‵ ((MutRef (named 0) κ TableR.the_row).own_val (rt γ z4.0) (vptr b o ∷ [])) ⊛ ‵ (flft κ q))) (comes_back 𝓛 TableR.the_row (named 0) κ (ν4 ∷ []) q γ b o δ4 z3.0 z4.0) $ await ! tt $ split ! $ move ! (2 ∷ 3 ∷ []) $ drop ! $ drop ! $
@@ -169,7 +169,7 @@ module _ {M : Type 1} {𝓤 : Ura M} (𝓛 : Logic 𝓤) (at_mem : Memory → SP
           use2 𝓛 (raw ((C-send-one 𝓛 at_mem run).pre (to-send-one 𝓛 at_mem run (ν5 ∷ []) full_share (rt δ5 z4.0) x2 m2 4 (vint w64 4)))) (goes-send-one 𝓛 at_mem run (ν5 ∷ []) full_share (rt δ5 z4.0) x2 m2 4 (vint w64 4) g2 (refl, lit< tt)) $
           calls_at ! fm (C-send-one 𝓛 at_mem run) known-send-one (to-send-one 𝓛 at_mem run (ν5 ∷ []) full_share (rt δ5 z4.0) x2 m2 4 (vint w64 4)) (and_then ! (load ! (from ! (stop !)) (look ! 8 refl)) (and_then ! (load ! (from ! (stop !)) (look ! 20 {q = full_share} {τ = ActedL.mir} {b = l2} {o = 0} {v = m2} refl)) (and_then ! (lit ! tt) (no_more !)))) (λ w5.
           use1 𝓛 (later (some (λ (r : Unit {0}). ((‵ (flft (ν5 ∷ []) full_share) ⊛ ‵ ftrue) ⊛ ‵ (Nothing.own r (w5 ∷ []))) ⊛ raw (ensured 𝓛 send-one.ended (send-one.clauses 𝓛 at_mem run) ((ν5 ∷ []), tt) ((rt δ5 z4.0), (x2, (4, tt))) tt r)))) (id⊢ 𝓤 _) $ await ! tt $ pick ! (λ r5. split ! $ move ! (1 ∷ []) $
-          use1 𝓛 (some (λ (z5 : Table × (Unit {0} × (Unit {0} × Unit {0}))). ‵ (lasts send-one.ended ((ν5 ∷ []), tt) ((rt δ5 z4.0), (x2, (4, tt))) z5) ⊛ raw (fact 𝓤 ((z5.0 ≡ withPlaces z4.0 (replied z4.0.places (get_or x2.messages 4 zeroPlace).slot)) × (length x2.messages ≡ chunkLimit))))) (id⊢ 𝓤 _) $ pick ! (λ z5. split ! $ move ! (1 ∷ []) $ heard ! ((z5.0 ≡ withPlaces z4.0 (replied z4.0.places (get_or x2.messages 4 zeroPlace).slot)) × (length x2.messages ≡ chunkLimit)) (λ e5. fsplit ! $
+          use1 𝓛 (some (λ (z5 : Table × (Unit {0} × (Unit {0} × Unit {0}))). ‵ (lasts send-one.ended ((ν5 ∷ []), tt) ((rt δ5 z4.0), (x2, (4, tt))) z5) ⊛ raw (fact 𝓤 ((z5.0 ≡ with_places z4.0 (replied z4.0.places (get_or x2.messages 4 zero_place).slot)) × (length x2.messages ≡ chunk_limit))))) (id⊢ 𝓤 _) $ pick ! (λ z5. split ! $ move ! (1 ∷ []) $ heard ! ((z5.0 ≡ with_places z4.0 (replied z4.0.places (get_or x2.messages 4 zero_place).slot)) × (length x2.messages ≡ chunk_limit)) (λ e5. fsplit ! $
           move ! (2 ∷ []) $ split ! $ move ! (1 ∷ []) $ facts ! Nothing (Is Nothing) (shows 𝓛 Nothing) r5 (w5 ∷ []) (λ is5.
           land ! (from ! (stop !)) (store ! 20 {τ = ty_unit} {v = w5} refl ((Nothing-Lawful 𝓛).typed r5 _ is5).0) $ split ! $ lft_end ! tt $ move ! (0 ∷ 4 ∷ 2 ∷ []) $
           use3 𝓛 (later (‵ ((MutRef (named 0) κ TableR.the_row).own_val (rt γ z5.0) (vptr b o ∷ [])) ⊛ ‵ (flft κ q))) (comes_back 𝓛 TableR.the_row (named 0) κ (ν5 ∷ []) q γ b o δ5 z4.0 z5.0) $ await ! tt $ split ! $ move ! (2 ∷ 3 ∷ []) $ drop ! $ drop ! $
@@ -181,7 +181,7 @@ module _ {M : Type 1} {𝓤 : Ura M} (𝓛 : Logic 𝓤) (at_mem : Memory → SP
           use2 𝓛 (raw ((C-send-one 𝓛 at_mem run).pre (to-send-one 𝓛 at_mem run (ν6 ∷ []) full_share (rt δ6 z5.0) x2 m2 5 (vint w64 5)))) (goes-send-one 𝓛 at_mem run (ν6 ∷ []) full_share (rt δ6 z5.0) x2 m2 5 (vint w64 5) g2 (refl, lit< tt)) $
           calls_at ! fm (C-send-one 𝓛 at_mem run) known-send-one (to-send-one 𝓛 at_mem run (ν6 ∷ []) full_share (rt δ6 z5.0) x2 m2 5 (vint w64 5)) (and_then ! (load ! (from ! (stop !)) (look ! 6 refl)) (and_then ! (load ! (from ! (stop !)) (look ! 20 {q = full_share} {τ = ActedL.mir} {b = l2} {o = 0} {v = m2} refl)) (and_then ! (lit ! tt) (no_more !)))) (λ w6.
           use1 𝓛 (later (some (λ (r : Unit {0}). ((‵ (flft (ν6 ∷ []) full_share) ⊛ ‵ ftrue) ⊛ ‵ (Nothing.own r (w6 ∷ []))) ⊛ raw (ensured 𝓛 send-one.ended (send-one.clauses 𝓛 at_mem run) ((ν6 ∷ []), tt) ((rt δ6 z5.0), (x2, (5, tt))) tt r)))) (id⊢ 𝓤 _) $ await ! tt $ pick ! (λ r6. split ! $ move ! (1 ∷ []) $
-          use1 𝓛 (some (λ (z6 : Table × (Unit {0} × (Unit {0} × Unit {0}))). ‵ (lasts send-one.ended ((ν6 ∷ []), tt) ((rt δ6 z5.0), (x2, (5, tt))) z6) ⊛ raw (fact 𝓤 ((z6.0 ≡ withPlaces z5.0 (replied z5.0.places (get_or x2.messages 5 zeroPlace).slot)) × (length x2.messages ≡ chunkLimit))))) (id⊢ 𝓤 _) $ pick ! (λ z6. split ! $ move ! (1 ∷ []) $ heard ! ((z6.0 ≡ withPlaces z5.0 (replied z5.0.places (get_or x2.messages 5 zeroPlace).slot)) × (length x2.messages ≡ chunkLimit)) (λ e6. fsplit ! $
+          use1 𝓛 (some (λ (z6 : Table × (Unit {0} × (Unit {0} × Unit {0}))). ‵ (lasts send-one.ended ((ν6 ∷ []), tt) ((rt δ6 z5.0), (x2, (5, tt))) z6) ⊛ raw (fact 𝓤 ((z6.0 ≡ with_places z5.0 (replied z5.0.places (get_or x2.messages 5 zero_place).slot)) × (length x2.messages ≡ chunk_limit))))) (id⊢ 𝓤 _) $ pick ! (λ z6. split ! $ move ! (1 ∷ []) $ heard ! ((z6.0 ≡ with_places z5.0 (replied z5.0.places (get_or x2.messages 5 zero_place).slot)) × (length x2.messages ≡ chunk_limit)) (λ e6. fsplit ! $
           move ! (2 ∷ []) $ split ! $ move ! (1 ∷ []) $ facts ! Nothing (Is Nothing) (shows 𝓛 Nothing) r6 (w6 ∷ []) (λ is6.
           land ! (from ! (stop !)) (store ! 20 {τ = ty_unit} {v = w6} refl ((Nothing-Lawful 𝓛).typed r6 _ is6).0) $ split ! $ lft_end ! tt $ move ! (0 ∷ 4 ∷ 2 ∷ []) $
           use3 𝓛 (later (‵ ((MutRef (named 0) κ TableR.the_row).own_val (rt γ z6.0) (vptr b o ∷ [])) ⊛ ‵ (flft κ q))) (comes_back 𝓛 TableR.the_row (named 0) κ (ν6 ∷ []) q γ b o δ6 z5.0 z6.0) $ await ! tt $ split ! $ move ! (2 ∷ 3 ∷ []) $ drop ! $ drop ! $
@@ -193,7 +193,7 @@ module _ {M : Type 1} {𝓤 : Ura M} (𝓛 : Logic 𝓤) (at_mem : Memory → SP
           use2 𝓛 (raw ((C-send-one 𝓛 at_mem run).pre (to-send-one 𝓛 at_mem run (ν7 ∷ []) full_share (rt δ7 z6.0) x2 m2 6 (vint w64 6)))) (goes-send-one 𝓛 at_mem run (ν7 ∷ []) full_share (rt δ7 z6.0) x2 m2 6 (vint w64 6) g2 (refl, lit< tt)) $
           calls_at ! fm (C-send-one 𝓛 at_mem run) known-send-one (to-send-one 𝓛 at_mem run (ν7 ∷ []) full_share (rt δ7 z6.0) x2 m2 6 (vint w64 6)) (and_then ! (load ! (from ! (stop !)) (look ! 4 refl)) (and_then ! (load ! (from ! (stop !)) (look ! 20 {q = full_share} {τ = ActedL.mir} {b = l2} {o = 0} {v = m2} refl)) (and_then ! (lit ! tt) (no_more !)))) (λ w7.
           use1 𝓛 (later (some (λ (r : Unit {0}). ((‵ (flft (ν7 ∷ []) full_share) ⊛ ‵ ftrue) ⊛ ‵ (Nothing.own r (w7 ∷ []))) ⊛ raw (ensured 𝓛 send-one.ended (send-one.clauses 𝓛 at_mem run) ((ν7 ∷ []), tt) ((rt δ7 z6.0), (x2, (6, tt))) tt r)))) (id⊢ 𝓤 _) $ await ! tt $ pick ! (λ r7. split ! $ move ! (1 ∷ []) $
-          use1 𝓛 (some (λ (z7 : Table × (Unit {0} × (Unit {0} × Unit {0}))). ‵ (lasts send-one.ended ((ν7 ∷ []), tt) ((rt δ7 z6.0), (x2, (6, tt))) z7) ⊛ raw (fact 𝓤 ((z7.0 ≡ withPlaces z6.0 (replied z6.0.places (get_or x2.messages 6 zeroPlace).slot)) × (length x2.messages ≡ chunkLimit))))) (id⊢ 𝓤 _) $ pick ! (λ z7. split ! $ move ! (1 ∷ []) $ heard ! ((z7.0 ≡ withPlaces z6.0 (replied z6.0.places (get_or x2.messages 6 zeroPlace).slot)) × (length x2.messages ≡ chunkLimit)) (λ e7. fsplit ! $
+          use1 𝓛 (some (λ (z7 : Table × (Unit {0} × (Unit {0} × Unit {0}))). ‵ (lasts send-one.ended ((ν7 ∷ []), tt) ((rt δ7 z6.0), (x2, (6, tt))) z7) ⊛ raw (fact 𝓤 ((z7.0 ≡ with_places z6.0 (replied z6.0.places (get_or x2.messages 6 zero_place).slot)) × (length x2.messages ≡ chunk_limit))))) (id⊢ 𝓤 _) $ pick ! (λ z7. split ! $ move ! (1 ∷ []) $ heard ! ((z7.0 ≡ with_places z6.0 (replied z6.0.places (get_or x2.messages 6 zero_place).slot)) × (length x2.messages ≡ chunk_limit)) (λ e7. fsplit ! $
           move ! (2 ∷ []) $ split ! $ move ! (1 ∷ []) $ facts ! Nothing (Is Nothing) (shows 𝓛 Nothing) r7 (w7 ∷ []) (λ is7.
           land ! (from ! (stop !)) (store ! 20 {τ = ty_unit} {v = w7} refl ((Nothing-Lawful 𝓛).typed r7 _ is7).0) $ split ! $ lft_end ! tt $ move ! (0 ∷ 4 ∷ 2 ∷ []) $
           use3 𝓛 (later (‵ ((MutRef (named 0) κ TableR.the_row).own_val (rt γ z7.0) (vptr b o ∷ [])) ⊛ ‵ (flft κ q))) (comes_back 𝓛 TableR.the_row (named 0) κ (ν7 ∷ []) q γ b o δ7 z6.0 z7.0) $ await ! tt $ split ! $ move ! (2 ∷ 3 ∷ []) $ drop ! $ drop ! $
@@ -205,7 +205,7 @@ module _ {M : Type 1} {𝓤 : Ura M} (𝓛 : Logic 𝓤) (at_mem : Memory → SP
           use2 𝓛 (raw ((C-send-one 𝓛 at_mem run).pre (to-send-one 𝓛 at_mem run (ν8 ∷ []) full_share (rt δ8 z7.0) x2 m2 7 (vint w64 7)))) (goes-send-one 𝓛 at_mem run (ν8 ∷ []) full_share (rt δ8 z7.0) x2 m2 7 (vint w64 7) g2 (refl, lit< tt)) $
           calls_at ! fm (C-send-one 𝓛 at_mem run) known-send-one (to-send-one 𝓛 at_mem run (ν8 ∷ []) full_share (rt δ8 z7.0) x2 m2 7 (vint w64 7)) (and_then ! (load ! (from ! (stop !)) (look ! 2 refl)) (and_then ! (load ! (from ! (stop !)) (look ! 20 {q = full_share} {τ = ActedL.mir} {b = l2} {o = 0} {v = m2} refl)) (and_then ! (lit ! tt) (no_more !)))) (λ w8.
           use1 𝓛 (later (some (λ (r : Unit {0}). ((‵ (flft (ν8 ∷ []) full_share) ⊛ ‵ ftrue) ⊛ ‵ (Nothing.own r (w8 ∷ []))) ⊛ raw (ensured 𝓛 send-one.ended (send-one.clauses 𝓛 at_mem run) ((ν8 ∷ []), tt) ((rt δ8 z7.0), (x2, (7, tt))) tt r)))) (id⊢ 𝓤 _) $ await ! tt $ pick ! (λ r8. split ! $ move ! (1 ∷ []) $
-          use1 𝓛 (some (λ (z8 : Table × (Unit {0} × (Unit {0} × Unit {0}))). ‵ (lasts send-one.ended ((ν8 ∷ []), tt) ((rt δ8 z7.0), (x2, (7, tt))) z8) ⊛ raw (fact 𝓤 ((z8.0 ≡ withPlaces z7.0 (replied z7.0.places (get_or x2.messages 7 zeroPlace).slot)) × (length x2.messages ≡ chunkLimit))))) (id⊢ 𝓤 _) $ pick ! (λ z8. split ! $ move ! (1 ∷ []) $ heard ! ((z8.0 ≡ withPlaces z7.0 (replied z7.0.places (get_or x2.messages 7 zeroPlace).slot)) × (length x2.messages ≡ chunkLimit)) (λ e8. fsplit ! $
+          use1 𝓛 (some (λ (z8 : Table × (Unit {0} × (Unit {0} × Unit {0}))). ‵ (lasts send-one.ended ((ν8 ∷ []), tt) ((rt δ8 z7.0), (x2, (7, tt))) z8) ⊛ raw (fact 𝓤 ((z8.0 ≡ with_places z7.0 (replied z7.0.places (get_or x2.messages 7 zero_place).slot)) × (length x2.messages ≡ chunk_limit))))) (id⊢ 𝓤 _) $ pick ! (λ z8. split ! $ move ! (1 ∷ []) $ heard ! ((z8.0 ≡ with_places z7.0 (replied z7.0.places (get_or x2.messages 7 zero_place).slot)) × (length x2.messages ≡ chunk_limit)) (λ e8. fsplit ! $
           move ! (2 ∷ []) $ split ! $ move ! (1 ∷ []) $ facts ! Nothing (Is Nothing) (shows 𝓛 Nothing) r8 (w8 ∷ []) (λ is8.
           land ! (from ! (stop !)) (store ! 20 {τ = ty_unit} {v = w8} refl ((Nothing-Lawful 𝓛).typed r8 _ is8).0) $ split ! $ lft_end ! tt $ move ! (0 ∷ 4 ∷ 2 ∷ []) $
           use3 𝓛 (later (‵ ((MutRef (named 0) κ TableR.the_row).own_val (rt γ z8.0) (vptr b o ∷ [])) ⊛ ‵ (flft κ q))) (comes_back 𝓛 TableR.the_row (named 0) κ (ν8 ∷ []) q γ b o δ8 z7.0 z8.0) $ await ! tt $ split ! $ move ! (2 ∷ 3 ∷ []) $ drop ! $ drop ! $

@@ -45,9 +45,9 @@ use Rattle.rules.specs.contracts.Slot as SlotR
 use Rattle.rules.proofs.Slot.TheLaws as SlotL
 use Rattle.rules.specs.declared.Table.{Table}
 use Rattle.rules.specs.contracts.Table as TableR
-use Rattle.rules.specs.Zero.{zeroPlace}
-use Rattle.rules.specs.Tables.{withPlaces}
-use Rattle.rules.specs.Limits.{chunkLimit}
+use Rattle.rules.specs.Zero.{zero_place}
+use Rattle.rules.specs.Tables.{with_places}
+use Rattle.rules.specs.Limits.{chunk_limit}
 use Rattle.rules.specs.Network.{replied}
 use Rattle.event_lent.specs.contracts.message as lent-message
 use Rattle.event_lent.proofs.message.Symbol as lent-message-def
@@ -69,8 +69,8 @@ module _ {M : Type 1} {𝓤 : Ura M} (𝓛 : Logic 𝓤) (at_mem : Memory → SP
   abbrev C-lent-message : Contract 𝓤
   C-lent-message = triple_of 𝓛 lent-message.signature (lent-message.spec 𝓛 at_mem run)
 
-  said-lent-message : (x0 : Acted) (x1 : ℕ) (r : Slot) → ent 𝓤 (ensured 𝓛 lent-message.ended (lent-message.clauses 𝓛 at_mem run) tt (x0, (x1, tt)) tt r) (fact 𝓤 ((r ≡ (get_or x0.messages x1 zeroPlace).slot) × (length x0.messages ≡ chunkLimit)))
-  said-lent-message x0 x1 r = ex_e 𝓤 _ (λ ws. snd∗ 𝓤 (sem 𝓛 (lasts lent-message.ended tt (x0, (x1, tt)) ws)) (fact 𝓤 ((r ≡ (get_or x0.messages x1 zeroPlace).slot) × (length x0.messages ≡ chunkLimit))))
+  said-lent-message : (x0 : Acted) (x1 : ℕ) (r : Slot) → ent 𝓤 (ensured 𝓛 lent-message.ended (lent-message.clauses 𝓛 at_mem run) tt (x0, (x1, tt)) tt r) (fact 𝓤 ((r ≡ (get_or x0.messages x1 zero_place).slot) × (length x0.messages ≡ chunk_limit)))
+  said-lent-message x0 x1 r = ex_e 𝓤 _ (λ ws. snd∗ 𝓤 (sem 𝓛 (lasts lent-message.ended tt (x0, (x1, tt)) ws)) (fact 𝓤 ((r ≡ (get_or x0.messages x1 zero_place).slot) × (length x0.messages ≡ chunk_limit))))
 
   abbrev C-send-in : Contract 𝓤
   C-send-in = triple_of 𝓛 send-in.signature (send-in.spec 𝓛 at_mem run)
@@ -107,7 +107,7 @@ module _ {M : Type 1} {𝓤 : Ura M} (𝓛 : Logic 𝓤) (at_mem : Memory → SP
   Post = (walk_of 𝓛 me.ended stayed (me.clauses 𝓛 at_mem run)).post (((κ, tt), (q, tt), tt, x, vs), tt)
 
   module _ (g2 : Is ActedR.the_row x2 (m2 ∷ [])) (g3 : Is usize x3 ((vint w64 x3) ∷ [])) where
-    exits : (z : Table) → (z ≡ withPlaces h (replied h.places (get_or x2.messages x3 zeroPlace).slot)) × (length x2.messages ≡ chunkLimit) → ent 𝓤 (⋆ 𝓛 (‵ ((MutRef (named 0) κ TableR.the_row).own_val (rt γ z) (vptr b o ∷ [])) ∷ ‵ (flft κ q) ∷ [])) (Post vunit)
+    exits : (z : Table) → (z ≡ with_places h (replied h.places (get_or x2.messages x3 zero_place).slot)) × (length x2.messages ≡ chunk_limit) → ent 𝓤 (⋆ 𝓛 (‵ ((MutRef (named 0) κ TableR.the_row).own_val (rt γ z) (vptr b o ∷ [])) ∷ ‵ (flft κ q) ∷ [])) (Post vunit)
     exits z eq =
         qed 𝓛 (‵ ((MutRef (named 0) κ TableR.the_row).own_val (rt γ z) (vptr b o ∷ [])) ∷ ‵ (flft κ q) ∷ []) ∵
         suffices ! _ (ends_at 𝓛 me.ended stayed (me.clauses 𝓛 at_mem run) (((κ, tt), (q, tt), tt, x, vs), tt) vunit tt (z, (tt, (tt, tt))) (tt, (tt, (tt, tt)))) $ says ! eq $
@@ -135,7 +135,7 @@ module _ {M : Type 1} {𝓤 : Ura M} (𝓛 : Logic 𝓤) (at_mem : Memory → SP
           nothing ! $ use1 𝓛 (raw ((C-lent-message 𝓛 at_mem run).pre (to-lent-message 𝓛 at_mem run x2 m2 x3 (vint w64 x3)))) (goes-lent-message 𝓛 at_mem run x2 m2 x3 (vint w64 x3) g2 g3) $
           calls_at ! fm (C-lent-message 𝓛 at_mem run) known-lent-message (to-lent-message 𝓛 at_mem run x2 m2 x3 (vint w64 x3)) (and_then ! (load ! (from ! (stop !)) (look ! 11 {q = full_share} {τ = ActedL.mir} {b = l2} {o = 0} {v = m2} refl)) (and_then ! (load ! (from ! (stop !)) (look ! 9 {q = full_share} {τ = ty_int w64} {b = l3} {o = 0} {v = (vint w64 x3)} refl)) (no_more !))) (λ w1.
           use1 𝓛 (later (some (λ (r : Slot). (‵ ftrue ⊛ ‵ ((SlotR.the_row).own_val r (w1 ∷ []))) ⊛ raw (ensured 𝓛 lent-message.ended (lent-message.clauses 𝓛 at_mem run) tt (x2, (x3, tt)) tt r)))) (id⊢ 𝓤 _) $ await ! tt $ pick ! (λ r1. split ! $ move ! (1 ∷ []) $
-          use1 𝓛 (raw (fact 𝓤 ((r1 ≡ (get_or x2.messages x3 zeroPlace).slot) × (length x2.messages ≡ chunkLimit)))) (said-lent-message 𝓛 at_mem run x2 x3 r1) $ heard ! ((r1 ≡ (get_or x2.messages x3 zeroPlace).slot) × (length x2.messages ≡ chunkLimit)) (λ e1. split ! $ drop ! $ facts ! SlotR.the_row (Is SlotR.the_row) (shows 𝓛 SlotR.the_row) r1 (w1 ∷ []) (λ is1.
+          use1 𝓛 (raw (fact 𝓤 ((r1 ≡ (get_or x2.messages x3 zero_place).slot) × (length x2.messages ≡ chunk_limit)))) (said-lent-message 𝓛 at_mem run x2 x3 r1) $ heard ! ((r1 ≡ (get_or x2.messages x3 zero_place).slot) × (length x2.messages ≡ chunk_limit)) (λ e1. split ! $ drop ! $ facts ! SlotR.the_row (Is SlotR.the_row) (shows 𝓛 SlotR.the_row) r1 (w1 ∷ []) (λ is1.
           land ! (from ! (stop !)) (init ! 2 {τ = SlotL.mir} {v = w1} refl ((EL.lawful SlotR.the_type SlotL.the_laws 𝓛 tt).typed r1 _ is1).0) $
           -- _4 = table_places::send_in(_5, _6)
           lft_new ! tt (λ ν2. move ! (1 ∷ 2 ∷ []) $
@@ -144,7 +144,7 @@ module _ {M : Type 1} {𝓤 : Ura M} (𝓛 : Logic 𝓤) (at_mem : Memory → SP
           use2 𝓛 (raw ((C-send-in 𝓛 at_mem run).pre (to-send-in 𝓛 at_mem run (ν2 ∷ []) full_share (rt δ2 h) r1 w1))) (goes-send-in 𝓛 at_mem run (ν2 ∷ []) full_share (rt δ2 h) r1 w1 is1) $
           calls_at ! fm (C-send-in 𝓛 at_mem run) known-send-in (to-send-in 𝓛 at_mem run (ν2 ∷ []) full_share (rt δ2 h) r1 w1) (and_then ! (load ! (from ! (stop !)) (look ! 4 refl)) (and_then ! (load ! (from ! (stop !)) (look ! 2 {q = full_share} {τ = SlotL.mir} {b = l6} {o = 0} {v = w1} refl)) (no_more !))) (λ w2.
           use1 𝓛 (later (some (λ (r : Unit {0}). ((‵ (flft (ν2 ∷ []) full_share) ⊛ ‵ ftrue) ⊛ ‵ (Nothing.own r (w2 ∷ []))) ⊛ raw (ensured 𝓛 send-in.ended (send-in.clauses 𝓛 at_mem run) ((ν2 ∷ []), tt) ((rt δ2 h), (r1, tt)) tt r)))) (id⊢ 𝓤 _) $ await ! tt $ pick ! (λ r2. split ! $ move ! (1 ∷ []) $
-          use1 𝓛 (some (λ (z2 : Table × (Unit {0} × Unit {0})). ‵ (lasts send-in.ended ((ν2 ∷ []), tt) ((rt δ2 h), (r1, tt)) z2) ⊛ raw (fact 𝓤 (z2.0 ≡ withPlaces h (replied h.places r1))))) (id⊢ 𝓤 _) $ pick ! (λ z2. split ! $ move ! (1 ∷ []) $ heard ! (z2.0 ≡ withPlaces h (replied h.places r1)) (λ e2. fsplit ! $
+          use1 𝓛 (some (λ (z2 : Table × (Unit {0} × Unit {0})). ‵ (lasts send-in.ended ((ν2 ∷ []), tt) ((rt δ2 h), (r1, tt)) z2) ⊛ raw (fact 𝓤 (z2.0 ≡ with_places h (replied h.places r1))))) (id⊢ 𝓤 _) $ pick ! (λ z2. split ! $ move ! (1 ∷ []) $ heard ! (z2.0 ≡ with_places h (replied h.places r1)) (λ e2. fsplit ! $
           move ! (2 ∷ []) $ split ! $ move ! (1 ∷ []) $ facts ! Nothing (Is Nothing) (shows 𝓛 Nothing) r2 (w2 ∷ []) (λ is2.
           land ! (from ! (stop !)) (init ! 8 {τ = ty_unit} {v = w2} refl ((Nothing-Lawful 𝓛).typed r2 _ is2).0) $ split ! $ lft_end ! tt $ move ! (0 ∷ 4 ∷ 2 ∷ []) $
           use3 𝓛 (later (‵ ((MutRef (named 0) κ TableR.the_row).own_val (rt γ z2.0) (vptr b o ∷ [])) ⊛ ‵ (flft κ q))) (comes_back 𝓛 TableR.the_row (named 0) κ (ν2 ∷ []) q γ b o δ2 h z2.0) $ await ! tt $ split ! $ move ! (2 ∷ 3 ∷ []) $ drop ! $ drop ! $
@@ -152,7 +152,7 @@ module _ {M : Type 1} {𝓤 : Ura M} (𝓛 : Logic 𝓤) (at_mem : Memory → SP
           returns ! (look ! 14 {q = full_share} {τ = ty_unit} {b = l0} {o = 0} {v = vunit} refl) $
           forget ! 2 refl $ forget ! 4 refl $ forget ! 6 refl $ forget ! 8 refl $ forget ! 10 refl $ forget ! 12 refl $ forget ! 14 refl $
           move ! (14 ∷ 15 ∷ []) $ free1 ! $ move ! (12 ∷ 13 ∷ []) $ free1 ! $ move ! (10 ∷ 11 ∷ []) $ free1 ! $ move ! (8 ∷ 9 ∷ []) $ free1 ! $ move ! (6 ∷ 7 ∷ []) $ free1 ! $ move ! (4 ∷ 5 ∷ []) $ free1 ! $ move ! (2 ∷ 3 ∷ []) $ free1 ! $ free0 ! $
-          by ! (exits z2.0 (e2 ∙ ap (λ (s : Slot). withPlaces h (replied h.places s)) e1.0, e1.1))))))))))))))))))))
+          by ! (exits z2.0 (e2 ∙ ap (λ (s : Slot). with_places h (replied h.places s)) e1.0, e1.1))))))))))))))))))))
 
 module _ {M : Type 1} {𝓤 : Ura M} (𝓛 : Logic 𝓤) (at_mem : Memory → SProp 𝓤) (run : Routine → Fun 𝓤) where
   open 𝓛 use {H}

@@ -6,14 +6,14 @@ use mathlib.Core.List.{List}
 use lib.ListN.{drop}
 use borrow.Author.Rules.{rules}
 use Rattle.rules.specs.Codes.{Row, code_of}
-use Rattle.rules.specs.Hosts.{finishRefusals}
-use Rattle.rules.specs.Network.{howMany}
-use Rattle.rules.proofs.Loops.{refused-here, refused-later, refused-nowhere}
+use Rattle.rules.specs.Hosts.{finish_refusals}
+use Rattle.rules.specs.Network.{how_many}
+use Rattle.rules.proofs.Loops.{refused-here, refused-later, refused_nowhere}
 use Rattle.host_attempts.proofs.finish_code.Statement.{statement}
 use Rattle.host_attempts.proofs.finish_code.Tie as tie
 
 abbrev rows : tie.Start → List Row
-rows c = finishRefusals c.args.h c.args.free (howMany c.args.to)
+rows c = finish_refusals c.args.h c.args.free (how_many c.args.to)
 
 past1 : (c : tie.Else1) (n : ℕ) → let r = rows c.before.before in n ≡ code_of (drop 1 r) → n ≡ code_of r
 past1 c n e = refused-later _ _ _ n c.if1.false e
@@ -37,7 +37,7 @@ returns-4 : tie.Need-returns-4
 returns-4 c = past3 c.before.before 5 (refused-here _ _ _ (sym c.before.lacks-room.ensures ∙ c.if4.true))
 
 returns-5 : tie.Need-returns-5
-returns-5 c = past3 c.before.before 0 (refused-later _ _ _ 0 (sym c.before.lacks-room.ensures ∙ c.if4.false) refused-nowhere)
+returns-5 c = past3 c.before.before 0 (refused-later _ _ _ 0 (sym c.before.lacks-room.ensures ∙ c.if4.false) refused_nowhere)
 
 pub finish-code-spec : {M : Type 1} → statement M
 finish-code-spec =

@@ -5,13 +5,13 @@ use mathlib.Core.List.{List}
 use lib.ListN.{drop}
 use borrow.Author.Tests.{lt-ltb, le-ltb, lt-leb, le-leb}
 use Rattle.rules.specs.Codes.{Row, code_of}
-use Rattle.rules.proofs.Loops.{refused-here, refused-later, refused-nowhere}
-use Rattle.host_keeper.specs.Keeper.{drawRefusals}
+use Rattle.rules.proofs.Loops.{refused-here, refused-later, refused_nowhere}
+use Rattle.host_keeper.specs.Keeper.{draw_refusals}
 use Rattle.host_keeper.proofs.draw_code.Statement.{statement}
 use Rattle.host_keeper.proofs.draw_code.Tie as tie
 
 abbrev rows : tie.Start → List Row
-rows c = drawRefusals c.args.k c.args.clock
+rows c = draw_refusals c.args.k c.args.clock
 
 returns : tie.Need-returns
 returns c = refused-here _ _ _ (le-leb _ _ c.if1.true)
@@ -27,7 +27,7 @@ past2 c n e = past1 c.before n (refused-later _ _ _ n (le-ltb _ _ c.if2.false) e
 
 -- granted: the clock is above the last one
 returns-4 : tie.Need-returns-4
-returns-4 c = past2 c.before.before 0 (refused-later _ _ _ 0 (lt-leb _ _ c.if3.false) refused-nowhere)
+returns-4 c = past2 c.before.before 0 (refused-later _ _ _ 0 (lt-leb _ _ c.if3.false) refused_nowhere)
 
 returns-3 : tie.Need-returns-3
 returns-3 c = past2 c.before.before 3 (refused-here _ _ _ (le-leb _ _ c.if3.true))

@@ -40,7 +40,7 @@ use denote.Triple.Table.{entered, cited}
 use denote.Triple.Walked.{says, Stays, stay_none, walk_of, Goes-none, Walks, ends_at, walked, walk_Meets}
 use denote.Exit.{yes}
 use borrow.Table.OneValue.{part_in, part_out}
-use Rattle.host_keeper.specs.Keeper.{drawn, handed, drawnAs}
+use Rattle.host_keeper.specs.Keeper.{drawn, handed, drawn_as}
 use Rattle.host_keeper.specs.declared.Keeper.{Keeper}
 use Rattle.host_keeper.specs.declared.Handed.{Handed}
 use Rattle.host_keeper.specs.declared.Drawn.{Drawn}
@@ -75,8 +75,8 @@ module _ {M : Type 1} {𝓤 : Ura M} (𝓛 : Logic 𝓤) (at_mem : Memory → SP
   DrawnAs = triple_of 𝓛 drawn-as.signature (drawn-as.spec 𝓛 at_mem run)
 
   -- of `drawn_as`, the clause alone
-  drawn-of : (k : Keeper) (h : Handed) (r : Drawn) → ent 𝓤 (ensured 𝓛 drawn-as.ended (drawn-as.clauses 𝓛 at_mem run) tt (k, (h, tt)) tt r) (fact 𝓤 (r ≡ drawnAs k h))
-  drawn-of k h r = ex_e 𝓤 _ (λ ws. snd∗ 𝓤 (sem 𝓛 (lasts drawn-as.ended tt (k, (h, tt)) ws)) (fact 𝓤 (r ≡ drawnAs k h)))
+  drawn-of : (k : Keeper) (h : Handed) (r : Drawn) → ent 𝓤 (ensured 𝓛 drawn-as.ended (drawn-as.clauses 𝓛 at_mem run) tt (k, (h, tt)) tt r) (fact 𝓤 (r ≡ drawn_as k h))
+  drawn-of k h r = ex_e 𝓤 _ (λ ws. snd∗ 𝓤 (sem 𝓛 (lasts drawn-as.ended tt (k, (h, tt)) ws)) (fact 𝓤 (r ≡ drawn_as k h)))
 
 module _ {M : Type 1} {𝓤 : Ura M} (𝓛 : Logic 𝓤) (at_mem : Memory → SProp 𝓤) (run : Routine → Fun 𝓤) (k : Keeper) (n : ℕ) where
   -- the keeper's machine value
@@ -168,13 +168,13 @@ module _ {M : Type 1} {𝓤 : Ura M} (𝓛 : Logic 𝓤) (at_mem : Memory → SP
           nothing ! $ use1 𝓛 (raw ((DrawnAs 𝓛 at_mem run).pre (to-as h u v))) (goes-as h u v is-k is-h) $
           calls_at ! fm (DrawnAs 𝓛 at_mem run) Known-as (to-as h u v) (and_then ! (load ! (from ! (stop !)) (look ! 3 refl)) (and_then ! (load ! (from ! (stop !)) (look ! 7 refl)) (no_more !))) (λ w.
           use1 𝓛 (later (some (λ (r : Drawn). (‵ ftrue ⊛ ‵ ((D.the_row).own_val r (w ∷ []))) ⊛ raw (ensured 𝓛 drawn-as.ended (drawn-as.clauses 𝓛 at_mem run) tt (after, (h, tt)) tt r)))) (id⊢ 𝓤 _) $ await ! tt $ pick ! (λ r.
-          split ! $ move ! (1 ∷ []) $ use1 𝓛 (raw (fact 𝓤 (r ≡ drawnAs after h))) (drawn-of 𝓛 at_mem run after h r) $ heard ! (r ≡ drawnAs after h) (λ e₂. split ! $ drop ! $
+          split ! $ move ! (1 ∷ []) $ use1 𝓛 (raw (fact 𝓤 (r ≡ drawn_as after h))) (drawn-of 𝓛 at_mem run after h r) $ heard ! (r ≡ drawn_as after h) (λ e₂. split ! $ drop ! $
           peeks ! D.the_row (Is D.the_row) (shows 𝓛 D.the_row) r (w ∷ []) (λ is.
           land ! (from ! (stop !)) (init ! 14 refl ((LL.lawful D.the_type D'.the_laws 𝓛).typed r _ is).0) $
           -- [the result; _3; true; _6; …; _5; …; _4; …; …; _2; …; _1; …; _0; …]
           returns ! (look ! 14 refl) $ forget ! 1 refl $ forget ! 3 refl $ forget ! 5 refl $ forget ! 7 refl $ forget ! 10 refl $ forget ! 12 refl $ forget ! 14 refl $
           move ! (14 ∷ 15 ∷ []) $ free1 ! $ move ! (12 ∷ 13 ∷ []) $ free1 ! $ move ! (10 ∷ 11 ∷ []) $ free1 ! $ move ! (1 ∷ 9 ∷ []) $ free1 ! $ move ! (6 ∷ 7 ∷ []) $ free1 ! $ move ! (4 ∷ 5 ∷ []) $ free1 ! $ move ! (2 ∷ 3 ∷ []) $ free1 ! $ free0 ! $
-          keep ! (0 ∷ []) $ by ! (exits r w (e₂ ∙ ap (drawnAs after) e₁)))))))))))))))))))))
+          keep ! (0 ∷ []) $ by ! (exits r w (e₂ ∙ ap (drawn_as after) e₁)))))))))))))))))))))
 
 module _ {M : Type 1} {𝓤 : Ura M} (𝓛 : Logic 𝓤) (at_mem : Memory → SProp 𝓤) (run : Routine → Fun 𝓤) where
   open 𝓛 use {H}

@@ -7,7 +7,7 @@ use Rattle.host_operations.proofs.held.Statement.{statement}
 use Rattle.host_operations.proofs.held.Tie as tie
 
 len : (c : tie.Start) → length c.args.q.operations ≡ 8
-len c = simp length-map at c.well-formed.0.1.1.1.0.1.0.1
+len c = simp length-map at c.well_formed_lem.0.1.1.1.0.1.0.1
 
 returns : tie.Need-returns
 returns c = (sym (take_count _ _ 8 (len c.before.before) c.if1.true), search rules)

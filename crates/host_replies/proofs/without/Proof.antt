@@ -10,7 +10,7 @@ use Rattle.host_replies.proofs.without.Statement.{statement}
 use Rattle.host_replies.proofs.without.Tie as tie
 
 len : (c : tie.Start) → length c.args.s.chunks ≡ 8
-len c = simp length-map at c.well-formed.0.1.1.0.1.0.1
+len c = simp length-map at c.well_formed_lem.0.1.1.0.1.0.1
 
 returns : tie.Need-returns
 returns c = search rules

@@ -1,11 +1,11 @@
 -- `network_messages::header_of` meets its contract
 use borrow.Author.Rules.{rules}
-use Rattle.network_messages.proofs.Laws.{reply-tag}
+use Rattle.network_messages.proofs.Laws.{reply_tag}
 use Rattle.network_messages.proofs.header_of.Statement.{statement}
 use Rattle.network_messages.proofs.header_of.Tie as tie
 
 reply-header-requires : tie.Need-reply-header-requires
-reply-header-requires c κs = reply-tag c.before.args.m c.match.keys5
+reply-header-requires c κs = reply_tag c.before.args.m c.match.keys5
 
 returns : tie.Need-returns
 returns c = rw c.before.before.m.given.1 c.headed.ensures

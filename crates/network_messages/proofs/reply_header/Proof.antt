@@ -2,7 +2,7 @@
 use mathlib.Core.Path.{sym, ◌∙◌}
 use mathlib.Core.Bool.{true≢false}
 use borrow.Author.Rules.{rules}
-use Rattle.network_messages.proofs.Laws.{request-tag}
+use Rattle.network_messages.proofs.Laws.{request_tag}
 use Rattle.network_messages.proofs.reply_header.Statement.{statement}
 use Rattle.network_messages.proofs.reply_header.Tie as tie
 
@@ -27,7 +27,7 @@ returns-6 c = rw c.before.before.m6.given.1 c.headed6.ensures
 returns-7 : tie.Need-returns-7
 returns-7 c =
     let s = c.before.before in
-    absurd (true≢false (sym (request-tag s.args.m c.before.match.keys7) ∙ s.requires))
+    absurd (true≢false (sym (request_tag s.args.m c.before.match.keys7) ∙ s.requires))
 
 pub reply-header-spec : {M : Type 1} → statement M
 reply-header-spec =

@@ -49,9 +49,9 @@ use denote.Slice.{slice_val, ShrSlice, Room, shr_slice_vals, shr_slice_Tells, sh
 use denote.Triple.Walked.{stay_none_slice, Goes-none_slice}
 use borrow.Table.OneValue.{part_out, part_in}
 use Rattle.table_lent.proofs.Bodies.{ty_at, inside, after}
-use Rattle.rules.specs.Events.{replyOf, step}
-use Rattle.replay.specs.Replay.{eventAt, mixedWith, tableAfter, sumAfter}
-use Rattle.replay.proofs.Laws.{table_before, sum-before, table-next, sum-next, four-fit, count-below}
+use Rattle.rules.specs.Events.{reply_of, step}
+use Rattle.replay.specs.Replay.{event_at, mixed_with, table_after, sum_after}
+use Rattle.replay.proofs.Laws.{table_before, sum-before, table-next, sum-next, four_fit, count-below}
 use Rattle.rules.specs.declared.Event.{Event}
 use Rattle.rules.specs.contracts.Event as EventR
 use Rattle.rules.proofs.Event.TheLaws as EventL
@@ -108,8 +108,8 @@ module _ {M : Type 1} {𝓤 : Ura M} (𝓛 : Logic 𝓤) (at_mem : Memory → SP
   abbrev C-event-at : Contract 𝓤
   C-event-at = triple_of 𝓛 event-at.signature (event-at.spec 𝓛 at_mem run)
 
-  said-event-at : (κ : Lft) (t : Bor (List ℕ)) (x0 : ℕ) (r : Event) → ent 𝓤 (ensured 𝓛 event-at.ended (event-at.clauses 𝓛 at_mem run) (κ, tt) (t, (x0, tt)) tt r) (fact 𝓤 (r ≡ eventAt t.now x0))
-  said-event-at κ t x0 r = ex_e 𝓤 _ (λ ws. snd∗ 𝓤 (sem 𝓛 (lasts event-at.ended (κ, tt) (t, (x0, tt)) ws)) (fact 𝓤 (r ≡ eventAt t.now x0)))
+  said-event-at : (κ : Lft) (t : Bor (List ℕ)) (x0 : ℕ) (r : Event) → ent 𝓤 (ensured 𝓛 event-at.ended (event-at.clauses 𝓛 at_mem run) (κ, tt) (t, (x0, tt)) tt r) (fact 𝓤 (r ≡ event_at t.now x0))
+  said-event-at κ t x0 r = ex_e 𝓤 _ (λ ws. snd∗ 𝓤 (sem 𝓛 (lasts event-at.ended (κ, tt) (t, (x0, tt)) ws)) (fact 𝓤 (r ≡ event_at t.now x0)))
 
   abbrev C-step-in : Contract 𝓤
   C-step-in = triple_of 𝓛 step_in.signature (step_in.spec 𝓛 at_mem run)
@@ -117,8 +117,8 @@ module _ {M : Type 1} {𝓤 : Ura M} (𝓛 : Logic 𝓤) (at_mem : Memory → SP
   abbrev C-mix-reply : Contract 𝓤
   C-mix-reply = triple_of 𝓛 mix-reply.signature (mix-reply.spec 𝓛 at_mem run)
 
-  said-mix-reply : (x0 : ℕ) (x1 : Reply) (r : ℕ) → ent 𝓤 (ensured 𝓛 mix-reply.ended (mix-reply.clauses 𝓛 at_mem run) tt (x0, (x1, tt)) tt r) (fact 𝓤 (r ≡ mixedWith x0 x1.code x1.outcome))
-  said-mix-reply x0 x1 r = ex_e 𝓤 _ (λ ws. snd∗ 𝓤 (sem 𝓛 (lasts mix-reply.ended tt (x0, (x1, tt)) ws)) (fact 𝓤 (r ≡ mixedWith x0 x1.code x1.outcome)))
+  said-mix-reply : (x0 : ℕ) (x1 : Reply) (r : ℕ) → ent 𝓤 (ensured 𝓛 mix-reply.ended (mix-reply.clauses 𝓛 at_mem run) tt (x0, (x1, tt)) tt r) (fact 𝓤 (r ≡ mixed_with x0 x1.code x1.outcome))
+  said-mix-reply x0 x1 r = ex_e 𝓤 _ (λ ws. snd∗ 𝓤 (sem 𝓛 (lasts mix-reply.ended tt (x0, (x1, tt)) ws)) (fact 𝓤 (r ≡ mixed_with x0 x1.code x1.outcome)))
 
 module _ {M : Type 1} {𝓤 : Ura M} (𝓛 : Logic 𝓤) (at_mem : Memory → SProp 𝓤) (run : Routine → Fun 𝓤) where
   open 𝓛 use {A}
@@ -175,7 +175,7 @@ module _ {M : Type 1} {𝓤 : Ura M} (𝓛 : Logic 𝓤) (at_mem : Memory → SP
   Post = (walk_of 𝓛 me.ended stayed (me.clauses 𝓛 at_mem run)).post (((κ, tt), (q, tt), tt, x, vs), tt)
 
   module _ (g : Is TableR.the_row t (m ∷ [])) (ge : Room u64 (length l)) where
-    exits : (r : ℕ) → r < 2 ^ 64 → r ≡ sumAfter t l n → ent 𝓤 (⋆ 𝓛 (Shr ∷ ‵ (flft κ q) ∷ [])) (Post (vint w64 r))
+    exits : (r : ℕ) → r < 2 ^ 64 → r ≡ sum_after t l n → ent 𝓤 (⋆ 𝓛 (Shr ∷ ‵ (flft κ q) ∷ [])) (Post (vint w64 r))
     exits r fits eq =
         qed 𝓛 (Shr ∷ ‵ (flft κ q) ∷ []) ∵
         suffices ! _ (ends_at 𝓛 me.ended stayed (me.clauses 𝓛 at_mem run) (((κ, tt), (q, tt), tt, x, vs), tt) (vint w64 r) r (tt, (tt, tt)) (tt, (tt, tt))) $ says ! eq $
@@ -183,7 +183,7 @@ module _ {M : Type 1} {𝓤 : Ura M} (𝓛 : Logic 𝓤) (at_mem : Memory → SP
 
     -- how many events are done, and that the checksum is a 64-bit number
     abbrev Upto : Type 0
-    Upto = (i : ℕ) × ((i ≤ n) × (sumAfter t l i < 2 ^ 64))
+    Upto = (i : ℕ) × ((i ≤ n) × (sum_after t l i < 2 ^ 64))
 
     abbrev Nearer : Upto → Upto → Type 0
     Nearer j i = n - j.0 < n - i.0
@@ -221,9 +221,9 @@ module _ {M : Type 1} {𝓤 : Ura M} (𝓛 : Logic 𝓤) (at_mem : Memory → SP
             ∷ ‵ (froom (ty 8) l8 0) ∷ ‵ (fdies (ty 8) l8)
             ∷ ‵ (froom (ty 7) l7 0) ∷ ‵ (fdies (ty 7) l7)
             ∷ ‵ (fat full_share (ty 6) l6 0 (vint w64 i.0)) ∷ ‵ (fdies (ty 6) l6)
-            ∷ ‵ (fat full_share (ty 5) l5 0 (vint w64 (sumAfter t l i.0))) ∷ ‵ (fdies (ty 5) l5)
+            ∷ ‵ (fat full_share (ty 5) l5 0 (vint w64 (sum_after t l i.0))) ∷ ‵ (fdies (ty 5) l5)
             ∷ ‵ (fat full_share (ty 4) l4 0 (vint w64 n)) ∷ ‵ (fdies (ty 4) l4)
-            ∷ ‵ (part_at TableR.the_row full_share (tableAfter t l i.0) l3 0) ∷ ‵ (fdies (ty 3) l3)
+            ∷ ‵ (part_at TableR.the_row full_share (table_after t l i.0) l3 0) ∷ ‵ (fdies (ty 3) l3)
             ∷ ‵ (fat full_share (ty 2) l2 0 sv) ∷ ‵ (fdies (ty 2) l2)
             ∷ ‵ (fat full_share (ty 1) l1 0 m) ∷ ‵ (fdies (ty 1) l1)
             ∷ ‵ (froom (ty 0) l0 0) ∷ ‵ (fdies (ty 0) l0)
@@ -237,29 +237,29 @@ module _ {M : Type 1} {𝓤 : Ura M} (𝓛 : Logic 𝓤) (at_mem : Memory → SP
         does i less =
             -- _7 = event_at(_2, _6)
             move ! (22 ∷ []) $ use1 𝓛 (Shr ⊛ Shr) ((shr_slice_copy 𝓛 (named 0) κ u64).twice sl (sv ∷ [])) $ split ! $ move ! (24 ∷ 0 ∷ []) $
-            use2 𝓛 (raw ((C-event-at 𝓛 at_mem run).pre (to-event-at 𝓛 at_mem run κ q sl i.0))) (goes-event-at 𝓛 at_mem run κ q sl i.0 (fits-i i less) (four-fit i.0 (length l) less)) $
+            use2 𝓛 (raw ((C-event-at 𝓛 at_mem run).pre (to-event-at 𝓛 at_mem run κ q sl i.0))) (goes-event-at 𝓛 at_mem run κ q sl i.0 (fits-i i less) (four_fit i.0 (length l) less)) $
             calls_at ! fm (C-event-at 𝓛 at_mem run) known-event-at (to-event-at 𝓛 at_mem run κ q sl i.0) (and_then ! (load ! (from ! (stop !)) (look ! 18 refl)) (and_then ! (load ! (from ! (stop !)) (look ! 10 refl)) (no_more !))) (λ w1.
             use1 𝓛 (later (some (λ (r : Event). ((‵ (flft κ q) ⊛ ‵ ftrue) ⊛ ‵ ((EventR.the_row).own_val r (w1 ∷ []))) ⊛ raw (ensured 𝓛 event-at.ended (event-at.clauses 𝓛 at_mem run) (κ, tt) (sl, (i.0, tt)) tt r)))) (id⊢ 𝓤 _) $ await ! tt $ pick ! (λ r1. split ! $ move ! (1 ∷ []) $
-            use1 𝓛 (raw (fact 𝓤 (r1 ≡ eventAt l i.0))) (said-event-at 𝓛 at_mem run κ sl i.0 r1) $ heard ! (r1 ≡ eventAt l i.0) (λ e1. split ! $ move ! (1 ∷ []) $ facts ! EventR.the_row (Is EventR.the_row) (shows 𝓛 EventR.the_row) r1 (w1 ∷ []) (λ is1.
+            use1 𝓛 (raw (fact 𝓤 (r1 ≡ event_at l i.0))) (said-event-at 𝓛 at_mem run κ sl i.0 r1) $ heard ! (r1 ≡ event_at l i.0) (λ e1. split ! $ move ! (1 ∷ []) $ facts ! EventR.the_row (Is EventR.the_row) (shows 𝓛 EventR.the_row) r1 (w1 ∷ []) (λ is1.
             land ! (from ! (stop !)) (init ! 8 {τ = EventL.mir} {v = w1} refl ((LL.lawful EventR.the_type EventL.the_laws 𝓛).typed r1 _ is1).0) $ split ! $ keep ! (3 ∷ 4 ∷ 5 ∷ 6 ∷ 7 ∷ 8 ∷ 9 ∷ 10 ∷ 11 ∷ 12 ∷ 13 ∷ 14 ∷ 15 ∷ 16 ∷ 17 ∷ 18 ∷ 19 ∷ 20 ∷ 21 ∷ 22 ∷ 23 ∷ 24 ∷ 2 ∷ 0 ∷ []) $
             assigns ! (addr ! (from ! (stop !))) (from ! (stop !)) (init ! 0 refl (tt, tt)) $
             -- _8 = step_in(_10, _7)
             lft_new ! tt (λ ν. move ! (15 ∷ []) $
-            use1 𝓛 (later (some (λ (δ : GName). ‵ ((MutRef (named 0) (ν ∷ []) TableR.the_row).own_val (rt δ (tableAfter t l i.0)) (vptr l3 0 ∷ [])) ⊛ ‵ (flent (ν ∷ []) (Lent (mem TableR.the_row) l3 0 δ))))) (lends_ref 𝓛 TableR.the_row (named 0) (ν ∷ []) (tableAfter t l i.0) l3 0) $
+            use1 𝓛 (later (some (λ (δ : GName). ‵ ((MutRef (named 0) (ν ∷ []) TableR.the_row).own_val (rt δ (table_after t l i.0)) (vptr l3 0 ∷ [])) ⊛ ‵ (flent (ν ∷ []) (Lent (mem TableR.the_row) l3 0 δ))))) (lends_ref 𝓛 TableR.the_row (named 0) (ν ∷ []) (table_after t l i.0) l3 0) $
             await ! tt $ pick ! (λ δ. split ! $ move ! (2 ∷ 0 ∷ []) $
-            use2 𝓛 (raw ((C-step-in 𝓛 at_mem run).pre (to-step-in 𝓛 at_mem run (ν ∷ []) full_share (rt δ (tableAfter t l i.0)) r1 w1))) (goes-step-in 𝓛 at_mem run (ν ∷ []) full_share (rt δ (tableAfter t l i.0)) r1 w1 is1) $
-            calls_at ! fm (C-step-in 𝓛 at_mem run) known-step-in (to-step-in 𝓛 at_mem run (ν ∷ []) full_share (rt δ (tableAfter t l i.0)) r1 w1) (and_then ! (load ! (from ! (stop !)) (look ! 2 refl)) (and_then ! (load ! (from ! (stop !)) (look ! 8 {q = full_share} {τ = EventL.mir} {b = l7} {o = 0} {v = w1} refl)) (no_more !))) (λ w2.
-            use1 𝓛 (later (some (λ (r : Reply). ((‵ (flft (ν ∷ []) full_share) ⊛ ‵ ftrue) ⊛ ‵ ((ReplyR.the_row).own_val r (w2 ∷ []))) ⊛ raw (ensured 𝓛 step_in.ended (step_in.clauses 𝓛 at_mem run) (ν ∷ [], tt) ((rt δ (tableAfter t l i.0)), (r1, tt)) tt r)))) (id⊢ 𝓤 _) $ await ! tt $ pick ! (λ r2. split ! $ move ! (1 ∷ []) $
-            use1 𝓛 (some (λ (z2 : Table × (Unit {0} × Unit {0})). ‵ (lasts step_in.ended (ν ∷ [], tt) ((rt δ (tableAfter t l i.0)), (r1, tt)) z2) ⊛ raw (fact 𝓤 ((r2 ≡ replyOf (step (tableAfter t l i.0) r1)) × (z2.0 ≡ (step (tableAfter t l i.0) r1).table))))) (id⊢ 𝓤 _) $ pick ! (λ z2. split ! $ move ! (1 ∷ []) $ heard ! ((r2 ≡ replyOf (step (tableAfter t l i.0) r1)) × (z2.0 ≡ (step (tableAfter t l i.0) r1).table)) (λ e2. fsplit ! $
+            use2 𝓛 (raw ((C-step-in 𝓛 at_mem run).pre (to-step-in 𝓛 at_mem run (ν ∷ []) full_share (rt δ (table_after t l i.0)) r1 w1))) (goes-step-in 𝓛 at_mem run (ν ∷ []) full_share (rt δ (table_after t l i.0)) r1 w1 is1) $
+            calls_at ! fm (C-step-in 𝓛 at_mem run) known-step-in (to-step-in 𝓛 at_mem run (ν ∷ []) full_share (rt δ (table_after t l i.0)) r1 w1) (and_then ! (load ! (from ! (stop !)) (look ! 2 refl)) (and_then ! (load ! (from ! (stop !)) (look ! 8 {q = full_share} {τ = EventL.mir} {b = l7} {o = 0} {v = w1} refl)) (no_more !))) (λ w2.
+            use1 𝓛 (later (some (λ (r : Reply). ((‵ (flft (ν ∷ []) full_share) ⊛ ‵ ftrue) ⊛ ‵ ((ReplyR.the_row).own_val r (w2 ∷ []))) ⊛ raw (ensured 𝓛 step_in.ended (step_in.clauses 𝓛 at_mem run) (ν ∷ [], tt) ((rt δ (table_after t l i.0)), (r1, tt)) tt r)))) (id⊢ 𝓤 _) $ await ! tt $ pick ! (λ r2. split ! $ move ! (1 ∷ []) $
+            use1 𝓛 (some (λ (z2 : Table × (Unit {0} × Unit {0})). ‵ (lasts step_in.ended (ν ∷ [], tt) ((rt δ (table_after t l i.0)), (r1, tt)) z2) ⊛ raw (fact 𝓤 ((r2 ≡ reply_of (step (table_after t l i.0) r1)) × (z2.0 ≡ (step (table_after t l i.0) r1).table))))) (id⊢ 𝓤 _) $ pick ! (λ z2. split ! $ move ! (1 ∷ []) $ heard ! ((r2 ≡ reply_of (step (table_after t l i.0) r1)) × (z2.0 ≡ (step (table_after t l i.0) r1).table)) (λ e2. fsplit ! $
             move ! (2 ∷ []) $ split ! $ move ! (1 ∷ []) $ facts ! ReplyR.the_row (Is ReplyR.the_row) (shows 𝓛 ReplyR.the_row) r2 (w2 ∷ []) (λ is2.
             land ! (from ! (stop !)) (init ! 8 {τ = ReplyL.mir} {v = w2} refl ((LL.lawful ReplyR.the_type ReplyL.the_laws 𝓛).typed r2 _ is2).0) $ split ! $ lft_end ! tt $ move ! (0 ∷ 4 ∷ 2 ∷ []) $
             use3 𝓛 (later (‵ (part_at TableR.the_row full_share z2.0 l3 0))) (ref_back 𝓛 TableR.the_row (ν ∷ []) δ z2.0 l3 0) $ await ! tt $ keep ! (3 ∷ 4 ∷ 5 ∷ 6 ∷ 7 ∷ 8 ∷ 9 ∷ 10 ∷ 11 ∷ 12 ∷ 13 ∷ 14 ∷ 15 ∷ 16 ∷ 0 ∷ 17 ∷ 18 ∷ 19 ∷ 20 ∷ 21 ∷ 22 ∷ 23 ∷ 24 ∷ 25 ∷ []) $
             rewrite ! 14 (λ (u : Table). ‵ (part_at TableR.the_row full_share u l3 0)) (table-next t l i.0 r1 e1 r2 z2.0 e2) refl $
             -- _5 = mix_reply(_5, _8)
-            nothing ! $ use1 𝓛 (raw ((C-mix-reply 𝓛 at_mem run).pre (to-mix-reply 𝓛 at_mem run (sumAfter t l i.0) (vint w64 (sumAfter t l i.0)) r2 w2))) (goes-mix-reply 𝓛 at_mem run (sumAfter t l i.0) (vint w64 (sumAfter t l i.0)) r2 w2 (refl, i.1.1) is2) $
-            calls_at ! fm (C-mix-reply 𝓛 at_mem run) known-mix-reply (to-mix-reply 𝓛 at_mem run (sumAfter t l i.0) (vint w64 (sumAfter t l i.0)) r2 w2) (and_then ! (load ! (from ! (stop !)) (look ! 11 refl)) (and_then ! (load ! (from ! (stop !)) (look ! 5 {q = full_share} {τ = ReplyL.mir} {b = l8} {o = 0} {v = w2} refl)) (no_more !))) (λ w3.
-            use1 𝓛 (later (some (λ (r : ℕ). (‵ ftrue ⊛ ‵ (usize.own_val r (w3 ∷ []))) ⊛ raw (ensured 𝓛 mix-reply.ended (mix-reply.clauses 𝓛 at_mem run) tt ((sumAfter t l i.0), (r2, tt)) tt r)))) (id⊢ 𝓤 _) $ await ! tt $ pick ! (λ r3. split ! $ move ! (1 ∷ []) $
-            use1 𝓛 (raw (fact 𝓤 (r3 ≡ mixedWith (sumAfter t l i.0) r2.code r2.outcome))) (said-mix-reply 𝓛 at_mem run (sumAfter t l i.0) r2 r3) $ heard ! (r3 ≡ mixedWith (sumAfter t l i.0) r2.code r2.outcome) (λ e3. split ! $ drop ! $ facts ! usize (Is usize) (shows 𝓛 usize) r3 (w3 ∷ []) (λ is3.
+            nothing ! $ use1 𝓛 (raw ((C-mix-reply 𝓛 at_mem run).pre (to-mix-reply 𝓛 at_mem run (sum_after t l i.0) (vint w64 (sum_after t l i.0)) r2 w2))) (goes-mix-reply 𝓛 at_mem run (sum_after t l i.0) (vint w64 (sum_after t l i.0)) r2 w2 (refl, i.1.1) is2) $
+            calls_at ! fm (C-mix-reply 𝓛 at_mem run) known-mix-reply (to-mix-reply 𝓛 at_mem run (sum_after t l i.0) (vint w64 (sum_after t l i.0)) r2 w2) (and_then ! (load ! (from ! (stop !)) (look ! 11 refl)) (and_then ! (load ! (from ! (stop !)) (look ! 5 {q = full_share} {τ = ReplyL.mir} {b = l8} {o = 0} {v = w2} refl)) (no_more !))) (λ w3.
+            use1 𝓛 (later (some (λ (r : ℕ). (‵ ftrue ⊛ ‵ (usize.own_val r (w3 ∷ []))) ⊛ raw (ensured 𝓛 mix-reply.ended (mix-reply.clauses 𝓛 at_mem run) tt ((sum_after t l i.0), (r2, tt)) tt r)))) (id⊢ 𝓤 _) $ await ! tt $ pick ! (λ r3. split ! $ move ! (1 ∷ []) $
+            use1 𝓛 (raw (fact 𝓤 (r3 ≡ mixed_with (sum_after t l i.0) r2.code r2.outcome))) (said-mix-reply 𝓛 at_mem run (sum_after t l i.0) r2 r3) $ heard ! (r3 ≡ mixed_with (sum_after t l i.0) r2.code r2.outcome) (λ e3. split ! $ drop ! $ facts ! usize (Is usize) (shows 𝓛 usize) r3 (w3 ∷ []) (λ is3.
             land ! (from ! (stop !)) (store ! 10 refl ((uint_Lawful 𝓛 w64).typed r3 _ is3).0) $
             rewrite ! 10 (λ (u : Val). ‵ (fat full_share (ty_int w64) l5 0 u)) (ap only is3.0 ∙ ap (vint w64) (sum-next t l i.0 r1 e1 r2 z2.0 e2 r3 e3)) refl $
             assigns_last ! (bin ! (load ! (from ! (stop !)) (look ! 8 refl)) (lit ! tt) (record { fits = more-fits i less })) (from ! (stop !)) (store ! 8 refl (tt, record { fits = more-fits i less })) $
@@ -274,11 +274,11 @@ module _ {M : Type 1} {𝓤 : Ura M} (𝓛 : Logic 𝓤) (at_mem : Memory → SP
             (λ less. skips ! $ exec ! C Λ En more (any_q (Turned i)) $ forget ! 2 refl $ does i (ltb→lt i.0 n less))
             (λ over. jumps ! $ exec ! C Λ En rest (at_ret En Post) $
             assigns ! (of_opd ! (load ! (from ! (stop !)) (look ! 10 refl))) (from ! (stop !)) (init ! 20 refl (tt, record { fits = i.1.1 })) $
-            move ! (14 ∷ []) $ use1 𝓛 (some (λ (u : Val). ‵ (fat full_share TableL.mir l3 0 u) ⊛ ‵ ((TableR.the_row).own_val (tableAfter t l i.0) (u ∷ [])))) (part_out 𝓛 TableR.the_row refl full_share (tableAfter t l i.0) l3 0) $ pick ! (λ u. split ! $
+            move ! (14 ∷ []) $ use1 𝓛 (some (λ (u : Val). ‵ (fat full_share TableL.mir l3 0 u) ⊛ ‵ ((TableR.the_row).own_val (table_after t l i.0) (u ∷ [])))) (part_out 𝓛 TableR.the_row refl full_share (table_after t l i.0) l3 0) $ pick ! (λ u. split ! $
             move ! (1 ∷ []) $ drop ! $ keep ! (1 ∷ 2 ∷ 3 ∷ 4 ∷ 5 ∷ 6 ∷ 7 ∷ 8 ∷ 9 ∷ 10 ∷ 11 ∷ 12 ∷ 13 ∷ 14 ∷ 0 ∷ 15 ∷ 16 ∷ 17 ∷ 18 ∷ 19 ∷ 20 ∷ 21 ∷ 22 ∷ 23 ∷ []) $
             returns ! (look ! 20 refl) $ forget ! 2 refl $ forget ! 8 refl $ forget ! 10 refl $ forget ! 12 refl $ forget ! 14 refl $ forget ! 16 refl $ forget ! 18 refl $ forget ! 20 refl $
             move ! (20 ∷ 21 ∷ []) $ free1 ! $ move ! (18 ∷ 19 ∷ []) $ free1 ! $ move ! (16 ∷ 17 ∷ []) $ free1 ! $ move ! (14 ∷ 15 ∷ []) $ free1 ! $ move ! (12 ∷ 13 ∷ []) $ free1 ! $ move ! (10 ∷ 11 ∷ []) $ free1 ! $ move ! (8 ∷ 9 ∷ []) $ free1 ! $ move ! (6 ∷ 7 ∷ []) $ free1 ! $ move ! (4 ∷ 5 ∷ []) $ free1 ! $ move ! (2 ∷ 3 ∷ []) $ free1 ! $ move ! (0 ∷ 1 ∷ []) $ free1 ! $ free0 ! $
-            by ! (exits (sumAfter t l i.0) i.1.1 (ap (sumAfter t l) (le_antisymm i.1.0 (nltb→le i.0 n over))))))
+            by ! (exits (sum_after t l i.0) i.1.1 (ap (sum_after t l) (le_antisymm i.1.0 (nltb→le i.0 n over))))))
 
       walk : ent 𝓤 (on_entry 𝓛 me.signature (κ, tt) (q, tt) x vs) (WpFn 𝓤 H C Λ code.function (m ∷ sv ∷ []) Post)
       walk =

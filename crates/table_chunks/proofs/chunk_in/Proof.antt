@@ -48,11 +48,11 @@ use Rattle.rules.proofs.Chunk.TheLaws as ChunkL
 use Rattle.rules.specs.declared.Table.{Table}
 use Rattle.rules.specs.contracts.Table as TableR
 use Rattle.rules.proofs.Table.TheLaws as TableL
-use Rattle.rules.specs.Zero.{zeroChunk}
-use Rattle.rules.specs.Tables.{withChunks}
+use Rattle.rules.specs.Zero.{zero_chunk}
+use Rattle.rules.specs.Tables.{with_chunks}
 use Rattle.table_lent.proofs.Bodies.{ty_at, after}
 use Rattle.table_lent.proofs.Hole.{reaches, passes, Back}
-use Rattle.table_lent.proofs.Parts.{chunks-at, chunk-hole, chunk-same, chunks-sized, chunk-beyond}
+use Rattle.table_lent.proofs.Parts.{chunks-at, chunk_hole, chunk-same, chunks-sized, chunk-beyond}
 use Rattle.table_zero.specs.contracts.chunk as zero-chunk
 use Rattle.table_zero.proofs.chunk.Symbol as zero-chunk-def
 use Rattle.table_zero.proofs.chunk.Symbol.{name as #table_zero·chunk}
@@ -76,8 +76,8 @@ module _ {M : Type 1} {𝓤 : Ura M} (𝓛 : Logic 𝓤) (at_mem : Memory → SP
   abbrev C-zero-chunk : Contract 𝓤
   C-zero-chunk = triple_of 𝓛 zero-chunk.signature (zero-chunk.spec 𝓛 at_mem run)
 
-  said-zero-chunk : (r : Chunk) → ent 𝓤 (ensured 𝓛 zero-chunk.ended (zero-chunk.clauses 𝓛 at_mem run) tt tt tt r) (fact 𝓤 (r ≡ zeroChunk))
-  said-zero-chunk r = ex_e 𝓤 _ (λ ws. snd∗ 𝓤 (sem 𝓛 (lasts zero-chunk.ended tt tt ws)) (fact 𝓤 (r ≡ zeroChunk)))
+  said-zero-chunk : (r : Chunk) → ent 𝓤 (ensured 𝓛 zero-chunk.ended (zero-chunk.clauses 𝓛 at_mem run) tt tt tt r) (fact 𝓤 (r ≡ zero_chunk))
+  said-zero-chunk r = ex_e 𝓤 _ (λ ws. snd∗ 𝓤 (sem 𝓛 (lasts zero-chunk.ended tt tt ws)) (fact 𝓤 (r ≡ zero_chunk)))
 
 module _ {M : Type 1} {𝓤 : Ura M} (𝓛 : Logic 𝓤) (at_mem : Memory → SProp 𝓤) (run : Routine → Fun 𝓤) where
   abbrev to-zero-chunk : (C-zero-chunk 𝓛 at_mem run).Ghost
@@ -102,7 +102,7 @@ module _ {M : Type 1} {𝓤 : Ura M} (𝓛 : Logic 𝓤) (at_mem : Memory → SP
   Post = (walk_of 𝓛 me.ended stayed (me.clauses 𝓛 at_mem run)).post (((κ, tt), (q, tt), tt, x, vs), tt)
 
   module _ (g2 : Is usize x2 ((vint w64 x2) ∷ [])) where
-    exits : (r : Chunk) (v : Val) → Is ChunkR.the_row r (v ∷ []) → r ≡ get_or h.chunks x2 zeroChunk → ent 𝓤 (⋆ 𝓛 (‵ (flft κ q) ∷ ‵ ((ShrRef (named 0) κ TableR.the_row).own_val (rt γ h) (vptr b o ∷ [])) ∷ [])) (Post v)
+    exits : (r : Chunk) (v : Val) → Is ChunkR.the_row r (v ∷ []) → r ≡ get_or h.chunks x2 zero_chunk → ent 𝓤 (⋆ 𝓛 (‵ (flft κ q) ∷ ‵ ((ShrRef (named 0) κ TableR.the_row).own_val (rt γ h) (vptr b o ∷ [])) ∷ [])) (Post v)
     exits r v g eq =
         qed 𝓛 (‵ (flft κ q) ∷ ‵ ((ShrRef (named 0) κ TableR.the_row).own_val (rt γ h) (vptr b o ∷ [])) ∷ []) ∵
         suffices ! _ (ends_at 𝓛 me.ended stayed (me.clauses 𝓛 at_mem run) (((κ, tt), (q, tt), tt, x, vs), tt) v r (tt, (tt, tt)) (tt, (tt, tt))) $ says ! eq $
@@ -135,21 +135,21 @@ module _ {M : Type 1} {𝓤 : Ura M} (𝓛 : Logic 𝓤) (at_mem : Memory → SP
           rewrite ! 4 (λ (p : ℕ). ‵ (fat full_share ty_ptr l7 0 (vptr b p))) (sym (at_mul (o + 2280) 32 x2)) refl $
           move ! (1 ∷ []) $ fsplit3 ! $ drop ! $ move ! (1 ∷ 2 ∷ []) $ shr_bor_dup ! $ move ! (0 ∷ 2 ∷ []) $
           shr_bor-open ! tt (part-halves 𝓛 TableR.the_row (Is TableR.the_row) (shows 𝓛 TableR.the_row) (LL.vals TableR.the_type TableL.the_laws) (LL.tells TableR.the_type TableL.the_laws) (LL.copy TableR.the_type TableL.the_copy 𝓛) h b o) (λ q'. move ! (1 ∷ []) $
-          use1 𝓛 (‵ (part_at ChunkR.the_row q' (get_or h.chunks x2 zeroChunk) b (chunks-at o x2)) ⊛ raw (Back 𝓛 q' TableR.the_row ChunkR.the_row (withChunks h (set h.chunks x2 (get_or h.chunks x2 zeroChunk))) (get_or h.chunks x2 zeroChunk) b o (chunks-at o x2))) (chunk-hole 𝓛 q' h x2 (get_or h.chunks x2 zeroChunk) b o (reaches x2 _ 8 held (leb→le _ _ tt))) $ split ! $
-          use1 𝓛 (some (λ (w : Val). ‵ (fat q' (raw_ty (lone (ChunkR.the_row).mir)) b (chunks-at o x2) w) ⊛ ‵ ((ChunkR.the_row).own_val (get_or h.chunks x2 zeroChunk) (w ∷ [])))) (part_out_at 𝓛 ChunkR.the_row refl q' (get_or h.chunks x2 zeroChunk) b (chunks-at o x2) (raw_ty (lone (ChunkR.the_row).mir)) refl) $
+          use1 𝓛 (‵ (part_at ChunkR.the_row q' (get_or h.chunks x2 zero_chunk) b (chunks-at o x2)) ⊛ raw (Back 𝓛 q' TableR.the_row ChunkR.the_row (with_chunks h (set h.chunks x2 (get_or h.chunks x2 zero_chunk))) (get_or h.chunks x2 zero_chunk) b o (chunks-at o x2))) (chunk_hole 𝓛 q' h x2 (get_or h.chunks x2 zero_chunk) b o (reaches x2 _ 8 held (leb→le _ _ tt))) $ split ! $
+          use1 𝓛 (some (λ (w : Val). ‵ (fat q' (raw_ty (lone (ChunkR.the_row).mir)) b (chunks-at o x2) w) ⊛ ‵ ((ChunkR.the_row).own_val (get_or h.chunks x2 zero_chunk) (w ∷ [])))) (part_out_at 𝓛 ChunkR.the_row refl q' (get_or h.chunks x2 zero_chunk) b (chunks-at o x2) (raw_ty (lone (ChunkR.the_row).mir)) refl) $
           pick ! (λ w. split ! $ move ! (1 ∷ []) $
-          peeks ! ChunkR.the_row (Is ChunkR.the_row) (shows 𝓛 ChunkR.the_row) (get_or h.chunks x2 zeroChunk) (w ∷ []) (λ gw. move ! (1 ∷ 0 ∷ []) $
+          peeks ! ChunkR.the_row (Is ChunkR.the_row) (shows 𝓛 ChunkR.the_row) (get_or h.chunks x2 zero_chunk) (w ∷ []) (λ gw. move ! (1 ∷ 0 ∷ []) $
           -- [the part; what it owns; the way back; the open borrow; the shared borrow; what it is; the locals]
-          assigns ! (of_opd ! (load ! (from ! (hop ! (look ! 8 refl) (stop !))) (look_raw ! 0 refl))) (from ! (stop !)) (init ! 6 {τ = ChunkL.mir} {v = w} refl ((LL.lawful ChunkR.the_type ChunkL.the_laws 𝓛).typed (get_or h.chunks x2 zeroChunk) _ gw).0) $
-          use2 𝓛 (‵ (part_at ChunkR.the_row q' (get_or h.chunks x2 zeroChunk) b (chunks-at o x2))) (part_in_at 𝓛 ChunkR.the_row refl q' (get_or h.chunks x2 zeroChunk) b (chunks-at o x2) (raw_ty (lone (ChunkR.the_row).mir)) refl w) $
-          use2 𝓛 (‵ (part_at TableR.the_row q' (withChunks h (set h.chunks x2 (get_or h.chunks x2 zeroChunk))) b o)) (apply∗ 𝓤 (sem 𝓛 (part_at ChunkR.the_row q' (get_or h.chunks x2 zeroChunk) b (chunks-at o x2))) (sem 𝓛 (part_at TableR.the_row q' (withChunks h (set h.chunks x2 (get_or h.chunks x2 zeroChunk))) b o))) $
+          assigns ! (of_opd ! (load ! (from ! (hop ! (look ! 8 refl) (stop !))) (look_raw ! 0 refl))) (from ! (stop !)) (init ! 6 {τ = ChunkL.mir} {v = w} refl ((LL.lawful ChunkR.the_type ChunkL.the_laws 𝓛).typed (get_or h.chunks x2 zero_chunk) _ gw).0) $
+          use2 𝓛 (‵ (part_at ChunkR.the_row q' (get_or h.chunks x2 zero_chunk) b (chunks-at o x2))) (part_in_at 𝓛 ChunkR.the_row refl q' (get_or h.chunks x2 zero_chunk) b (chunks-at o x2) (raw_ty (lone (ChunkR.the_row).mir)) refl w) $
+          use2 𝓛 (‵ (part_at TableR.the_row q' (with_chunks h (set h.chunks x2 (get_or h.chunks x2 zero_chunk))) b o)) (apply∗ 𝓤 (sem 𝓛 (part_at ChunkR.the_row q' (get_or h.chunks x2 zero_chunk) b (chunks-at o x2))) (sem 𝓛 (part_at TableR.the_row q' (with_chunks h (set h.chunks x2 (get_or h.chunks x2 zero_chunk))) b o))) $
           rewrite ! 0 (λ (z : Table). ‵ (part_at TableR.the_row q' z b o)) (chunk-same h x2) refl $
           move ! (1 ∷ []) $ obor_close ! tt $ drop ! $ feq_i ! (List Val) (vptr b o ∷ []) (vptr b o ∷ []) refl $ move ! (0 ∷ 3 ∷ 2 ∷ []) $ fjoin3 ! $ move ! (1 ∷ 0 ∷ []) $
-          assigns ! (of_opd ! (load ! (from ! (stop !)) (look ! 2 {q = full_share} {τ = ChunkL.mir} {b = l8} {o = 0} {v = w} refl))) (from ! (stop !)) (init ! 18 {τ = ChunkL.mir} {v = w} refl ((LL.lawful ChunkR.the_type ChunkL.the_laws 𝓛).typed (get_or h.chunks x2 zeroChunk) _ gw).0) $
+          assigns ! (of_opd ! (load ! (from ! (stop !)) (look ! 2 {q = full_share} {τ = ChunkL.mir} {b = l8} {o = 0} {v = w} refl))) (from ! (stop !)) (init ! 18 {τ = ChunkL.mir} {v = w} refl ((LL.lawful ChunkR.the_type ChunkL.the_laws 𝓛).typed (get_or h.chunks x2 zero_chunk) _ gw).0) $
           returns_within ! Post refl (look ! 18 {q = full_share} {τ = ChunkL.mir} {b = l0} {o = 0} {v = w} refl) $
           forget ! 2 refl $ forget ! 4 refl $ forget ! 6 refl $ forget ! 8 refl $ forget ! 10 refl $ forget ! 12 refl $ forget ! 14 refl $ forget ! 16 refl $ forget ! 18 refl $
           move ! (18 ∷ 19 ∷ []) $ free1 ! $ move ! (16 ∷ 17 ∷ []) $ free1 ! $ move ! (14 ∷ 15 ∷ []) $ free1 ! $ move ! (12 ∷ 13 ∷ []) $ free1 ! $ move ! (10 ∷ 11 ∷ []) $ free1 ! $ move ! (8 ∷ 9 ∷ []) $ free1 ! $ move ! (6 ∷ 7 ∷ []) $ free1 ! $ move ! (4 ∷ 5 ∷ []) $ free1 ! $ move ! (2 ∷ 3 ∷ []) $ free1 ! $ free0 ! $
-          by ! (exits (get_or h.chunks x2 zeroChunk) w gw refl)))))
+          by ! (exits (get_or h.chunks x2 zero_chunk) w gw refl)))))
           (λ failed.
           skips ! $
           exec ! C Λ (En l0 l1 l2 l3 l4 l5 l6 l7 l8) (after 3 (code.function).body) (at_ret (En l0 l1 l2 l3 l4 l5 l6 l7 l8) Post) $
@@ -161,7 +161,7 @@ module _ {M : Type 1} {𝓤 : Ura M} (𝓛 : Logic 𝓤) (at_mem : Memory → SP
           nothing ! $ use1 𝓛 (raw ((C-zero-chunk 𝓛 at_mem run).pre (to-zero-chunk 𝓛 at_mem run))) (goes-zero-chunk 𝓛 at_mem run) $
           calls_at ! fm (C-zero-chunk 𝓛 at_mem run) known-zero-chunk (to-zero-chunk 𝓛 at_mem run) (no_more !) (λ w1.
           use1 𝓛 (later (some (λ (r : Chunk). (‵ ftrue ⊛ ‵ ((ChunkR.the_row).own_val r (w1 ∷ []))) ⊛ raw (ensured 𝓛 zero-chunk.ended (zero-chunk.clauses 𝓛 at_mem run) tt tt tt r)))) (id⊢ 𝓤 _) $ await ! tt $ pick ! (λ r1. split ! $ move ! (1 ∷ []) $
-          use1 𝓛 (raw (fact 𝓤 (r1 ≡ zeroChunk))) (said-zero-chunk 𝓛 at_mem run r1) $ heard ! (r1 ≡ zeroChunk) (λ e1. split ! $ drop ! $ facts ! ChunkR.the_row (Is ChunkR.the_row) (shows 𝓛 ChunkR.the_row) r1 (w1 ∷ []) (λ is1.
+          use1 𝓛 (raw (fact 𝓤 (r1 ≡ zero_chunk))) (said-zero-chunk 𝓛 at_mem run r1) $ heard ! (r1 ≡ zero_chunk) (λ e1. split ! $ drop ! $ facts ! ChunkR.the_row (Is ChunkR.the_row) (shows 𝓛 ChunkR.the_row) r1 (w1 ∷ []) (λ is1.
           land ! (from ! (stop !)) (init ! 18 {τ = ChunkL.mir} {v = w1} refl ((LL.lawful ChunkR.the_type ChunkL.the_laws 𝓛).typed r1 _ is1).0) $
           returns ! (look ! 18 {q = full_share} {τ = ChunkL.mir} {b = l0} {o = 0} {v = w1} refl) $
           forget ! 10 refl $ forget ! 12 refl $ forget ! 14 refl $ forget ! 16 refl $ forget ! 18 refl $

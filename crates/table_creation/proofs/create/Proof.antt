@@ -6,12 +6,12 @@ use borrow.Author.Rules.{rules}
 use borrow.Author.Tests.{not-true, not-false}
 use Rattle.rules.specs.declared.Table.{Table}
 use Rattle.rules.specs.declared.Created.{Created}
-use Rattle.rules.specs.Creation.{isCreation}
+use Rattle.rules.specs.Creation.{is_creation}
 use Rattle.rules.proofs.Events.{creation-granted, creation-refused}
 use Rattle.table_creation.proofs.create.Statement.{statement}
 use Rattle.table_creation.proofs.create.Tie as tie
 
-sound : (c : tie.Else1) → isCreation c.before.before.args.k ≡ true
+sound : (c : tie.Else1) → is_creation c.before.before.args.k ≡ true
 sound c = sym c.before.is-creation.ensures ∙ not-false _ c.if1.false
 
 abbrev answered : ℕ → Table → Created

@@ -3,25 +3,25 @@ use Prim.Native.Nat.{◌-◌, ◌≤◌}
 use mathlib.Core.Path.{◌≡◌}
 use native.Mathlib.Omega.{arith}
 use borrow.Author.Rules.{rules}
-use Rattle.rules.specs.Creation.{freshChunk, fresh}
-use Rattle.rules.specs.Limits.{chunkLimit}
-use Rattle.rules.specs.Zero.{zeroChunk}
+use Rattle.rules.specs.Creation.{fresh_chunk, fresh}
+use Rattle.rules.specs.Limits.{chunk_limit}
+use Rattle.rules.specs.Zero.{zero_chunk}
 use Rattle.rules.proofs.Formed.{creation-facts}
 use Rattle.rules.proofs.Loops.{made, made-blank, made-next}
 use Rattle.table_creation.proofs.fresh_chunks.Statement.{statement}
 use Rattle.table_creation.proofs.fresh_chunks.Tie as tie
 
 abbrev invariant-loop : tie.invariant-loop
-invariant-loop new n out₀ c₀ out c = (c ≤ n) × (out ≡ made (λ _. freshChunk) (λ _. zeroChunk) 8 c)
+invariant-loop new n out₀ c₀ out c = (c ≤ n) × (out ≡ made (λ _. fresh_chunk) (λ _. zero_chunk) 8 c)
 
 abbrev decreases-loop : tie.decreases-loop
 decreases-loop new n out₀ c₀ out c = n - c
 
-few : (c : tie.Start invariant-loop decreases-loop) → c.args.k.chunks ≤ chunkLimit
+few : (c : tie.Start invariant-loop decreases-loop) → c.args.k.chunks ≤ chunk_limit
 few c = (creation-facts c.args.k c.requires).chunks
 
 loop-holds : tie.Need-loop-init invariant-loop decreases-loop
-loop-holds c = (search rules, rw c.before.chunk.ensures (made-blank (λ _. freshChunk) zeroChunk 8))
+loop-holds c = (search rules, rw c.before.chunk.ensures (made-blank (λ _. fresh_chunk) zero_chunk 8))
 
 mul-out : tie.Need-overflow-mul-out invariant-loop decreases-loop
 mul-out c = let k = few c.before.before.before.before in search rules
@@ -36,7 +36,7 @@ loop-again : tie.Need-loop-preserved invariant-loop decreases-loop
 loop-again c =
     let l = c.before in
     let k = few l.before.before.before in
-    (omega arith, rw (l.loop.invariant.1, l.before.before.chunk.ensures) (made-next (λ _. freshChunk) (λ _. zeroChunk) 8 l.loop.c (omega arith)))
+    (omega arith, rw (l.loop.invariant.1, l.before.before.chunk.ensures) (made-next (λ _. fresh_chunk) (λ _. zero_chunk) 8 l.loop.c (omega arith)))
 
 returns : tie.Need-returns invariant-loop decreases-loop
 unfolding fresh

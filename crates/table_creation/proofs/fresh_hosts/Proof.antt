@@ -3,25 +3,25 @@ use Prim.Native.Nat.{◌-◌, ◌≤◌}
 use mathlib.Core.Path.{◌≡◌}
 use native.Mathlib.Omega.{arith}
 use borrow.Author.Rules.{rules}
-use Rattle.rules.specs.Creation.{freshHost, fresh}
-use Rattle.rules.specs.Limits.{hostLimit}
-use Rattle.rules.specs.Zero.{zeroHost}
+use Rattle.rules.specs.Creation.{fresh_host, fresh}
+use Rattle.rules.specs.Limits.{host_limit}
+use Rattle.rules.specs.Zero.{zero_host}
 use Rattle.rules.proofs.Formed.{creation-facts}
 use Rattle.rules.proofs.Loops.{made, made-blank, made-next}
 use Rattle.table_creation.proofs.fresh_hosts.Statement.{statement}
 use Rattle.table_creation.proofs.fresh_hosts.Tie as tie
 
 abbrev invariant-loop : tie.invariant-loop
-invariant-loop new n out₀ h₀ out h = (h ≤ n) × (out ≡ made (λ _. freshHost) (λ _. zeroHost) 8 h)
+invariant-loop new n out₀ h₀ out h = (h ≤ n) × (out ≡ made (λ _. fresh_host) (λ _. zero_host) 8 h)
 
 abbrev decreases-loop : tie.decreases-loop
 decreases-loop new n out₀ h₀ out h = n - h
 
-few : (c : tie.Start invariant-loop decreases-loop) → c.args.k.hosts ≤ hostLimit
+few : (c : tie.Start invariant-loop decreases-loop) → c.args.k.hosts ≤ host_limit
 few c = (creation-facts c.args.k c.requires).hosts
 
 loop-holds : tie.Need-loop-init invariant-loop decreases-loop
-loop-holds c = (search rules, rw c.host.ensures (made-blank (λ _. freshHost) zeroHost 8))
+loop-holds c = (search rules, rw c.host.ensures (made-blank (λ _. fresh_host) zero_host 8))
 
 mul-out : tie.Need-overflow-mul-out invariant-loop decreases-loop
 mul-out c = let k = few c.before.before.before in search rules
@@ -36,7 +36,7 @@ loop-again : tie.Need-loop-preserved invariant-loop decreases-loop
 loop-again c =
     let l = c.before in
     let k = few l.before.before in
-    (omega arith, rw (l.loop.invariant.1, l.before.host.ensures) (made-next (λ _. freshHost) (λ _. zeroHost) 8 l.loop.h (omega arith)))
+    (omega arith, rw (l.loop.invariant.1, l.before.host.ensures) (made-next (λ _. fresh_host) (λ _. zero_host) 8 l.loop.h (omega arith)))
 
 returns : tie.Need-returns invariant-loop decreases-loop
 unfolding fresh

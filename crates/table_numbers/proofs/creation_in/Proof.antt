@@ -39,7 +39,7 @@ use Rattle.rules.specs.declared.Table.{Table}
 use Rattle.rules.specs.contracts.Table as TableR
 use Rattle.rules.proofs.Table.TheLaws as TableL
 use Rattle.table_lent.proofs.Hole.{Back}
-use Rattle.table_lent.proofs.Parts.{creation-hole}
+use Rattle.table_lent.proofs.Parts.{creation_hole}
 use Rattle.table_numbers.specs.contracts.creation_in.Key.{name as #table_numbers·creation-in}
 use Rattle.table_numbers.specs.contracts.creation_in as me
 use Rattle.table_numbers.proofs.creation_in.Statement as stated
@@ -86,7 +86,7 @@ module _ {M : Type 1} {𝓤 : Ura M} (𝓛 : Logic 𝓤) (at_mem : Memory → SP
           -- [the token; t; the locals]
           move ! (1 ∷ []) $ fsplit3 ! $ drop ! $ move ! (1 ∷ 2 ∷ []) $ shr_bor_dup ! $ move ! (0 ∷ 2 ∷ []) $
           shr_bor-open ! tt (part-halves 𝓛 TableR.the_row (Is TableR.the_row) (shows 𝓛 TableR.the_row) (LL.vals TableR.the_type TableL.the_laws) (LL.tells TableR.the_type TableL.the_laws) (LL.copy TableR.the_type TableL.the_copy 𝓛) h b o) (λ q'. move ! (1 ∷ []) $
-          use1 𝓛 (‵ (part_at CreationR.the_row q' h.creation b (o + 0)) ⊛ raw (Back 𝓛 q' TableR.the_row CreationR.the_row (h) h.creation b o (o + 0))) (creation-hole 𝓛 q' h b o) $ split ! $
+          use1 𝓛 (‵ (part_at CreationR.the_row q' h.creation b (o + 0)) ⊛ raw (Back 𝓛 q' TableR.the_row CreationR.the_row (h) h.creation b o (o + 0))) (creation_hole 𝓛 q' h b o) $ split ! $
           use1 𝓛 (some (λ (w : Val). ‵ (fat q' (raw_ty (lone (CreationR.the_row).mir)) b (o + 0) w) ⊛ ‵ ((CreationR.the_row).own_val h.creation (w ∷ [])))) (part_out_at 𝓛 CreationR.the_row refl q' h.creation b (o + 0) (raw_ty (lone (CreationR.the_row).mir)) refl) $
           pick ! (λ w. split ! $ move ! (1 ∷ []) $
           peeks ! CreationR.the_row (Is CreationR.the_row) (shows 𝓛 CreationR.the_row) h.creation (w ∷ []) (λ gw. move ! (1 ∷ 0 ∷ []) $

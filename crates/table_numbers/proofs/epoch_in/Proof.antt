@@ -38,9 +38,9 @@ use Rattle.rules.proofs.Epoch.TheLaws as EpochL
 use Rattle.rules.specs.declared.Table.{Table}
 use Rattle.rules.specs.contracts.Table as TableR
 use Rattle.rules.proofs.Table.TheLaws as TableL
-use Rattle.rules.specs.Tables.{withEpoch}
+use Rattle.rules.specs.Tables.{with_epoch}
 use Rattle.table_lent.proofs.Hole.{Back}
-use Rattle.table_lent.proofs.Parts.{epoch-hole}
+use Rattle.table_lent.proofs.Parts.{epoch_hole}
 use Rattle.table_numbers.specs.contracts.epoch_in.Key.{name as #table_numbers·epoch-in}
 use Rattle.table_numbers.specs.contracts.epoch_in as me
 use Rattle.table_numbers.proofs.epoch_in.Statement as stated
@@ -87,14 +87,14 @@ module _ {M : Type 1} {𝓤 : Ura M} (𝓛 : Logic 𝓤) (at_mem : Memory → SP
           -- [the token; t; the locals]
           move ! (1 ∷ []) $ fsplit3 ! $ drop ! $ move ! (1 ∷ 2 ∷ []) $ shr_bor_dup ! $ move ! (0 ∷ 2 ∷ []) $
           shr_bor-open ! tt (part-halves 𝓛 TableR.the_row (Is TableR.the_row) (shows 𝓛 TableR.the_row) (LL.vals TableR.the_type TableL.the_laws) (LL.tells TableR.the_type TableL.the_laws) (LL.copy TableR.the_type TableL.the_copy 𝓛) h b o) (λ q'. move ! (1 ∷ []) $
-          use1 𝓛 (‵ (part_at EpochR.the_row q' h.epoch b (o + 160)) ⊛ raw (Back 𝓛 q' TableR.the_row EpochR.the_row (withEpoch h h.epoch) h.epoch b o (o + 160))) (epoch-hole 𝓛 q' h h.epoch b o) $ split ! $
+          use1 𝓛 (‵ (part_at EpochR.the_row q' h.epoch b (o + 160)) ⊛ raw (Back 𝓛 q' TableR.the_row EpochR.the_row (with_epoch h h.epoch) h.epoch b o (o + 160))) (epoch_hole 𝓛 q' h h.epoch b o) $ split ! $
           use1 𝓛 (some (λ (w : Val). ‵ (fat q' (raw_ty (lone (EpochR.the_row).mir)) b (o + 160) w) ⊛ ‵ ((EpochR.the_row).own_val h.epoch (w ∷ [])))) (part_out_at 𝓛 EpochR.the_row refl q' h.epoch b (o + 160) (raw_ty (lone (EpochR.the_row).mir)) refl) $
           pick ! (λ w. split ! $ move ! (1 ∷ []) $
           peeks ! EpochR.the_row (Is EpochR.the_row) (shows 𝓛 EpochR.the_row) h.epoch (w ∷ []) (λ gw. move ! (1 ∷ 0 ∷ []) $
           -- [the part; what it owns; the way back; the open borrow; the shared borrow; what it is; the locals]
           assigns ! (of_opd ! (load ! (from ! (hop ! (look ! 6 refl) (fld ! {τ = EpochL.mir} {d = 160} refl (stop !)))) (look_raw ! 0 refl))) (from ! (stop !)) (init ! 8 {τ = EpochL.mir} {v = w} refl ((LL.lawful EpochR.the_type EpochL.the_laws 𝓛).typed h.epoch _ gw).0) $
           use2 𝓛 (‵ (part_at EpochR.the_row q' h.epoch b (o + 160))) (part_in_at 𝓛 EpochR.the_row refl q' h.epoch b (o + 160) (raw_ty (lone (EpochR.the_row).mir)) refl w) $
-          use2 𝓛 (‵ (part_at TableR.the_row q' (withEpoch h h.epoch) b o)) (apply∗ 𝓤 (sem 𝓛 (part_at EpochR.the_row q' h.epoch b (o + 160))) (sem 𝓛 (part_at TableR.the_row q' (withEpoch h h.epoch) b o))) $
+          use2 𝓛 (‵ (part_at TableR.the_row q' (with_epoch h h.epoch) b o)) (apply∗ 𝓤 (sem 𝓛 (part_at EpochR.the_row q' h.epoch b (o + 160))) (sem 𝓛 (part_at TableR.the_row q' (with_epoch h h.epoch) b o))) $
           move ! (1 ∷ []) $ obor_close ! tt $ drop ! $ feq_i ! (List Val) (vptr b o ∷ []) (vptr b o ∷ []) refl $ move ! (0 ∷ 3 ∷ 2 ∷ []) $ fjoin3 ! $ move ! (1 ∷ 0 ∷ []) $
           returns ! (look ! 4 {q = full_share} {τ = EpochL.mir} {b = l0} {o = 0} {v = w} refl) $
           forget ! 2 refl $ forget ! 4 refl $

@@ -37,9 +37,9 @@ use Rattle.rules.specs.contracts.Epoch as EpochR
 use Rattle.rules.proofs.Epoch.TheLaws as EpochL
 use Rattle.rules.specs.declared.Table.{Table}
 use Rattle.rules.specs.contracts.Table as TableR
-use Rattle.rules.specs.Tables.{withEpoch}
+use Rattle.rules.specs.Tables.{with_epoch}
 use Rattle.table_lent.proofs.Hole.{Back}
-use Rattle.table_lent.proofs.Parts.{epoch-hole}
+use Rattle.table_lent.proofs.Parts.{epoch_hole}
 use Rattle.table_numbers.specs.contracts.put_epoch.Key.{name as #table_numbers·put-epoch}
 use Rattle.table_numbers.specs.contracts.put_epoch as me
 use Rattle.table_numbers.proofs.put_epoch.Statement as stated
@@ -64,7 +64,7 @@ module _ {M : Type 1} {𝓤 : Ura M} (𝓛 : Logic 𝓤) (at_mem : Memory → SP
   Post = (walk_of 𝓛 me.ended stayed (me.clauses 𝓛 at_mem run)).post (((κ, tt), (q, tt), tt, x, vs), tt)
 
   module _ (g2 : Is EpochR.the_row x2 (m2 ∷ [])) where
-    exits : (z : Table) → z ≡ withEpoch h x2 → ent 𝓤 (⋆ 𝓛 (‵ ((MutRef (named 0) κ TableR.the_row).own_val (rt γ z) (vptr b o ∷ [])) ∷ ‵ (flft κ q) ∷ [])) (Post vunit)
+    exits : (z : Table) → z ≡ with_epoch h x2 → ent 𝓤 (⋆ 𝓛 (‵ ((MutRef (named 0) κ TableR.the_row).own_val (rt γ z) (vptr b o ∷ [])) ∷ ‵ (flft κ q) ∷ [])) (Post vunit)
     exits z eq =
         qed 𝓛 (‵ ((MutRef (named 0) κ TableR.the_row).own_val (rt γ z) (vptr b o ∷ [])) ∷ ‵ (flft κ q) ∷ []) ∵
         suffices ! _ (ends_at 𝓛 me.ended stayed (me.clauses 𝓛 at_mem run) (((κ, tt), (q, tt), tt, x, vs), tt) vunit tt (z, (tt, tt)) (tt, (tt, tt))) $ says ! eq $
@@ -85,20 +85,20 @@ module _ {M : Type 1} {𝓤 : Ura M} (𝓛 : Logic 𝓤) (at_mem : Memory → SP
           pass1 ! (init ! 2 refl (tt, tt)) $ pass1 ! (init ! 0 {τ = EpochL.mir} {v = m2} refl ((LL.lawful EpochR.the_type EpochL.the_laws 𝓛).typed x2 _ g2).0) $ pass0 ! $ move ! (6 ∷ 7 ∷ []) $
           -- [t; the token; the locals]
           fsplit3 ! $ drop ! $ open_ref ! tt (mem TableR.the_row) {x = h} {b = b} {o = o} $
-          use1 𝓛 (‵ (part_at EpochR.the_row full_share h.epoch b (o + 160)) ⊛ raw (Back 𝓛 full_share TableR.the_row EpochR.the_row (withEpoch h x2) x2 b o (o + 160))) (epoch-hole 𝓛 full_share h x2 b o) $ split ! $
+          use1 𝓛 (‵ (part_at EpochR.the_row full_share h.epoch b (o + 160)) ⊛ raw (Back 𝓛 full_share TableR.the_row EpochR.the_row (with_epoch h x2) x2 b o (o + 160))) (epoch_hole 𝓛 full_share h x2 b o) $ split ! $
           use1 𝓛 (some (λ (w : Val). ‵ (fat full_share (raw_ty (lone (EpochR.the_row).mir)) b (o + 160) w) ⊛ ‵ ((EpochR.the_row).own_val h.epoch (w ∷ [])))) (part_out_at 𝓛 EpochR.the_row refl full_share h.epoch b (o + 160) (raw_ty (lone (EpochR.the_row).mir)) refl) $
           pick ! (λ w. split ! $
           -- [the part; what it owns; the way back; the open borrow; what it was; its owner's word; the locals]
           assigns ! (of_opd ! (load ! (from ! (stop !)) (look ! 6 {q = full_share} {τ = EpochL.mir} {b = l2} {o = 0} {v = m2} refl))) (from ! (hop ! (look ! 8 refl) (fld ! {τ = EpochL.mir} {d = 160} refl (stop !)))) (store_raw ! 0 refl ((LL.lawful EpochR.the_type EpochL.the_laws 𝓛).typed x2 _ g2).0) $
           move ! (1 ∷ []) $ drop ! $ owned ! EpochR.the_row (Is EpochR.the_row) (LL.makes EpochR.the_type EpochL.the_plain 𝓛) x2 _ g2 $ move ! (1 ∷ 0 ∷ []) $
           use2 𝓛 (‵ (part_at EpochR.the_row full_share x2 b (o + 160))) (part_in_at 𝓛 EpochR.the_row refl full_share x2 b (o + 160) (raw_ty (lone (EpochR.the_row).mir)) refl m2) $
-          use2 𝓛 (‵ (part_at TableR.the_row full_share (withEpoch h x2) b o)) (apply∗ 𝓤 (sem 𝓛 (part_at EpochR.the_row full_share x2 b (o + 160))) (sem 𝓛 (part_at TableR.the_row full_share (withEpoch h x2) b o))) $
-          close_ref ! tt (mem TableR.the_row) (withEpoch h x2) {b = b} {o = o} $ feq_i ! (List Val) (vptr b o ∷ []) (vptr b o ∷ []) refl $ fjoin3 ! $
+          use2 𝓛 (‵ (part_at TableR.the_row full_share (with_epoch h x2) b o)) (apply∗ 𝓤 (sem 𝓛 (part_at EpochR.the_row full_share x2 b (o + 160))) (sem 𝓛 (part_at TableR.the_row full_share (with_epoch h x2) b o))) $
+          close_ref ! tt (mem TableR.the_row) (with_epoch h x2) {b = b} {o = o} $ feq_i ! (List Val) (vptr b o ∷ []) (vptr b o ∷ []) refl $ fjoin3 ! $
           assigns ! (of_opd ! (unit_lit !)) (from ! (stop !)) (init ! 6 refl (tt, tt)) $
           returns ! (look ! 6 {q = full_share} {τ = ty_unit} {b = l0} {o = 0} {v = vunit} refl) $
           forget ! 2 refl $ forget ! 4 refl $ forget ! 6 refl $
           move ! (6 ∷ 7 ∷ []) $ free1 ! $ move ! (4 ∷ 5 ∷ []) $ free1 ! $ move ! (2 ∷ 3 ∷ []) $ free1 ! $ free0 ! $
-          by ! (exits (withEpoch h x2) refl)))))
+          by ! (exits (with_epoch h x2) refl)))))
 
 module _ {M : Type 1} {𝓤 : Ura M} (𝓛 : Logic 𝓤) (at_mem : Memory → SProp 𝓤) (run : Routine → Fun 𝓤) where
   open 𝓛 use {H}

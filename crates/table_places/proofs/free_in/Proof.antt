@@ -50,9 +50,9 @@ use Rattle.rules.proofs.Place.TheLaws as PlaceL
 use Rattle.rules.specs.declared.Table.{Table}
 use Rattle.rules.specs.contracts.Table as TableR
 use Rattle.rules.proofs.Table.TheLaws as TableL
-use Rattle.rules.specs.Zero.{zeroPlace}
-use Rattle.rules.specs.Network.{isFree, freePlaces}
-use Rattle.table_places.proofs.Laws.{so_far, Counting, counting-starts, counted_none, so-far-fits, so-far-below, counts-on, counted-all}
+use Rattle.rules.specs.Zero.{zero_place}
+use Rattle.rules.specs.Network.{is_free, free_places}
+use Rattle.table_places.proofs.Laws.{so_far, Counting, counting_starts, counted_none, so_far_fits, so_far_below, counts_on, counted-all}
 use Rattle.table_lent.proofs.Bodies.{ty_at, inside, after}
 use Rattle.table_lent.proofs.Hole.{reaches, passes}
 use Rattle.table_lent.proofs.Parts.{places-sized}
@@ -86,14 +86,14 @@ module _ {M : Type 1} {𝓤 : Ura M} (𝓛 : Logic 𝓤) (at_mem : Memory → SP
   abbrev C-place-in : Contract 𝓤
   C-place-in = triple_of 𝓛 IsPlace-in.signature (IsPlace-in.spec 𝓛 at_mem run)
 
-  said-place-in : (κ : Lft) (t : Bor Table) (x0 : ℕ) (r : Place) → ent 𝓤 (ensured 𝓛 IsPlace-in.ended (IsPlace-in.clauses 𝓛 at_mem run) (κ, tt) (t, (x0, tt)) tt r) (fact 𝓤 (r ≡ get_or t.now.places x0 zeroPlace))
-  said-place-in κ t x0 r = ex_e 𝓤 _ (λ ws. snd∗ 𝓤 (sem 𝓛 (lasts IsPlace-in.ended (κ, tt) (t, (x0, tt)) ws)) (fact 𝓤 (r ≡ get_or t.now.places x0 zeroPlace)))
+  said-place-in : (κ : Lft) (t : Bor Table) (x0 : ℕ) (r : Place) → ent 𝓤 (ensured 𝓛 IsPlace-in.ended (IsPlace-in.clauses 𝓛 at_mem run) (κ, tt) (t, (x0, tt)) tt r) (fact 𝓤 (r ≡ get_or t.now.places x0 zero_place))
+  said-place-in κ t x0 r = ex_e 𝓤 _ (λ ws. snd∗ 𝓤 (sem 𝓛 (lasts IsPlace-in.ended (κ, tt) (t, (x0, tt)) ws)) (fact 𝓤 (r ≡ get_or t.now.places x0 zero_place)))
 
   abbrev C-places-counted : Contract 𝓤
   C-places-counted = triple_of 𝓛 places-counted.signature (places-counted.spec 𝓛 at_mem run)
 
-  said-places-counted : (x0 : ℕ) (x1 : Place) (r : ℕ) → ent 𝓤 (ensured 𝓛 places-counted.ended (places-counted.clauses 𝓛 at_mem run) tt (x0, (x1, tt)) tt r) (fact 𝓤 (r ≡ cond (not (isFree x1)) x0 (x0 + 1)))
-  said-places-counted x0 x1 r = ex_e 𝓤 _ (λ ws. snd∗ 𝓤 (sem 𝓛 (lasts places-counted.ended tt (x0, (x1, tt)) ws)) (fact 𝓤 (r ≡ cond (not (isFree x1)) x0 (x0 + 1))))
+  said-places-counted : (x0 : ℕ) (x1 : Place) (r : ℕ) → ent 𝓤 (ensured 𝓛 places-counted.ended (places-counted.clauses 𝓛 at_mem run) tt (x0, (x1, tt)) tt r) (fact 𝓤 (r ≡ cond (not (is_free x1)) x0 (x0 + 1)))
+  said-places-counted x0 x1 r = ex_e 𝓤 _ (λ ws. snd∗ 𝓤 (sem 𝓛 (lasts places-counted.ended tt (x0, (x1, tt)) ws)) (fact 𝓤 (r ≡ cond (not (is_free x1)) x0 (x0 + 1))))
 
 module _ {M : Type 1} {𝓤 : Ura M} (𝓛 : Logic 𝓤) (at_mem : Memory → SProp 𝓤) (run : Routine → Fun 𝓤) where
   open 𝓛 use {A}
@@ -127,7 +127,7 @@ module _ {M : Type 1} {𝓤 : Ura M} (𝓛 : Logic 𝓤) (at_mem : Memory → SP
   Post = (walk_of 𝓛 me.ended stayed (me.clauses 𝓛 at_mem run)).post (((κ, tt), (q, tt), tt, x, vs), tt)
 
   module _ (_ : Unit {0}) where
-    exits : (r : ℕ) (v : Val) → Is usize r (v ∷ []) → r ≡ freePlaces h.places → ent 𝓤 (⋆ 𝓛 (‵ (flft κ q) ∷ ‵ ((ShrRef (named 0) κ TableR.the_row).own_val (rt γ h) (vptr b o ∷ [])) ∷ [])) (Post v)
+    exits : (r : ℕ) (v : Val) → Is usize r (v ∷ []) → r ≡ free_places h.places → ent 𝓤 (⋆ 𝓛 (‵ (flft κ q) ∷ ‵ ((ShrRef (named 0) κ TableR.the_row).own_val (rt γ h) (vptr b o ∷ [])) ∷ [])) (Post v)
     exits r v g eq =
         qed 𝓛 (‵ (flft κ q) ∷ ‵ ((ShrRef (named 0) κ TableR.the_row).own_val (rt γ h) (vptr b o ∷ [])) ∷ []) ∵
         suffices ! _ (ends_at 𝓛 me.ended stayed (me.clauses 𝓛 at_mem run) (((κ, tt), (q, tt), tt, x, vs), tt) v r (tt, tt) (tt, tt)) $ says ! eq $
@@ -182,26 +182,26 @@ module _ {M : Type 1} {𝓤 : Ura M} (𝓛 : Logic 𝓤) (at_mem : Memory → SP
             use2 𝓛 (raw ((C-place-in 𝓛 at_mem run).pre (to-place-in 𝓛 at_mem run κ q (rt γ h) i.0 (vint w64 i.0)))) (goes-place-in 𝓛 at_mem run κ q (rt γ h) i.0 (vint w64 i.0) (refl, lt_of_le_of_lt i.1.0 (lit< tt))) $
             calls_at ! fm (C-place-in 𝓛 at_mem run) known-place-in (to-place-in 𝓛 at_mem run κ q (rt γ h) i.0 (vint w64 i.0)) (and_then ! (load ! (from ! (stop !)) (look ! 12 refl)) (and_then ! (load ! (from ! (stop !)) (look ! 8 {q = full_share} {τ = ty_int w64} {b = l3} {o = 0} {v = (vint w64 i.0)} refl)) (no_more !))) (λ w1.
             use1 𝓛 (later (some (λ (r : Place). ((‵ (flft κ q) ⊛ ‵ ftrue) ⊛ ‵ ((PlaceR.the_row).own_val r (w1 ∷ []))) ⊛ raw (ensured 𝓛 IsPlace-in.ended (IsPlace-in.clauses 𝓛 at_mem run) (κ, tt) ((rt γ h), (i.0, tt)) tt r)))) (id⊢ 𝓤 _) $ await ! tt $ pick ! (λ r1. split ! $ move ! (1 ∷ []) $
-            use1 𝓛 (raw (fact 𝓤 (r1 ≡ get_or h.places i.0 zeroPlace))) (said-place-in 𝓛 at_mem run κ (rt γ h) i.0 r1) $ heard ! (r1 ≡ get_or h.places i.0 zeroPlace) (λ e1. split ! $ move ! (1 ∷ []) $ facts ! PlaceR.the_row (Is PlaceR.the_row) (shows 𝓛 PlaceR.the_row) r1 (w1 ∷ []) (λ is1.
+            use1 𝓛 (raw (fact 𝓤 (r1 ≡ get_or h.places i.0 zero_place))) (said-place-in 𝓛 at_mem run κ (rt γ h) i.0 r1) $ heard ! (r1 ≡ get_or h.places i.0 zero_place) (λ e1. split ! $ move ! (1 ∷ []) $ facts ! PlaceR.the_row (Is PlaceR.the_row) (shows 𝓛 PlaceR.the_row) r1 (w1 ∷ []) (λ is1.
             land ! (from ! (stop !)) (init ! 2 {τ = PlaceL.mir} {v = w1} refl ((LL.lawful PlaceR.the_type PlaceL.the_laws 𝓛).typed r1 _ is1).0) $
             split ! $ move ! (1 ∷ []) $ drop ! $
             -- _2 = table_places::counted(_2, _6)
-            nothing ! $ use1 𝓛 (raw ((C-places-counted 𝓛 at_mem run).pre (to-places-counted 𝓛 at_mem run (so_far h.places i.0) (vint w64 (so_far h.places i.0)) r1 w1))) (goes-places-counted 𝓛 at_mem run (so_far h.places i.0) (vint w64 (so_far h.places i.0)) r1 w1 (refl, so-far-fits h.places i.0 i.1) is1 (so-far-below h.places i.0 i.1 (reaches i.0 _ 64 held (leb→le _ _ tt)))) $
+            nothing ! $ use1 𝓛 (raw ((C-places-counted 𝓛 at_mem run).pre (to-places-counted 𝓛 at_mem run (so_far h.places i.0) (vint w64 (so_far h.places i.0)) r1 w1))) (goes-places-counted 𝓛 at_mem run (so_far h.places i.0) (vint w64 (so_far h.places i.0)) r1 w1 (refl, so_far_fits h.places i.0 i.1) is1 (so_far_below h.places i.0 i.1 (reaches i.0 _ 64 held (leb→le _ _ tt)))) $
             calls_at ! fm (C-places-counted 𝓛 at_mem run) known-places-counted (to-places-counted 𝓛 at_mem run (so_far h.places i.0) (vint w64 (so_far h.places i.0)) r1 w1) (and_then ! (load ! (from ! (stop !)) (look ! 11 {q = full_share} {τ = ty_int w64} {b = l2} {o = 0} {v = (vint w64 (so_far h.places i.0))} refl)) (and_then ! (load ! (from ! (stop !)) (look ! 3 {q = full_share} {τ = PlaceL.mir} {b = l6} {o = 0} {v = w1} refl)) (no_more !))) (λ w2.
             use1 𝓛 (later (some (λ (r : ℕ). (‵ ftrue ⊛ ‵ (usize.own_val r (w2 ∷ []))) ⊛ raw (ensured 𝓛 places-counted.ended (places-counted.clauses 𝓛 at_mem run) tt ((so_far h.places i.0), (r1, tt)) tt r)))) (id⊢ 𝓤 _) $ await ! tt $ pick ! (λ r2. split ! $ move ! (1 ∷ []) $
-            use1 𝓛 (raw (fact 𝓤 (r2 ≡ cond (not (isFree r1)) (so_far h.places i.0) ((so_far h.places i.0) + 1)))) (said-places-counted 𝓛 at_mem run (so_far h.places i.0) r1 r2) $ heard ! (r2 ≡ cond (not (isFree r1)) (so_far h.places i.0) ((so_far h.places i.0) + 1)) (λ e2. split ! $ drop ! $ facts ! usize (Is usize) (shows 𝓛 usize) r2 (w2 ∷ []) (λ is2.
+            use1 𝓛 (raw (fact 𝓤 (r2 ≡ cond (not (is_free r1)) (so_far h.places i.0) ((so_far h.places i.0) + 1)))) (said-places-counted 𝓛 at_mem run (so_far h.places i.0) r1 r2) $ heard ! (r2 ≡ cond (not (is_free r1)) (so_far h.places i.0) ((so_far h.places i.0) + 1)) (λ e2. split ! $ drop ! $ facts ! usize (Is usize) (shows 𝓛 usize) r2 (w2 ∷ []) (λ is2.
             land ! (from ! (stop !)) (store ! 10 {τ = ty_int w64} {v = w2} refl ((uint_Lawful 𝓛 w64).typed r2 _ is2).0) $
             assigns_last ! (bin ! (load ! (from ! (stop !)) (look ! 8 {q = full_share} {τ = ty_int w64} {b = l3} {o = 0} {v = (vint w64 i.0)} refl)) (lit ! tt) (record { fits = lt_of_le_of_lt (add-one-le (reaches i.0 _ 64 held (leb→le _ _ tt))) (lit< tt) })) (from ! (stop !)) (store ! 8 refl (tt, record { fits = lt_of_le_of_lt (add-one-le (reaches i.0 _ 64 held (leb→le _ _ tt))) (lit< tt) })) $
-            rewrite ! 10 (λ (u : Val). ‵ (fat full_share (ty_int w64) l2 0 u)) (ap only (uint_Tells w64 r2 _ is2) ∙ ap (vint w64) (counts-on h.places places-len i.0 i.1 (reaches i.0 _ 64 held (leb→le _ _ tt)) r1 e1 r2 e2).0) refl $
-            forget ! 2 refl $ forget ! 4 refl $ forget ! 6 refl $ again ! Nearer At i (i.0 + 1, (counts-on h.places places-len i.0 i.1 (reaches i.0 _ 64 held (leb→le _ _ tt)) r1 e1 r2 e2).1) (add-one-dec 64 i.0 (reaches i.0 _ 64 held (leb→le _ _ tt))))))))))))
+            rewrite ! 10 (λ (u : Val). ‵ (fat full_share (ty_int w64) l2 0 u)) (ap only (uint_Tells w64 r2 _ is2) ∙ ap (vint w64) (counts_on h.places places-len i.0 i.1 (reaches i.0 _ 64 held (leb→le _ _ tt)) r1 e1 r2 e2).0) refl $
+            forget ! 2 refl $ forget ! 4 refl $ forget ! 6 refl $ again ! Nearer At i (i.0 + 1, (counts_on h.places places-len i.0 i.1 (reaches i.0 _ 64 held (leb→le _ _ tt)) r1 e1 r2 e2).1) (add-one-dec 64 i.0 (reaches i.0 _ 64 held (leb→le _ _ tt))))))))))))
             (λ failed.
             jumps ! $
             exec ! C Λ (En l0 l1 l2 l3 l4 l5 l6) (after 3 (code.function).body) (at_ret (En l0 l1 l2 l3 l4 l5 l6) Post) $
-            assigns ! (of_opd ! (load ! (from ! (stop !)) (look ! 10 {q = full_share} {τ = ty_int w64} {b = l2} {o = 0} {v = (vint w64 (so_far h.places i.0))} refl))) (from ! (stop !)) (init ! 14 {τ = ty_int w64} {v = (vint w64 (so_far h.places i.0))} refl ((uint_Lawful 𝓛 w64).typed (so_far h.places i.0) _ (refl, so-far-fits h.places i.0 i.1)).0) $
+            assigns ! (of_opd ! (load ! (from ! (stop !)) (look ! 10 {q = full_share} {τ = ty_int w64} {b = l2} {o = 0} {v = (vint w64 (so_far h.places i.0))} refl))) (from ! (stop !)) (init ! 14 {τ = ty_int w64} {v = (vint w64 (so_far h.places i.0))} refl ((uint_Lawful 𝓛 w64).typed (so_far h.places i.0) _ (refl, so_far_fits h.places i.0 i.1)).0) $
             returns ! (look ! 14 {q = full_share} {τ = ty_int w64} {b = l0} {o = 0} {v = (vint w64 (so_far h.places i.0))} refl) $
             forget ! 4 refl $ forget ! 6 refl $ forget ! 8 refl $ forget ! 10 refl $ forget ! 12 refl $ forget ! 14 refl $
             move ! (14 ∷ 15 ∷ []) $ free1 ! $ move ! (12 ∷ 13 ∷ []) $ free1 ! $ move ! (10 ∷ 11 ∷ []) $ free1 ! $ move ! (8 ∷ 9 ∷ []) $ free1 ! $ move ! (6 ∷ 7 ∷ []) $ free1 ! $ move ! (4 ∷ 5 ∷ []) $ free1 ! $ move ! (2 ∷ 3 ∷ []) $ free1 ! $ free0 ! $
-            by ! (exits (so_far h.places i.0) (vint w64 (so_far h.places i.0)) (refl, so-far-fits h.places i.0 i.1) (counted-all h.places places-len i.0 (passes i.0 _ 64 failed (leb→le _ _ tt)))))
+            by ! (exits (so_far h.places i.0) (vint w64 (so_far h.places i.0)) (refl, so_far_fits h.places i.0 i.1) (counted-all h.places places-len i.0 (passes i.0 _ 64 failed (leb→le _ _ tt)))))
 
       walk : ent 𝓤 (on_entry 𝓛 me.signature (κ, tt) (q, tt) x vs) (WpFn 𝓤 H C Λ code.function (vptr b o ∷ []) Post)
       walk =
@@ -217,7 +217,7 @@ module _ {M : Type 1} {𝓤 : Ura M} (𝓛 : Logic 𝓤) (at_mem : Memory → SP
           assigns ! (of_opd ! (lit ! tt)) (from ! (stop !)) (init ! 10 refl (tt, record { fits = lit< tt })) $
           assigns ! (of_opd ! (lit ! tt)) (from ! (stop !)) (init ! 8 refl (tt, record { fits = lit< tt })) $
           rewrite ! 10 (λ (u : ℕ). ‵ (fat full_share (ty_int w64) l2 0 (vint w64 u))) (counted_none h.places) refl $
-          first ! $ blocks ! $ loops ! 𝓣 Nearer Nearer-wf (At places-len l0 l1 l2 l3 l4 l5 l6) (turns places-len l0 l1 l2 l3 l4 l5 l6) (0, counting-starts h.places))))))))))
+          first ! $ blocks ! $ loops ! 𝓣 Nearer Nearer-wf (At places-len l0 l1 l2 l3 l4 l5 l6) (turns places-len l0 l1 l2 l3 l4 l5 l6) (0, counting_starts h.places))))))))))
 
 module _ {M : Type 1} {𝓤 : Ura M} (𝓛 : Logic 𝓤) (at_mem : Memory → SProp 𝓤) (run : Routine → Fun 𝓤) where
   open 𝓛 use {H}

@@ -50,10 +50,10 @@ use Rattle.rules.proofs.Place.TheLaws as PlaceL
 use Rattle.rules.specs.declared.Table.{Table}
 use Rattle.rules.specs.contracts.Table as TableR
 use Rattle.rules.proofs.Table.TheLaws as TableL
-use Rattle.rules.specs.Zero.{zeroPlace}
-use Rattle.rules.specs.Network.{isFree}
+use Rattle.rules.specs.Zero.{zero_place}
+use Rattle.rules.specs.Network.{is_free}
 use Rattle.rules.specs.Words.{place}
-use Rattle.table_places.proofs.Laws.{Looking, looking-starts, taken-below, looks_on, found}
+use Rattle.table_places.proofs.Laws.{Looking, looking_starts, taken-below, looks_on, found}
 use Rattle.table_lent.proofs.Bodies.{ty_at, inside, after}
 use Rattle.table_lent.proofs.Parts.{places-sized}
 use Rattle.table_places.specs.contracts.place_in as IsPlace-in
@@ -86,14 +86,14 @@ module _ {M : Type 1} {𝓤 : Ura M} (𝓛 : Logic 𝓤) (at_mem : Memory → SP
   abbrev C-place-in : Contract 𝓤
   C-place-in = triple_of 𝓛 IsPlace-in.signature (IsPlace-in.spec 𝓛 at_mem run)
 
-  said-place-in : (κ : Lft) (t : Bor Table) (x0 : ℕ) (r : Place) → ent 𝓤 (ensured 𝓛 IsPlace-in.ended (IsPlace-in.clauses 𝓛 at_mem run) (κ, tt) (t, (x0, tt)) tt r) (fact 𝓤 (r ≡ get_or t.now.places x0 zeroPlace))
-  said-place-in κ t x0 r = ex_e 𝓤 _ (λ ws. snd∗ 𝓤 (sem 𝓛 (lasts IsPlace-in.ended (κ, tt) (t, (x0, tt)) ws)) (fact 𝓤 (r ≡ get_or t.now.places x0 zeroPlace)))
+  said-place-in : (κ : Lft) (t : Bor Table) (x0 : ℕ) (r : Place) → ent 𝓤 (ensured 𝓛 IsPlace-in.ended (IsPlace-in.clauses 𝓛 at_mem run) (κ, tt) (t, (x0, tt)) tt r) (fact 𝓤 (r ≡ get_or t.now.places x0 zero_place))
+  said-place-in κ t x0 r = ex_e 𝓤 _ (λ ws. snd∗ 𝓤 (sem 𝓛 (lasts IsPlace-in.ended (κ, tt) (t, (x0, tt)) ws)) (fact 𝓤 (r ≡ get_or t.now.places x0 zero_place)))
 
   abbrev C-is-taken : Contract 𝓤
   C-is-taken = triple_of 𝓛 is-taken.signature (is-taken.spec 𝓛 at_mem run)
 
-  said-is-taken : (x0 : Place) (r : Bool) → ent 𝓤 (ensured 𝓛 is-taken.ended (is-taken.clauses 𝓛 at_mem run) tt (x0, tt) tt r) (fact 𝓤 (r ≡ not (isFree x0)))
-  said-is-taken x0 r = ex_e 𝓤 _ (λ ws. snd∗ 𝓤 (sem 𝓛 (lasts is-taken.ended tt (x0, tt) ws)) (fact 𝓤 (r ≡ not (isFree x0))))
+  said-is-taken : (x0 : Place) (r : Bool) → ent 𝓤 (ensured 𝓛 is-taken.ended (is-taken.clauses 𝓛 at_mem run) tt (x0, tt) tt r) (fact 𝓤 (r ≡ not (is_free x0)))
+  said-is-taken x0 r = ex_e 𝓤 _ (λ ws. snd∗ 𝓤 (sem 𝓛 (lasts is-taken.ended tt (x0, tt) ws)) (fact 𝓤 (r ≡ not (is_free x0))))
 
 module _ {M : Type 1} {𝓤 : Ura M} (𝓛 : Logic 𝓤) (at_mem : Memory → SProp 𝓤) (run : Routine → Fun 𝓤) where
   open 𝓛 use {A}
@@ -127,7 +127,7 @@ module _ {M : Type 1} {𝓤 : Ura M} (𝓛 : Logic 𝓤) (at_mem : Memory → SP
   Post = (walk_of 𝓛 me.ended stayed (me.clauses 𝓛 at_mem run)).post (((κ, tt), (q, tt), tt, x, vs), tt)
 
   module _ (_ : Unit {0}) where
-    exits : (r : ℕ) (v : Val) → Is usize r (v ∷ []) → r ≡ place isFree h.places → ent 𝓤 (⋆ 𝓛 (‵ (flft κ q) ∷ ‵ ((ShrRef (named 0) κ TableR.the_row).own_val (rt γ h) (vptr b o ∷ [])) ∷ [])) (Post v)
+    exits : (r : ℕ) (v : Val) → Is usize r (v ∷ []) → r ≡ place is_free h.places → ent 𝓤 (⋆ 𝓛 (‵ (flft κ q) ∷ ‵ ((ShrRef (named 0) κ TableR.the_row).own_val (rt γ h) (vptr b o ∷ [])) ∷ [])) (Post v)
     exits r v g eq =
         qed 𝓛 (‵ (flft κ q) ∷ ‵ ((ShrRef (named 0) κ TableR.the_row).own_val (rt γ h) (vptr b o ∷ [])) ∷ []) ∵
         suffices ! _ (ends_at 𝓛 me.ended stayed (me.clauses 𝓛 at_mem run) (((κ, tt), (q, tt), tt, x, vs), tt) v r (tt, tt) (tt, tt)) $ says ! eq $
@@ -174,14 +174,14 @@ module _ {M : Type 1} {𝓤 : Ura M} (𝓛 : Logic 𝓤) (at_mem : Memory → SP
             use2 𝓛 (raw ((C-place-in 𝓛 at_mem run).pre (to-place-in 𝓛 at_mem run κ q (rt γ h) i.0 (vint w64 i.0)))) (goes-place-in 𝓛 at_mem run κ q (rt γ h) i.0 (vint w64 i.0) (refl, lt_of_le_of_lt i.1.0 (lit< tt))) $
             calls_at ! fm (C-place-in 𝓛 at_mem run) known-place-in (to-place-in 𝓛 at_mem run κ q (rt γ h) i.0 (vint w64 i.0)) (and_then ! (load ! (from ! (stop !)) (look ! 8 refl)) (and_then ! (load ! (from ! (stop !)) (look ! 6 {q = full_share} {τ = ty_int w64} {b = l2} {o = 0} {v = (vint w64 i.0)} refl)) (no_more !))) (λ w1.
             use1 𝓛 (later (some (λ (r : Place). ((‵ (flft κ q) ⊛ ‵ ftrue) ⊛ ‵ ((PlaceR.the_row).own_val r (w1 ∷ []))) ⊛ raw (ensured 𝓛 IsPlace-in.ended (IsPlace-in.clauses 𝓛 at_mem run) (κ, tt) ((rt γ h), (i.0, tt)) tt r)))) (id⊢ 𝓤 _) $ await ! tt $ pick ! (λ r1. split ! $ move ! (1 ∷ []) $
-            use1 𝓛 (raw (fact 𝓤 (r1 ≡ get_or h.places i.0 zeroPlace))) (said-place-in 𝓛 at_mem run κ (rt γ h) i.0 r1) $ heard ! (r1 ≡ get_or h.places i.0 zeroPlace) (λ e1. split ! $ move ! (1 ∷ []) $ facts ! PlaceR.the_row (Is PlaceR.the_row) (shows 𝓛 PlaceR.the_row) r1 (w1 ∷ []) (λ is1.
+            use1 𝓛 (raw (fact 𝓤 (r1 ≡ get_or h.places i.0 zero_place))) (said-place-in 𝓛 at_mem run κ (rt γ h) i.0 r1) $ heard ! (r1 ≡ get_or h.places i.0 zero_place) (λ e1. split ! $ move ! (1 ∷ []) $ facts ! PlaceR.the_row (Is PlaceR.the_row) (shows 𝓛 PlaceR.the_row) r1 (w1 ∷ []) (λ is1.
             land ! (from ! (stop !)) (init ! 2 {τ = PlaceL.mir} {v = w1} refl ((LL.lawful PlaceR.the_type PlaceL.the_laws 𝓛).typed r1 _ is1).0) $
             split ! $ move ! (1 ∷ []) $ drop ! $
             -- _3 = table_places::is_taken(_4)
             nothing ! $ use1 𝓛 (raw ((C-is-taken 𝓛 at_mem run).pre (to-is-taken 𝓛 at_mem run r1 w1))) (goes-is-taken 𝓛 at_mem run r1 w1 is1) $
             calls_at ! fm (C-is-taken 𝓛 at_mem run) known-is-taken (to-is-taken 𝓛 at_mem run r1 w1) (and_then ! (load ! (from ! (stop !)) (look ! 3 {q = full_share} {τ = PlaceL.mir} {b = l4} {o = 0} {v = w1} refl)) (no_more !)) (λ w2.
             use1 𝓛 (later (some (λ (r : Bool). (‵ ftrue ⊛ ‵ (Boolean.own r (w2 ∷ []))) ⊛ raw (ensured 𝓛 is-taken.ended (is-taken.clauses 𝓛 at_mem run) tt (r1, tt) tt r)))) (id⊢ 𝓤 _) $ await ! tt $ pick ! (λ r2. split ! $ move ! (1 ∷ []) $
-            use1 𝓛 (raw (fact 𝓤 (r2 ≡ not (isFree r1)))) (said-is-taken 𝓛 at_mem run r1 r2) $ heard ! (r2 ≡ not (isFree r1)) (λ e2. split ! $ drop ! $ facts ! Boolean (Is Boolean) (shows 𝓛 Boolean) r2 (w2 ∷ []) (λ is2.
+            use1 𝓛 (raw (fact 𝓤 (r2 ≡ not (is_free r1)))) (said-is-taken 𝓛 at_mem run r1 r2) $ heard ! (r2 ≡ not (is_free r1)) (λ e2. split ! $ drop ! $ facts ! Boolean (Is Boolean) (shows 𝓛 Boolean) r2 (w2 ∷ []) (λ is2.
             land ! (from ! (stop !)) (init ! 4 {τ = ty_bool} {v = w2} refl ((bool_Lawful 𝓛).typed r2 _ is2).0) $
             rewrite ! 4 (λ (u : Val). ‵ (fat full_share ty_bool l3 0 u)) (ap only (bool_Tells r2 _ is2)) refl $
             first ! $ branches ! (load ! (from ! (stop !)) (look ! 4 {q = full_share} {τ = ty_bool} {b = l3} {o = 0} {v = (vbool r2)} refl))
@@ -211,7 +211,7 @@ module _ {M : Type 1} {𝓤 : Ura M} (𝓛 : Logic 𝓤) (at_mem : Memory → SP
           use1 𝓛 (given (length h.places ≡ 64) (‵ (part_at TableR.the_row q' h b o))) (places-sized 𝓛 q' h b o) $ learn ! (λ places-len.
           move ! (1 ∷ []) $ obor_close ! tt $ drop ! $ feq_i ! (List Val) (vptr b o ∷ []) (vptr b o ∷ []) refl $ move ! (0 ∷ 3 ∷ 2 ∷ []) $ fjoin3 ! $ move ! (1 ∷ 0 ∷ []) $
           assigns ! (of_opd ! (lit ! tt)) (from ! (stop !)) (init ! 6 refl (tt, record { fits = lit< tt })) $
-          first ! $ blocks ! $ loops ! 𝓣 Nearer Nearer-wf (At places-len l0 l1 l2 l3 l4) (turns places-len l0 l1 l2 l3 l4) (0, looking-starts h.places))))))))
+          first ! $ blocks ! $ loops ! 𝓣 Nearer Nearer-wf (At places-len l0 l1 l2 l3 l4) (turns places-len l0 l1 l2 l3 l4) (0, looking_starts h.places))))))))
 
 module _ {M : Type 1} {𝓤 : Ura M} (𝓛 : Logic 𝓤) (at_mem : Memory → SProp 𝓤) (run : Routine → Fun 𝓤) where
   open 𝓛 use {H}

@@ -48,11 +48,11 @@ use Rattle.rules.proofs.Place.TheLaws as PlaceL
 use Rattle.rules.specs.declared.Table.{Table}
 use Rattle.rules.specs.contracts.Table as TableR
 use Rattle.rules.proofs.Table.TheLaws as TableL
-use Rattle.rules.specs.Zero.{zeroPlace}
-use Rattle.rules.specs.Tables.{withPlaces}
+use Rattle.rules.specs.Zero.{zero_place}
+use Rattle.rules.specs.Tables.{with_places}
 use Rattle.table_lent.proofs.Bodies.{ty_at, after}
 use Rattle.table_lent.proofs.Hole.{reaches, passes, Back}
-use Rattle.table_lent.proofs.Parts.{places-at, place-hole, place_same, places-sized, place-beyond}
+use Rattle.table_lent.proofs.Parts.{places-at, place_hole, place_same, places-sized, place-beyond}
 use Rattle.table_places.specs.contracts.empty as places-empty
 use Rattle.table_places.proofs.empty.Symbol as places-empty-def
 use Rattle.table_places.proofs.empty.Symbol.{name as #table_places·empty}
@@ -76,8 +76,8 @@ module _ {M : Type 1} {𝓤 : Ura M} (𝓛 : Logic 𝓤) (at_mem : Memory → SP
   abbrev C-places-empty : Contract 𝓤
   C-places-empty = triple_of 𝓛 places-empty.signature (places-empty.spec 𝓛 at_mem run)
 
-  said-places-empty : (r : Place) → ent 𝓤 (ensured 𝓛 places-empty.ended (places-empty.clauses 𝓛 at_mem run) tt tt tt r) (fact 𝓤 (r ≡ zeroPlace))
-  said-places-empty r = ex_e 𝓤 _ (λ ws. snd∗ 𝓤 (sem 𝓛 (lasts places-empty.ended tt tt ws)) (fact 𝓤 (r ≡ zeroPlace)))
+  said-places-empty : (r : Place) → ent 𝓤 (ensured 𝓛 places-empty.ended (places-empty.clauses 𝓛 at_mem run) tt tt tt r) (fact 𝓤 (r ≡ zero_place))
+  said-places-empty r = ex_e 𝓤 _ (λ ws. snd∗ 𝓤 (sem 𝓛 (lasts places-empty.ended tt tt ws)) (fact 𝓤 (r ≡ zero_place)))
 
 module _ {M : Type 1} {𝓤 : Ura M} (𝓛 : Logic 𝓤) (at_mem : Memory → SProp 𝓤) (run : Routine → Fun 𝓤) where
   abbrev to-places-empty : (C-places-empty 𝓛 at_mem run).Ghost
@@ -102,7 +102,7 @@ module _ {M : Type 1} {𝓤 : Ura M} (𝓛 : Logic 𝓤) (at_mem : Memory → SP
   Post = (walk_of 𝓛 me.ended stayed (me.clauses 𝓛 at_mem run)).post (((κ, tt), (q, tt), tt, x, vs), tt)
 
   module _ (g2 : Is usize x2 ((vint w64 x2) ∷ [])) where
-    exits : (r : Place) (v : Val) → Is PlaceR.the_row r (v ∷ []) → r ≡ get_or h.places x2 zeroPlace → ent 𝓤 (⋆ 𝓛 (‵ (flft κ q) ∷ ‵ ((ShrRef (named 0) κ TableR.the_row).own_val (rt γ h) (vptr b o ∷ [])) ∷ [])) (Post v)
+    exits : (r : Place) (v : Val) → Is PlaceR.the_row r (v ∷ []) → r ≡ get_or h.places x2 zero_place → ent 𝓤 (⋆ 𝓛 (‵ (flft κ q) ∷ ‵ ((ShrRef (named 0) κ TableR.the_row).own_val (rt γ h) (vptr b o ∷ [])) ∷ [])) (Post v)
     exits r v g eq =
         qed 𝓛 (‵ (flft κ q) ∷ ‵ ((ShrRef (named 0) κ TableR.the_row).own_val (rt γ h) (vptr b o ∷ [])) ∷ []) ∵
         suffices ! _ (ends_at 𝓛 me.ended stayed (me.clauses 𝓛 at_mem run) (((κ, tt), (q, tt), tt, x, vs), tt) v r (tt, (tt, tt)) (tt, (tt, tt))) $ says ! eq $
@@ -135,21 +135,21 @@ module _ {M : Type 1} {𝓤 : Ura M} (𝓛 : Logic 𝓤) (at_mem : Memory → SP
           rewrite ! 4 (λ (p : ℕ). ‵ (fat full_share ty_ptr l7 0 (vptr b p))) (sym (at_mul (o + 47592) 64 x2)) refl $
           move ! (1 ∷ []) $ fsplit3 ! $ drop ! $ move ! (1 ∷ 2 ∷ []) $ shr_bor_dup ! $ move ! (0 ∷ 2 ∷ []) $
           shr_bor-open ! tt (part-halves 𝓛 TableR.the_row (Is TableR.the_row) (shows 𝓛 TableR.the_row) (LL.vals TableR.the_type TableL.the_laws) (LL.tells TableR.the_type TableL.the_laws) (LL.copy TableR.the_type TableL.the_copy 𝓛) h b o) (λ q'. move ! (1 ∷ []) $
-          use1 𝓛 (‵ (part_at PlaceR.the_row q' (get_or h.places x2 zeroPlace) b (places-at o x2)) ⊛ raw (Back 𝓛 q' TableR.the_row PlaceR.the_row (withPlaces h (set h.places x2 (get_or h.places x2 zeroPlace))) (get_or h.places x2 zeroPlace) b o (places-at o x2))) (place-hole 𝓛 q' h x2 (get_or h.places x2 zeroPlace) b o (reaches x2 _ 64 held (leb→le _ _ tt))) $ split ! $
-          use1 𝓛 (some (λ (w : Val). ‵ (fat q' (raw_ty (lone (PlaceR.the_row).mir)) b (places-at o x2) w) ⊛ ‵ ((PlaceR.the_row).own_val (get_or h.places x2 zeroPlace) (w ∷ [])))) (part_out_at 𝓛 PlaceR.the_row refl q' (get_or h.places x2 zeroPlace) b (places-at o x2) (raw_ty (lone (PlaceR.the_row).mir)) refl) $
+          use1 𝓛 (‵ (part_at PlaceR.the_row q' (get_or h.places x2 zero_place) b (places-at o x2)) ⊛ raw (Back 𝓛 q' TableR.the_row PlaceR.the_row (with_places h (set h.places x2 (get_or h.places x2 zero_place))) (get_or h.places x2 zero_place) b o (places-at o x2))) (place_hole 𝓛 q' h x2 (get_or h.places x2 zero_place) b o (reaches x2 _ 64 held (leb→le _ _ tt))) $ split ! $
+          use1 𝓛 (some (λ (w : Val). ‵ (fat q' (raw_ty (lone (PlaceR.the_row).mir)) b (places-at o x2) w) ⊛ ‵ ((PlaceR.the_row).own_val (get_or h.places x2 zero_place) (w ∷ [])))) (part_out_at 𝓛 PlaceR.the_row refl q' (get_or h.places x2 zero_place) b (places-at o x2) (raw_ty (lone (PlaceR.the_row).mir)) refl) $
           pick ! (λ w. split ! $ move ! (1 ∷ []) $
-          peeks ! PlaceR.the_row (Is PlaceR.the_row) (shows 𝓛 PlaceR.the_row) (get_or h.places x2 zeroPlace) (w ∷ []) (λ gw. move ! (1 ∷ 0 ∷ []) $
+          peeks ! PlaceR.the_row (Is PlaceR.the_row) (shows 𝓛 PlaceR.the_row) (get_or h.places x2 zero_place) (w ∷ []) (λ gw. move ! (1 ∷ 0 ∷ []) $
           -- [the part; what it owns; the way back; the open borrow; the shared borrow; what it is; the locals]
-          assigns ! (of_opd ! (load ! (from ! (hop ! (look ! 8 refl) (stop !))) (look_raw ! 0 refl))) (from ! (stop !)) (init ! 6 {τ = PlaceL.mir} {v = w} refl ((LL.lawful PlaceR.the_type PlaceL.the_laws 𝓛).typed (get_or h.places x2 zeroPlace) _ gw).0) $
-          use2 𝓛 (‵ (part_at PlaceR.the_row q' (get_or h.places x2 zeroPlace) b (places-at o x2))) (part_in_at 𝓛 PlaceR.the_row refl q' (get_or h.places x2 zeroPlace) b (places-at o x2) (raw_ty (lone (PlaceR.the_row).mir)) refl w) $
-          use2 𝓛 (‵ (part_at TableR.the_row q' (withPlaces h (set h.places x2 (get_or h.places x2 zeroPlace))) b o)) (apply∗ 𝓤 (sem 𝓛 (part_at PlaceR.the_row q' (get_or h.places x2 zeroPlace) b (places-at o x2))) (sem 𝓛 (part_at TableR.the_row q' (withPlaces h (set h.places x2 (get_or h.places x2 zeroPlace))) b o))) $
+          assigns ! (of_opd ! (load ! (from ! (hop ! (look ! 8 refl) (stop !))) (look_raw ! 0 refl))) (from ! (stop !)) (init ! 6 {τ = PlaceL.mir} {v = w} refl ((LL.lawful PlaceR.the_type PlaceL.the_laws 𝓛).typed (get_or h.places x2 zero_place) _ gw).0) $
+          use2 𝓛 (‵ (part_at PlaceR.the_row q' (get_or h.places x2 zero_place) b (places-at o x2))) (part_in_at 𝓛 PlaceR.the_row refl q' (get_or h.places x2 zero_place) b (places-at o x2) (raw_ty (lone (PlaceR.the_row).mir)) refl w) $
+          use2 𝓛 (‵ (part_at TableR.the_row q' (with_places h (set h.places x2 (get_or h.places x2 zero_place))) b o)) (apply∗ 𝓤 (sem 𝓛 (part_at PlaceR.the_row q' (get_or h.places x2 zero_place) b (places-at o x2))) (sem 𝓛 (part_at TableR.the_row q' (with_places h (set h.places x2 (get_or h.places x2 zero_place))) b o))) $
           rewrite ! 0 (λ (z : Table). ‵ (part_at TableR.the_row q' z b o)) (place_same h x2) refl $
           move ! (1 ∷ []) $ obor_close ! tt $ drop ! $ feq_i ! (List Val) (vptr b o ∷ []) (vptr b o ∷ []) refl $ move ! (0 ∷ 3 ∷ 2 ∷ []) $ fjoin3 ! $ move ! (1 ∷ 0 ∷ []) $
-          assigns ! (of_opd ! (load ! (from ! (stop !)) (look ! 2 {q = full_share} {τ = PlaceL.mir} {b = l8} {o = 0} {v = w} refl))) (from ! (stop !)) (init ! 18 {τ = PlaceL.mir} {v = w} refl ((LL.lawful PlaceR.the_type PlaceL.the_laws 𝓛).typed (get_or h.places x2 zeroPlace) _ gw).0) $
+          assigns ! (of_opd ! (load ! (from ! (stop !)) (look ! 2 {q = full_share} {τ = PlaceL.mir} {b = l8} {o = 0} {v = w} refl))) (from ! (stop !)) (init ! 18 {τ = PlaceL.mir} {v = w} refl ((LL.lawful PlaceR.the_type PlaceL.the_laws 𝓛).typed (get_or h.places x2 zero_place) _ gw).0) $
           returns_within ! Post refl (look ! 18 {q = full_share} {τ = PlaceL.mir} {b = l0} {o = 0} {v = w} refl) $
           forget ! 2 refl $ forget ! 4 refl $ forget ! 6 refl $ forget ! 8 refl $ forget ! 10 refl $ forget ! 12 refl $ forget ! 14 refl $ forget ! 16 refl $ forget ! 18 refl $
           move ! (18 ∷ 19 ∷ []) $ free1 ! $ move ! (16 ∷ 17 ∷ []) $ free1 ! $ move ! (14 ∷ 15 ∷ []) $ free1 ! $ move ! (12 ∷ 13 ∷ []) $ free1 ! $ move ! (10 ∷ 11 ∷ []) $ free1 ! $ move ! (8 ∷ 9 ∷ []) $ free1 ! $ move ! (6 ∷ 7 ∷ []) $ free1 ! $ move ! (4 ∷ 5 ∷ []) $ free1 ! $ move ! (2 ∷ 3 ∷ []) $ free1 ! $ free0 ! $
-          by ! (exits (get_or h.places x2 zeroPlace) w gw refl)))))
+          by ! (exits (get_or h.places x2 zero_place) w gw refl)))))
           (λ failed.
           skips ! $
           exec ! C Λ (En l0 l1 l2 l3 l4 l5 l6 l7 l8) (after 3 (code.function).body) (at_ret (En l0 l1 l2 l3 l4 l5 l6 l7 l8) Post) $
@@ -161,7 +161,7 @@ module _ {M : Type 1} {𝓤 : Ura M} (𝓛 : Logic 𝓤) (at_mem : Memory → SP
           nothing ! $ use1 𝓛 (raw ((C-places-empty 𝓛 at_mem run).pre (to-places-empty 𝓛 at_mem run))) (goes-places-empty 𝓛 at_mem run) $
           calls_at ! fm (C-places-empty 𝓛 at_mem run) known-places-empty (to-places-empty 𝓛 at_mem run) (no_more !) (λ w1.
           use1 𝓛 (later (some (λ (r : Place). (‵ ftrue ⊛ ‵ ((PlaceR.the_row).own_val r (w1 ∷ []))) ⊛ raw (ensured 𝓛 places-empty.ended (places-empty.clauses 𝓛 at_mem run) tt tt tt r)))) (id⊢ 𝓤 _) $ await ! tt $ pick ! (λ r1. split ! $ move ! (1 ∷ []) $
-          use1 𝓛 (raw (fact 𝓤 (r1 ≡ zeroPlace))) (said-places-empty 𝓛 at_mem run r1) $ heard ! (r1 ≡ zeroPlace) (λ e1. split ! $ drop ! $ facts ! PlaceR.the_row (Is PlaceR.the_row) (shows 𝓛 PlaceR.the_row) r1 (w1 ∷ []) (λ is1.
+          use1 𝓛 (raw (fact 𝓤 (r1 ≡ zero_place))) (said-places-empty 𝓛 at_mem run r1) $ heard ! (r1 ≡ zero_place) (λ e1. split ! $ drop ! $ facts ! PlaceR.the_row (Is PlaceR.the_row) (shows 𝓛 PlaceR.the_row) r1 (w1 ∷ []) (λ is1.
           land ! (from ! (stop !)) (init ! 18 {τ = PlaceL.mir} {v = w1} refl ((LL.lawful PlaceR.the_type PlaceL.the_laws 𝓛).typed r1 _ is1).0) $
           returns ! (look ! 18 {q = full_share} {τ = PlaceL.mir} {b = l0} {o = 0} {v = w1} refl) $
           forget ! 10 refl $ forget ! 12 refl $ forget ! 14 refl $ forget ! 16 refl $ forget ! 18 refl $

@@ -44,11 +44,11 @@ use Rattle.rules.specs.contracts.Place as PlaceR
 use Rattle.rules.proofs.Place.TheLaws as PlaceL
 use Rattle.rules.specs.declared.Table.{Table}
 use Rattle.rules.specs.contracts.Table as TableR
-use Rattle.rules.specs.Zero.{zeroPlace}
-use Rattle.rules.specs.Tables.{withPlaces}
+use Rattle.rules.specs.Zero.{zero_place}
+use Rattle.rules.specs.Tables.{with_places}
 use Rattle.table_lent.proofs.Bodies.{ty_at, after}
 use Rattle.table_lent.proofs.Hole.{reaches, passes, Back}
-use Rattle.table_lent.proofs.Parts.{places-at, place-hole, places-sized, place-unset}
+use Rattle.table_lent.proofs.Parts.{places-at, place_hole, places-sized, place_unset}
 use Rattle.table_places.specs.contracts.put_place.Key.{name as #table_places·put-place}
 use Rattle.table_places.specs.contracts.put_place as me
 use Rattle.table_places.proofs.put_place.Statement as stated
@@ -80,7 +80,7 @@ module _ {M : Type 1} {𝓤 : Ura M} (𝓛 : Logic 𝓤) (at_mem : Memory → SP
   Post = (walk_of 𝓛 me.ended stayed (me.clauses 𝓛 at_mem run)).post (((κ, tt), (q, tt), tt, x, vs), tt)
 
   module _ (g2 : Is usize x2 ((vint w64 x2) ∷ [])) (g3 : Is PlaceR.the_row x3 (m3 ∷ [])) where
-    exits : (z : Table) → z ≡ withPlaces h (set h.places x2 x3) → ent 𝓤 (⋆ 𝓛 (‵ ((MutRef (named 0) κ TableR.the_row).own_val (rt γ z) (vptr b o ∷ [])) ∷ ‵ (flft κ q) ∷ [])) (Post vunit)
+    exits : (z : Table) → z ≡ with_places h (set h.places x2 x3) → ent 𝓤 (⋆ 𝓛 (‵ ((MutRef (named 0) κ TableR.the_row).own_val (rt γ z) (vptr b o ∷ [])) ∷ ‵ (flft κ q) ∷ [])) (Post vunit)
     exits z eq =
         qed 𝓛 (‵ ((MutRef (named 0) κ TableR.the_row).own_val (rt γ z) (vptr b o ∷ [])) ∷ ‵ (flft κ q) ∷ []) ∵
         suffices ! _ (ends_at 𝓛 me.ended stayed (me.clauses 𝓛 at_mem run) (((κ, tt), (q, tt), tt, x, vs), tt) vunit tt (z, (tt, (tt, tt))) (tt, (tt, (tt, tt)))) $ says ! eq $
@@ -109,21 +109,21 @@ module _ {M : Type 1} {𝓤 : Ura M} (𝓛 : Logic 𝓤) (at_mem : Memory → SP
           assigns ! (bin ! (load ! (from ! (stop !)) (look ! 4 refl)) (load ! (from ! (stop !)) (look ! 6 refl)) tt) (from ! (stop !)) (init ! 2 refl (tt, tt)) $
           rewrite ! 2 (λ (p : ℕ). ‵ (fat full_share ty_ptr l8 0 (vptr b p))) (sym (at_mul (o + 47592) 64 x2)) refl $
           fsplit3 ! $ drop ! $ open_ref ! tt (mem TableR.the_row) {x = h} {b = b} {o = o} $
-          use1 𝓛 (‵ (part_at PlaceR.the_row full_share (get_or h.places x2 zeroPlace) b (places-at o x2)) ⊛ raw (Back 𝓛 full_share TableR.the_row PlaceR.the_row (withPlaces h (set h.places x2 x3)) x3 b o (places-at o x2))) (place-hole 𝓛 full_share h x2 x3 b o (reaches x2 _ 64 held (leb→le _ _ tt))) $ split ! $
-          use1 𝓛 (some (λ (w : Val). ‵ (fat full_share (raw_ty (lone (PlaceR.the_row).mir)) b (places-at o x2) w) ⊛ ‵ ((PlaceR.the_row).own_val (get_or h.places x2 zeroPlace) (w ∷ [])))) (part_out_at 𝓛 PlaceR.the_row refl full_share (get_or h.places x2 zeroPlace) b (places-at o x2) (raw_ty (lone (PlaceR.the_row).mir)) refl) $
+          use1 𝓛 (‵ (part_at PlaceR.the_row full_share (get_or h.places x2 zero_place) b (places-at o x2)) ⊛ raw (Back 𝓛 full_share TableR.the_row PlaceR.the_row (with_places h (set h.places x2 x3)) x3 b o (places-at o x2))) (place_hole 𝓛 full_share h x2 x3 b o (reaches x2 _ 64 held (leb→le _ _ tt))) $ split ! $
+          use1 𝓛 (some (λ (w : Val). ‵ (fat full_share (raw_ty (lone (PlaceR.the_row).mir)) b (places-at o x2) w) ⊛ ‵ ((PlaceR.the_row).own_val (get_or h.places x2 zero_place) (w ∷ [])))) (part_out_at 𝓛 PlaceR.the_row refl full_share (get_or h.places x2 zero_place) b (places-at o x2) (raw_ty (lone (PlaceR.the_row).mir)) refl) $
           pick ! (λ w. split ! $
           -- [the part; what it owns; the way back; the open borrow; what it was; its owner's word; the locals]
           assigns_last ! (of_opd ! (load ! (from ! (stop !)) (look ! 16 {q = full_share} {τ = PlaceL.mir} {b = l3} {o = 0} {v = m3} refl))) (from ! (hop ! (look ! 6 refl) (stop !))) (store_raw ! 0 refl ((LL.lawful PlaceR.the_type PlaceL.the_laws 𝓛).typed x3 _ g3).0) $
           exec ! C Λ (En l0 l1 l2 l3 l4 l5 l6 l7 l8) (after 3 (code.function).body) (at_ret (En l0 l1 l2 l3 l4 l5 l6 l7 l8) Post) $
           move ! (1 ∷ []) $ drop ! $ owned ! PlaceR.the_row (Is PlaceR.the_row) (LL.makes PlaceR.the_type PlaceL.the_plain 𝓛) x3 _ g3 $ move ! (1 ∷ 0 ∷ []) $
           use2 𝓛 (‵ (part_at PlaceR.the_row full_share x3 b (places-at o x2))) (part_in_at 𝓛 PlaceR.the_row refl full_share x3 b (places-at o x2) (raw_ty (lone (PlaceR.the_row).mir)) refl m3) $
-          use2 𝓛 (‵ (part_at TableR.the_row full_share (withPlaces h (set h.places x2 x3)) b o)) (apply∗ 𝓤 (sem 𝓛 (part_at PlaceR.the_row full_share x3 b (places-at o x2))) (sem 𝓛 (part_at TableR.the_row full_share (withPlaces h (set h.places x2 x3)) b o))) $
-          close_ref ! tt (mem TableR.the_row) (withPlaces h (set h.places x2 x3)) {b = b} {o = o} $ feq_i ! (List Val) (vptr b o ∷ []) (vptr b o ∷ []) refl $ fjoin3 ! $
+          use2 𝓛 (‵ (part_at TableR.the_row full_share (with_places h (set h.places x2 x3)) b o)) (apply∗ 𝓤 (sem 𝓛 (part_at PlaceR.the_row full_share x3 b (places-at o x2))) (sem 𝓛 (part_at TableR.the_row full_share (with_places h (set h.places x2 x3)) b o))) $
+          close_ref ! tt (mem TableR.the_row) (with_places h (set h.places x2 x3)) {b = b} {o = o} $ feq_i ! (List Val) (vptr b o ∷ []) (vptr b o ∷ []) refl $ fjoin3 ! $
           assigns ! (of_opd ! (unit_lit !)) (from ! (stop !)) (init ! 18 refl (tt, tt)) $
           returns ! (look ! 18 {q = full_share} {τ = ty_unit} {b = l0} {o = 0} {v = vunit} refl) $
           forget ! 2 refl $ forget ! 4 refl $ forget ! 6 refl $ forget ! 8 refl $ forget ! 10 refl $ forget ! 12 refl $ forget ! 14 refl $ forget ! 16 refl $ forget ! 18 refl $
           move ! (18 ∷ 19 ∷ []) $ free1 ! $ move ! (16 ∷ 17 ∷ []) $ free1 ! $ move ! (14 ∷ 15 ∷ []) $ free1 ! $ move ! (12 ∷ 13 ∷ []) $ free1 ! $ move ! (10 ∷ 11 ∷ []) $ free1 ! $ move ! (8 ∷ 9 ∷ []) $ free1 ! $ move ! (6 ∷ 7 ∷ []) $ free1 ! $ move ! (4 ∷ 5 ∷ []) $ free1 ! $ move ! (2 ∷ 3 ∷ []) $ free1 ! $ free0 ! $
-          by ! (exits (withPlaces h (set h.places x2 x3)) refl)))
+          by ! (exits (with_places h (set h.places x2 x3)) refl)))
           (λ failed.
           skips ! $
           exec ! C Λ (En l0 l1 l2 l3 l4 l5 l6 l7 l8) (after 3 (code.function).body) (at_ret (En l0 l1 l2 l3 l4 l5 l6 l7 l8) Post) $
@@ -134,7 +134,7 @@ module _ {M : Type 1} {𝓤 : Ura M} (𝓛 : Logic 𝓤) (at_mem : Memory → SP
           returns ! (look ! 18 {q = full_share} {τ = ty_unit} {b = l0} {o = 0} {v = vunit} refl) $
           forget ! 8 refl $ forget ! 10 refl $ forget ! 12 refl $ forget ! 14 refl $ forget ! 16 refl $ forget ! 18 refl $
           move ! (18 ∷ 19 ∷ []) $ free1 ! $ move ! (16 ∷ 17 ∷ []) $ free1 ! $ move ! (14 ∷ 15 ∷ []) $ free1 ! $ move ! (12 ∷ 13 ∷ []) $ free1 ! $ move ! (10 ∷ 11 ∷ []) $ free1 ! $ move ! (8 ∷ 9 ∷ []) $ free1 ! $ move ! (6 ∷ 7 ∷ []) $ free1 ! $ move ! (4 ∷ 5 ∷ []) $ free1 ! $ move ! (2 ∷ 3 ∷ []) $ free1 ! $ free0 ! $
-          by ! (exits h (place-unset h x2 x3 len (passes x2 _ 64 failed (leb→le _ _ tt)))))))))))))))
+          by ! (exits h (place_unset h x2 x3 len (passes x2 _ 64 failed (leb→le _ _ tt)))))))))))))))
 
 module _ {M : Type 1} {𝓤 : Ura M} (𝓛 : Logic 𝓤) (at_mem : Memory → SProp 𝓤) (run : Routine → Fun 𝓤) where
   open 𝓛 use {H}

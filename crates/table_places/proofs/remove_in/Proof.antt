@@ -41,8 +41,8 @@ use Rattle.rules.specs.contracts.Place as PlaceR
 use Rattle.rules.proofs.Place.TheLaws as PlaceL
 use Rattle.rules.specs.declared.Table.{Table}
 use Rattle.rules.specs.contracts.Table as TableR
-use Rattle.rules.specs.Zero.{zeroPlace}
-use Rattle.rules.specs.Tables.{withPlaces}
+use Rattle.rules.specs.Zero.{zero_place}
+use Rattle.rules.specs.Tables.{with_places}
 use Rattle.rules.specs.Network.{removed}
 use Rattle.table_places.specs.contracts.empty as places-empty
 use Rattle.table_places.proofs.empty.Symbol as places-empty-def
@@ -64,8 +64,8 @@ module _ {M : Type 1} {𝓤 : Ura M} (𝓛 : Logic 𝓤) (at_mem : Memory → SP
   abbrev C-places-empty : Contract 𝓤
   C-places-empty = triple_of 𝓛 places-empty.signature (places-empty.spec 𝓛 at_mem run)
 
-  said-places-empty : (r : Place) → ent 𝓤 (ensured 𝓛 places-empty.ended (places-empty.clauses 𝓛 at_mem run) tt tt tt r) (fact 𝓤 (r ≡ zeroPlace))
-  said-places-empty r = ex_e 𝓤 _ (λ ws. snd∗ 𝓤 (sem 𝓛 (lasts places-empty.ended tt tt ws)) (fact 𝓤 (r ≡ zeroPlace)))
+  said-places-empty : (r : Place) → ent 𝓤 (ensured 𝓛 places-empty.ended (places-empty.clauses 𝓛 at_mem run) tt tt tt r) (fact 𝓤 (r ≡ zero_place))
+  said-places-empty r = ex_e 𝓤 _ (λ ws. snd∗ 𝓤 (sem 𝓛 (lasts places-empty.ended tt tt ws)) (fact 𝓤 (r ≡ zero_place)))
 
   abbrev C-put-place : Contract 𝓤
   C-put-place = triple_of 𝓛 put-place.signature (put-place.spec 𝓛 at_mem run)
@@ -102,7 +102,7 @@ module _ {M : Type 1} {𝓤 : Ura M} (𝓛 : Logic 𝓤) (at_mem : Memory → SP
   Post = (walk_of 𝓛 me.ended stayed (me.clauses 𝓛 at_mem run)).post (((κ, tt), (q, tt), tt, x, vs), tt)
 
   module _ (g2 : Is usize x2 ((vint w64 x2) ∷ [])) where
-    exits : (z : Table) → z ≡ withPlaces h (removed h.places x2) → ent 𝓤 (⋆ 𝓛 (‵ ((MutRef (named 0) κ TableR.the_row).own_val (rt γ z) (vptr b o ∷ [])) ∷ ‵ (flft κ q) ∷ [])) (Post vunit)
+    exits : (z : Table) → z ≡ with_places h (removed h.places x2) → ent 𝓤 (⋆ 𝓛 (‵ ((MutRef (named 0) κ TableR.the_row).own_val (rt γ z) (vptr b o ∷ [])) ∷ ‵ (flft κ q) ∷ [])) (Post vunit)
     exits z eq =
         qed 𝓛 (‵ ((MutRef (named 0) κ TableR.the_row).own_val (rt γ z) (vptr b o ∷ [])) ∷ ‵ (flft κ q) ∷ []) ∵
         suffices ! _ (ends_at 𝓛 me.ended stayed (me.clauses 𝓛 at_mem run) (((κ, tt), (q, tt), tt, x, vs), tt) vunit tt (z, (tt, tt)) (tt, (tt, tt))) $ says ! eq $
@@ -129,7 +129,7 @@ module _ {M : Type 1} {𝓤 : Ura M} (𝓛 : Logic 𝓤) (at_mem : Memory → SP
           nothing ! $ use1 𝓛 (raw ((C-places-empty 𝓛 at_mem run).pre (to-places-empty 𝓛 at_mem run))) (goes-places-empty 𝓛 at_mem run) $
           calls_at ! fm (C-places-empty 𝓛 at_mem run) known-places-empty (to-places-empty 𝓛 at_mem run) (no_more !) (λ w1.
           use1 𝓛 (later (some (λ (r : Place). (‵ ftrue ⊛ ‵ ((PlaceR.the_row).own_val r (w1 ∷ []))) ⊛ raw (ensured 𝓛 places-empty.ended (places-empty.clauses 𝓛 at_mem run) tt tt tt r)))) (id⊢ 𝓤 _) $ await ! tt $ pick ! (λ r1. split ! $ move ! (1 ∷ []) $
-          use1 𝓛 (raw (fact 𝓤 (r1 ≡ zeroPlace))) (said-places-empty 𝓛 at_mem run r1) $ heard ! (r1 ≡ zeroPlace) (λ e1. split ! $ drop ! $ facts ! PlaceR.the_row (Is PlaceR.the_row) (shows 𝓛 PlaceR.the_row) r1 (w1 ∷ []) (λ is1.
+          use1 𝓛 (raw (fact 𝓤 (r1 ≡ zero_place))) (said-places-empty 𝓛 at_mem run r1) $ heard ! (r1 ≡ zero_place) (λ e1. split ! $ drop ! $ facts ! PlaceR.the_row (Is PlaceR.the_row) (shows 𝓛 PlaceR.the_row) r1 (w1 ∷ []) (λ is1.
           land ! (from ! (stop !)) (init ! 6 {τ = PlaceL.mir} {v = w1} refl ((LL.lawful PlaceR.the_type PlaceL.the_laws 𝓛).typed r1 _ is1).0) $
           assigns ! (addr ! (from ! (hop ! (look ! 10 refl) (stop !)))) (from ! (stop !)) (init ! 2 refl (tt, tt)) $
           -- _4 = table_places::put_place(_5, _2, _3)
@@ -139,7 +139,7 @@ module _ {M : Type 1} {𝓤 : Ura M} (𝓛 : Logic 𝓤) (at_mem : Memory → SP
           use2 𝓛 (raw ((C-put-place 𝓛 at_mem run).pre (to-put-place 𝓛 at_mem run (ν2 ∷ []) full_share (rt δ2 h) x2 (vint w64 x2) r1 w1))) (goes-put-place 𝓛 at_mem run (ν2 ∷ []) full_share (rt δ2 h) x2 (vint w64 x2) r1 w1 g2 is1) $
           calls_at ! fm (C-put-place 𝓛 at_mem run) known-put-place (to-put-place 𝓛 at_mem run (ν2 ∷ []) full_share (rt δ2 h) x2 (vint w64 x2) r1 w1) (and_then ! (load ! (from ! (stop !)) (look ! 2 refl)) (and_then ! (load ! (from ! (stop !)) (look ! 8 {q = full_share} {τ = ty_int w64} {b = l2} {o = 0} {v = (vint w64 x2)} refl)) (and_then ! (load ! (from ! (stop !)) (look ! 6 {q = full_share} {τ = PlaceL.mir} {b = l3} {o = 0} {v = w1} refl)) (no_more !)))) (λ w2.
           use1 𝓛 (later (some (λ (r : Unit {0}). ((‵ (flft (ν2 ∷ []) full_share) ⊛ ‵ ftrue) ⊛ ‵ (Nothing.own r (w2 ∷ []))) ⊛ raw (ensured 𝓛 put-place.ended (put-place.clauses 𝓛 at_mem run) ((ν2 ∷ []), tt) ((rt δ2 h), (x2, (r1, tt))) tt r)))) (id⊢ 𝓤 _) $ await ! tt $ pick ! (λ r2. split ! $ move ! (1 ∷ []) $
-          use1 𝓛 (some (λ (z2 : Table × (Unit {0} × (Unit {0} × Unit {0}))). ‵ (lasts put-place.ended ((ν2 ∷ []), tt) ((rt δ2 h), (x2, (r1, tt))) z2) ⊛ raw (fact 𝓤 (z2.0 ≡ withPlaces h (set h.places x2 r1))))) (id⊢ 𝓤 _) $ pick ! (λ z2. split ! $ move ! (1 ∷ []) $ heard ! (z2.0 ≡ withPlaces h (set h.places x2 r1)) (λ e2. fsplit ! $
+          use1 𝓛 (some (λ (z2 : Table × (Unit {0} × (Unit {0} × Unit {0}))). ‵ (lasts put-place.ended ((ν2 ∷ []), tt) ((rt δ2 h), (x2, (r1, tt))) z2) ⊛ raw (fact 𝓤 (z2.0 ≡ with_places h (set h.places x2 r1))))) (id⊢ 𝓤 _) $ pick ! (λ z2. split ! $ move ! (1 ∷ []) $ heard ! (z2.0 ≡ with_places h (set h.places x2 r1)) (λ e2. fsplit ! $
           move ! (2 ∷ []) $ split ! $ move ! (1 ∷ []) $ facts ! Nothing (Is Nothing) (shows 𝓛 Nothing) r2 (w2 ∷ []) (λ is2.
           land ! (from ! (stop !)) (init ! 6 {τ = ty_unit} {v = w2} refl ((Nothing-Lawful 𝓛).typed r2 _ is2).0) $ split ! $ lft_end ! tt $ move ! (0 ∷ 4 ∷ 2 ∷ []) $
           use3 𝓛 (later (‵ ((MutRef (named 0) κ TableR.the_row).own_val (rt γ z2.0) (vptr b o ∷ [])) ⊛ ‵ (flft κ q))) (comes_back 𝓛 TableR.the_row (named 0) κ (ν2 ∷ []) q γ b o δ2 h z2.0) $ await ! tt $ split ! $ move ! (2 ∷ 3 ∷ []) $ drop ! $ drop ! $
@@ -147,7 +147,7 @@ module _ {M : Type 1} {𝓤 : Ura M} (𝓛 : Logic 𝓤) (at_mem : Memory → SP
           returns ! (look ! 12 {q = full_share} {τ = ty_unit} {b = l0} {o = 0} {v = vunit} refl) $
           forget ! 2 refl $ forget ! 4 refl $ forget ! 6 refl $ forget ! 8 refl $ forget ! 10 refl $ forget ! 12 refl $
           move ! (12 ∷ 13 ∷ []) $ free1 ! $ move ! (10 ∷ 11 ∷ []) $ free1 ! $ move ! (8 ∷ 9 ∷ []) $ free1 ! $ move ! (6 ∷ 7 ∷ []) $ free1 ! $ move ! (4 ∷ 5 ∷ []) $ free1 ! $ move ! (2 ∷ 3 ∷ []) $ free1 ! $ free0 ! $
-          by ! (exits z2.0 (e2 ∙ ap (λ (p : Place). withPlaces h (set h.places x2 p)) e1)))))))))))))))))))
+          by ! (exits z2.0 (e2 ∙ ap (λ (p : Place). with_places h (set h.places x2 p)) e1)))))))))))))))))))
 
 module _ {M : Type 1} {𝓤 : Ura M} (𝓛 : Logic 𝓤) (at_mem : Memory → SProp 𝓤) (run : Routine → Fun 𝓤) where
   open 𝓛 use {H}

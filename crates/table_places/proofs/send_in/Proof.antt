@@ -47,9 +47,9 @@ use Rattle.rules.specs.contracts.Slot as SlotR
 use Rattle.rules.proofs.Slot.TheLaws as SlotL
 use Rattle.rules.specs.declared.Table.{Table}
 use Rattle.rules.specs.contracts.Table as TableR
-use Rattle.rules.specs.Tables.{withPlaces}
-use Rattle.rules.specs.Kinds.{isEmptySlot}
-use Rattle.rules.specs.Network.{isFree, replied}
+use Rattle.rules.specs.Tables.{with_places}
+use Rattle.rules.specs.Kinds.{is_empty_slot}
+use Rattle.rules.specs.Network.{is_free, replied}
 use Rattle.rules.specs.Words.{place}
 use Rattle.table_places.proofs.Laws.{sends_none, sends}
 use Rattle.table_lent.proofs.Bodies.{ty_at, after}
@@ -89,14 +89,14 @@ module _ {M : Type 1} {𝓤 : Ura M} (𝓛 : Logic 𝓤) (at_mem : Memory → SP
   abbrev C-is-empty : Contract 𝓤
   C-is-empty = triple_of 𝓛 is-empty.signature (is-empty.spec 𝓛 at_mem run)
 
-  said-is-empty : (x0 : Slot) (r : Bool) → ent 𝓤 (ensured 𝓛 is-empty.ended (is-empty.clauses 𝓛 at_mem run) tt (x0, tt) tt r) (fact 𝓤 (r ≡ isEmptySlot x0))
-  said-is-empty x0 r = ex_e 𝓤 _ (λ ws. snd∗ 𝓤 (sem 𝓛 (lasts is-empty.ended tt (x0, tt) ws)) (fact 𝓤 (r ≡ isEmptySlot x0)))
+  said-is-empty : (x0 : Slot) (r : Bool) → ent 𝓤 (ensured 𝓛 is-empty.ended (is-empty.clauses 𝓛 at_mem run) tt (x0, tt) tt r) (fact 𝓤 (r ≡ is_empty_slot x0))
+  said-is-empty x0 r = ex_e 𝓤 _ (λ ws. snd∗ 𝓤 (sem 𝓛 (lasts is-empty.ended tt (x0, tt) ws)) (fact 𝓤 (r ≡ is_empty_slot x0)))
 
   abbrev C-lowest-in : Contract 𝓤
   C-lowest-in = triple_of 𝓛 lowest-in.signature (lowest-in.spec 𝓛 at_mem run)
 
-  said-lowest-in : (κ : Lft) (t : Bor Table) (r : ℕ) → ent 𝓤 (ensured 𝓛 lowest-in.ended (lowest-in.clauses 𝓛 at_mem run) (κ, tt) (t, tt) tt r) (fact 𝓤 (r ≡ place isFree t.now.places))
-  said-lowest-in κ t r = ex_e 𝓤 _ (λ ws. snd∗ 𝓤 (sem 𝓛 (lasts lowest-in.ended (κ, tt) (t, tt) ws)) (fact 𝓤 (r ≡ place isFree t.now.places)))
+  said-lowest-in : (κ : Lft) (t : Bor Table) (r : ℕ) → ent 𝓤 (ensured 𝓛 lowest-in.ended (lowest-in.clauses 𝓛 at_mem run) (κ, tt) (t, tt) tt r) (fact 𝓤 (r ≡ place is_free t.now.places))
+  said-lowest-in κ t r = ex_e 𝓤 _ (λ ws. snd∗ 𝓤 (sem 𝓛 (lasts lowest-in.ended (κ, tt) (t, tt) ws)) (fact 𝓤 (r ≡ place is_free t.now.places)))
 
   abbrev C-places-holding : Contract 𝓤
   C-places-holding = triple_of 𝓛 places-holding.signature (places-holding.spec 𝓛 at_mem run)
@@ -152,7 +152,7 @@ module _ {M : Type 1} {𝓤 : Ura M} (𝓛 : Logic 𝓤) (at_mem : Memory → SP
   Post = (walk_of 𝓛 me.ended stayed (me.clauses 𝓛 at_mem run)).post (((κ, tt), (q, tt), tt, x, vs), tt)
 
   module _ (g2 : Is SlotR.the_row x2 (m2 ∷ [])) where
-    exits : (z : Table) → z ≡ withPlaces h (replied h.places x2) → ent 𝓤 (⋆ 𝓛 (‵ ((MutRef (named 0) κ TableR.the_row).own_val (rt γ z) (vptr b o ∷ [])) ∷ ‵ (flft κ q) ∷ [])) (Post vunit)
+    exits : (z : Table) → z ≡ with_places h (replied h.places x2) → ent 𝓤 (⋆ 𝓛 (‵ ((MutRef (named 0) κ TableR.the_row).own_val (rt γ z) (vptr b o ∷ [])) ∷ ‵ (flft κ q) ∷ [])) (Post vunit)
     exits z eq =
         qed 𝓛 (‵ ((MutRef (named 0) κ TableR.the_row).own_val (rt γ z) (vptr b o ∷ [])) ∷ ‵ (flft κ q) ∷ []) ∵
         suffices ! _ (ends_at 𝓛 me.ended stayed (me.clauses 𝓛 at_mem run) (((κ, tt), (q, tt), tt, x, vs), tt) vunit tt (z, (tt, tt)) (tt, (tt, tt))) $ says ! eq $
@@ -179,7 +179,7 @@ module _ {M : Type 1} {𝓤 : Ura M} (𝓛 : Logic 𝓤) (at_mem : Memory → SP
           nothing ! $ use1 𝓛 (raw ((C-is-empty 𝓛 at_mem run).pre (to-is-empty 𝓛 at_mem run x2 m2))) (goes-is-empty 𝓛 at_mem run x2 m2 g2) $
           calls_at ! fm (C-is-empty 𝓛 at_mem run) known-is-empty (to-is-empty 𝓛 at_mem run x2 m2) (and_then ! (load ! (from ! (stop !)) (look ! 15 {q = full_share} {τ = SlotL.mir} {b = l2} {o = 0} {v = m2} refl)) (no_more !)) (λ w1.
           use1 𝓛 (later (some (λ (r : Bool). (‵ ftrue ⊛ ‵ (Boolean.own r (w1 ∷ []))) ⊛ raw (ensured 𝓛 is-empty.ended (is-empty.clauses 𝓛 at_mem run) tt (x2, tt) tt r)))) (id⊢ 𝓤 _) $ await ! tt $ pick ! (λ r1. split ! $ move ! (1 ∷ []) $
-          use1 𝓛 (raw (fact 𝓤 (r1 ≡ isEmptySlot x2))) (said-is-empty 𝓛 at_mem run x2 r1) $ heard ! (r1 ≡ isEmptySlot x2) (λ e1. split ! $ drop ! $ facts ! Boolean (Is Boolean) (shows 𝓛 Boolean) r1 (w1 ∷ []) (λ is1.
+          use1 𝓛 (raw (fact 𝓤 (r1 ≡ is_empty_slot x2))) (said-is-empty 𝓛 at_mem run x2 r1) $ heard ! (r1 ≡ is_empty_slot x2) (λ e1. split ! $ drop ! $ facts ! Boolean (Is Boolean) (shows 𝓛 Boolean) r1 (w1 ∷ []) (λ is1.
           land ! (from ! (stop !)) (init ! 8 {τ = ty_bool} {v = w1} refl ((bool_Lawful 𝓛).typed r1 _ is1).0) $
           rewrite ! 8 (λ (u : Val). ‵ (fat full_share ty_bool l5 0 u)) (ap only (bool_Tells r1 _ is1)) refl $
           first ! $ branches ! (load ! (from ! (stop !)) (look ! 8 {q = full_share} {τ = ty_bool} {b = l5} {o = 0} {v = (vbool r1)} refl))
@@ -200,7 +200,7 @@ module _ {M : Type 1} {𝓤 : Ura M} (𝓛 : Logic 𝓤) (at_mem : Memory → SP
           use2 𝓛 (raw ((C-lowest-in 𝓛 at_mem run).pre (to-lowest-in 𝓛 at_mem run (ν2 ∷ []) full_share (rt δ2 h)))) (goes-lowest-in 𝓛 at_mem run (ν2 ∷ []) full_share (rt δ2 h)) $
           calls_at ! fm (C-lowest-in 𝓛 at_mem run) known-lowest-in (to-lowest-in 𝓛 at_mem run (ν2 ∷ []) full_share (rt δ2 h)) (and_then ! (load ! (from ! (stop !)) (look ! 6 refl)) (no_more !)) (λ w2.
           use1 𝓛 (later (some (λ (r : ℕ). ((‵ (flft (ν2 ∷ []) full_share) ⊛ ‵ ftrue) ⊛ ‵ (usize.own_val r (w2 ∷ []))) ⊛ raw (ensured 𝓛 lowest-in.ended (lowest-in.clauses 𝓛 at_mem run) ((ν2 ∷ []), tt) ((rt δ2 h), tt) tt r)))) (id⊢ 𝓤 _) $ await ! tt $ pick ! (λ r2. split ! $ move ! (1 ∷ []) $
-          use1 𝓛 (raw (fact 𝓤 (r2 ≡ place isFree h.places))) (said-lowest-in 𝓛 at_mem run (ν2 ∷ []) (rt δ2 h) r2) $ heard ! (r2 ≡ place isFree h.places) (λ e2. split ! $ move ! (1 ∷ []) $ facts ! usize (Is usize) (shows 𝓛 usize) r2 (w2 ∷ []) (λ is2.
+          use1 𝓛 (raw (fact 𝓤 (r2 ≡ place is_free h.places))) (said-lowest-in 𝓛 at_mem run (ν2 ∷ []) (rt δ2 h) r2) $ heard ! (r2 ≡ place is_free h.places) (λ e2. split ! $ move ! (1 ∷ []) $ facts ! usize (Is usize) (shows 𝓛 usize) r2 (w2 ∷ []) (λ is2.
           land ! (from ! (stop !)) (init ! 12 {τ = ty_int w64} {v = w2} refl ((uint_Lawful 𝓛 w64).typed r2 _ is2).0) $
           split ! $ lft_end ! tt $ move ! (0 ∷ 2 ∷ []) $ use2 𝓛 (later (‵ ((MutRef (named 0) κ TableR.the_row).own_val (rt γ h) (vptr b o ∷ [])) ⊛ ‵ (flft κ q))) (comes_home 𝓛 TableR.the_row (named 0) κ (ν2 ∷ []) q γ b o h) $ await ! tt $ split ! $ move ! (2 ∷ []) $ drop ! $
           -- _4 = table_places::holding(_2)
@@ -217,7 +217,7 @@ module _ {M : Type 1} {𝓤 : Ura M} (𝓛 : Logic 𝓤) (at_mem : Memory → SP
           use2 𝓛 (raw ((C-put-place 𝓛 at_mem run).pre (to-put-place 𝓛 at_mem run (ν4 ∷ []) full_share (rt δ4 h) r2 w2 r3 w3))) (goes-put-place 𝓛 at_mem run (ν4 ∷ []) full_share (rt δ4 h) r2 w2 r3 w3 is2 is3) $
           calls_at ! fm (C-put-place 𝓛 at_mem run) known-put-place (to-put-place 𝓛 at_mem run (ν4 ∷ []) full_share (rt δ4 h) r2 w2 r3 w3) (and_then ! (load ! (from ! (stop !)) (look ! 2 refl)) (and_then ! (load ! (from ! (stop !)) (look ! 12 {q = full_share} {τ = ty_int w64} {b = l3} {o = 0} {v = w2} refl)) (and_then ! (load ! (from ! (stop !)) (look ! 10 {q = full_share} {τ = PlaceL.mir} {b = l4} {o = 0} {v = w3} refl)) (no_more !)))) (λ w4.
           use1 𝓛 (later (some (λ (r : Unit {0}). ((‵ (flft (ν4 ∷ []) full_share) ⊛ ‵ ftrue) ⊛ ‵ (Nothing.own r (w4 ∷ []))) ⊛ raw (ensured 𝓛 put-place.ended (put-place.clauses 𝓛 at_mem run) ((ν4 ∷ []), tt) ((rt δ4 h), (r2, (r3, tt))) tt r)))) (id⊢ 𝓤 _) $ await ! tt $ pick ! (λ r4. split ! $ move ! (1 ∷ []) $
-          use1 𝓛 (some (λ (z4 : Table × (Unit {0} × (Unit {0} × Unit {0}))). ‵ (lasts put-place.ended ((ν4 ∷ []), tt) ((rt δ4 h), (r2, (r3, tt))) z4) ⊛ raw (fact 𝓤 (z4.0 ≡ withPlaces h (set h.places r2 r3))))) (id⊢ 𝓤 _) $ pick ! (λ z4. split ! $ move ! (1 ∷ []) $ heard ! (z4.0 ≡ withPlaces h (set h.places r2 r3)) (λ e4. fsplit ! $
+          use1 𝓛 (some (λ (z4 : Table × (Unit {0} × (Unit {0} × Unit {0}))). ‵ (lasts put-place.ended ((ν4 ∷ []), tt) ((rt δ4 h), (r2, (r3, tt))) z4) ⊛ raw (fact 𝓤 (z4.0 ≡ with_places h (set h.places r2 r3))))) (id⊢ 𝓤 _) $ pick ! (λ z4. split ! $ move ! (1 ∷ []) $ heard ! (z4.0 ≡ with_places h (set h.places r2 r3)) (λ e4. fsplit ! $
           move ! (2 ∷ []) $ split ! $ move ! (1 ∷ []) $ facts ! Nothing (Is Nothing) (shows 𝓛 Nothing) r4 (w4 ∷ []) (λ is4.
           land ! (from ! (stop !)) (init ! 6 {τ = ty_unit} {v = w4} refl ((Nothing-Lawful 𝓛).typed r4 _ is4).0) $ split ! $ lft_end ! tt $ move ! (0 ∷ 4 ∷ 2 ∷ []) $
           use3 𝓛 (later (‵ ((MutRef (named 0) κ TableR.the_row).own_val (rt γ z4.0) (vptr b o ∷ [])) ⊛ ‵ (flft κ q))) (comes_back 𝓛 TableR.the_row (named 0) κ (ν4 ∷ []) q γ b o δ4 h z4.0) $ await ! tt $ split ! $ move ! (2 ∷ 3 ∷ []) $ drop ! $ drop ! $

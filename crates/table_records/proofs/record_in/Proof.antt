@@ -48,11 +48,11 @@ use Rattle.rules.proofs.Record.TheLaws as RecordL
 use Rattle.rules.specs.declared.Table.{Table}
 use Rattle.rules.specs.contracts.Table as TableR
 use Rattle.rules.proofs.Table.TheLaws as TableL
-use Rattle.rules.specs.Zero.{zeroRecord}
-use Rattle.rules.specs.Tables.{withRecords}
+use Rattle.rules.specs.Zero.{zero_record}
+use Rattle.rules.specs.Tables.{with_records}
 use Rattle.table_lent.proofs.Bodies.{ty_at, after}
 use Rattle.table_lent.proofs.Hole.{reaches, passes, Back}
-use Rattle.table_lent.proofs.Parts.{records-at, record-hole, record_same, records-sized, record-beyond}
+use Rattle.table_lent.proofs.Parts.{records-at, record_hole, record_same, records-sized, record_beyond}
 use Rattle.table_zero.specs.contracts.«record» as zero-record
 use Rattle.table_zero.proofs.«record».Symbol as zero-record-def
 use Rattle.table_zero.proofs.«record».Symbol.{name as #table_zero·record}
@@ -76,8 +76,8 @@ module _ {M : Type 1} {𝓤 : Ura M} (𝓛 : Logic 𝓤) (at_mem : Memory → SP
   abbrev C-zero-record : Contract 𝓤
   C-zero-record = triple_of 𝓛 zero-record.signature (zero-record.spec 𝓛 at_mem run)
 
-  said-zero-record : (r : Record) → ent 𝓤 (ensured 𝓛 zero-record.ended (zero-record.clauses 𝓛 at_mem run) tt tt tt r) (fact 𝓤 (r ≡ zeroRecord))
-  said-zero-record r = ex_e 𝓤 _ (λ ws. snd∗ 𝓤 (sem 𝓛 (lasts zero-record.ended tt tt ws)) (fact 𝓤 (r ≡ zeroRecord)))
+  said-zero-record : (r : Record) → ent 𝓤 (ensured 𝓛 zero-record.ended (zero-record.clauses 𝓛 at_mem run) tt tt tt r) (fact 𝓤 (r ≡ zero_record))
+  said-zero-record r = ex_e 𝓤 _ (λ ws. snd∗ 𝓤 (sem 𝓛 (lasts zero-record.ended tt tt ws)) (fact 𝓤 (r ≡ zero_record)))
 
 module _ {M : Type 1} {𝓤 : Ura M} (𝓛 : Logic 𝓤) (at_mem : Memory → SProp 𝓤) (run : Routine → Fun 𝓤) where
   abbrev to-zero-record : (C-zero-record 𝓛 at_mem run).Ghost
@@ -102,7 +102,7 @@ module _ {M : Type 1} {𝓤 : Ura M} (𝓛 : Logic 𝓤) (at_mem : Memory → SP
   Post = (walk_of 𝓛 me.ended stayed (me.clauses 𝓛 at_mem run)).post (((κ, tt), (q, tt), tt, x, vs), tt)
 
   module _ (g2 : Is usize x2 ((vint w64 x2) ∷ [])) where
-    exits : (r : Record) (v : Val) → Is RecordR.the_row r (v ∷ []) → r ≡ get_or h.records x2 zeroRecord → ent 𝓤 (⋆ 𝓛 (‵ (flft κ q) ∷ ‵ ((ShrRef (named 0) κ TableR.the_row).own_val (rt γ h) (vptr b o ∷ [])) ∷ [])) (Post v)
+    exits : (r : Record) (v : Val) → Is RecordR.the_row r (v ∷ []) → r ≡ get_or h.records x2 zero_record → ent 𝓤 (⋆ 𝓛 (‵ (flft κ q) ∷ ‵ ((ShrRef (named 0) κ TableR.the_row).own_val (rt γ h) (vptr b o ∷ [])) ∷ [])) (Post v)
     exits r v g eq =
         qed 𝓛 (‵ (flft κ q) ∷ ‵ ((ShrRef (named 0) κ TableR.the_row).own_val (rt γ h) (vptr b o ∷ [])) ∷ []) ∵
         suffices ! _ (ends_at 𝓛 me.ended stayed (me.clauses 𝓛 at_mem run) (((κ, tt), (q, tt), tt, x, vs), tt) v r (tt, (tt, tt)) (tt, (tt, tt))) $ says ! eq $
@@ -135,21 +135,21 @@ module _ {M : Type 1} {𝓤 : Ura M} (𝓛 : Logic 𝓤) (at_mem : Memory → SP
           rewrite ! 4 (λ (p : ℕ). ‵ (fat full_share ty_ptr l7 0 (vptr b p))) (sym (at_mul (o + 2536) 352 x2)) refl $
           move ! (1 ∷ []) $ fsplit3 ! $ drop ! $ move ! (1 ∷ 2 ∷ []) $ shr_bor_dup ! $ move ! (0 ∷ 2 ∷ []) $
           shr_bor-open ! tt (part-halves 𝓛 TableR.the_row (Is TableR.the_row) (shows 𝓛 TableR.the_row) (LL.vals TableR.the_type TableL.the_laws) (LL.tells TableR.the_type TableL.the_laws) (LL.copy TableR.the_type TableL.the_copy 𝓛) h b o) (λ q'. move ! (1 ∷ []) $
-          use1 𝓛 (‵ (part_at RecordR.the_row q' (get_or h.records x2 zeroRecord) b (records-at o x2)) ⊛ raw (Back 𝓛 q' TableR.the_row RecordR.the_row (withRecords h (set h.records x2 (get_or h.records x2 zeroRecord))) (get_or h.records x2 zeroRecord) b o (records-at o x2))) (record-hole 𝓛 q' h x2 (get_or h.records x2 zeroRecord) b o (reaches x2 _ 128 held (leb→le _ _ tt))) $ split ! $
-          use1 𝓛 (some (λ (w : Val). ‵ (fat q' (raw_ty (lone (RecordR.the_row).mir)) b (records-at o x2) w) ⊛ ‵ ((RecordR.the_row).own_val (get_or h.records x2 zeroRecord) (w ∷ [])))) (part_out_at 𝓛 RecordR.the_row refl q' (get_or h.records x2 zeroRecord) b (records-at o x2) (raw_ty (lone (RecordR.the_row).mir)) refl) $
+          use1 𝓛 (‵ (part_at RecordR.the_row q' (get_or h.records x2 zero_record) b (records-at o x2)) ⊛ raw (Back 𝓛 q' TableR.the_row RecordR.the_row (with_records h (set h.records x2 (get_or h.records x2 zero_record))) (get_or h.records x2 zero_record) b o (records-at o x2))) (record_hole 𝓛 q' h x2 (get_or h.records x2 zero_record) b o (reaches x2 _ 128 held (leb→le _ _ tt))) $ split ! $
+          use1 𝓛 (some (λ (w : Val). ‵ (fat q' (raw_ty (lone (RecordR.the_row).mir)) b (records-at o x2) w) ⊛ ‵ ((RecordR.the_row).own_val (get_or h.records x2 zero_record) (w ∷ [])))) (part_out_at 𝓛 RecordR.the_row refl q' (get_or h.records x2 zero_record) b (records-at o x2) (raw_ty (lone (RecordR.the_row).mir)) refl) $
           pick ! (λ w. split ! $ move ! (1 ∷ []) $
-          peeks ! RecordR.the_row (Is RecordR.the_row) (shows 𝓛 RecordR.the_row) (get_or h.records x2 zeroRecord) (w ∷ []) (λ gw. move ! (1 ∷ 0 ∷ []) $
+          peeks ! RecordR.the_row (Is RecordR.the_row) (shows 𝓛 RecordR.the_row) (get_or h.records x2 zero_record) (w ∷ []) (λ gw. move ! (1 ∷ 0 ∷ []) $
           -- [the part; what it owns; the way back; the open borrow; the shared borrow; what it is; the locals]
-          assigns ! (of_opd ! (load ! (from ! (hop ! (look ! 8 refl) (stop !))) (look_raw ! 0 refl))) (from ! (stop !)) (init ! 6 {τ = RecordL.mir} {v = w} refl ((LL.lawful RecordR.the_type RecordL.the_laws 𝓛).typed (get_or h.records x2 zeroRecord) _ gw).0) $
-          use2 𝓛 (‵ (part_at RecordR.the_row q' (get_or h.records x2 zeroRecord) b (records-at o x2))) (part_in_at 𝓛 RecordR.the_row refl q' (get_or h.records x2 zeroRecord) b (records-at o x2) (raw_ty (lone (RecordR.the_row).mir)) refl w) $
-          use2 𝓛 (‵ (part_at TableR.the_row q' (withRecords h (set h.records x2 (get_or h.records x2 zeroRecord))) b o)) (apply∗ 𝓤 (sem 𝓛 (part_at RecordR.the_row q' (get_or h.records x2 zeroRecord) b (records-at o x2))) (sem 𝓛 (part_at TableR.the_row q' (withRecords h (set h.records x2 (get_or h.records x2 zeroRecord))) b o))) $
+          assigns ! (of_opd ! (load ! (from ! (hop ! (look ! 8 refl) (stop !))) (look_raw ! 0 refl))) (from ! (stop !)) (init ! 6 {τ = RecordL.mir} {v = w} refl ((LL.lawful RecordR.the_type RecordL.the_laws 𝓛).typed (get_or h.records x2 zero_record) _ gw).0) $
+          use2 𝓛 (‵ (part_at RecordR.the_row q' (get_or h.records x2 zero_record) b (records-at o x2))) (part_in_at 𝓛 RecordR.the_row refl q' (get_or h.records x2 zero_record) b (records-at o x2) (raw_ty (lone (RecordR.the_row).mir)) refl w) $
+          use2 𝓛 (‵ (part_at TableR.the_row q' (with_records h (set h.records x2 (get_or h.records x2 zero_record))) b o)) (apply∗ 𝓤 (sem 𝓛 (part_at RecordR.the_row q' (get_or h.records x2 zero_record) b (records-at o x2))) (sem 𝓛 (part_at TableR.the_row q' (with_records h (set h.records x2 (get_or h.records x2 zero_record))) b o))) $
           rewrite ! 0 (λ (z : Table). ‵ (part_at TableR.the_row q' z b o)) (record_same h x2) refl $
           move ! (1 ∷ []) $ obor_close ! tt $ drop ! $ feq_i ! (List Val) (vptr b o ∷ []) (vptr b o ∷ []) refl $ move ! (0 ∷ 3 ∷ 2 ∷ []) $ fjoin3 ! $ move ! (1 ∷ 0 ∷ []) $
-          assigns ! (of_opd ! (load ! (from ! (stop !)) (look ! 2 {q = full_share} {τ = RecordL.mir} {b = l8} {o = 0} {v = w} refl))) (from ! (stop !)) (init ! 18 {τ = RecordL.mir} {v = w} refl ((LL.lawful RecordR.the_type RecordL.the_laws 𝓛).typed (get_or h.records x2 zeroRecord) _ gw).0) $
+          assigns ! (of_opd ! (load ! (from ! (stop !)) (look ! 2 {q = full_share} {τ = RecordL.mir} {b = l8} {o = 0} {v = w} refl))) (from ! (stop !)) (init ! 18 {τ = RecordL.mir} {v = w} refl ((LL.lawful RecordR.the_type RecordL.the_laws 𝓛).typed (get_or h.records x2 zero_record) _ gw).0) $
           returns_within ! Post refl (look ! 18 {q = full_share} {τ = RecordL.mir} {b = l0} {o = 0} {v = w} refl) $
           forget ! 2 refl $ forget ! 4 refl $ forget ! 6 refl $ forget ! 8 refl $ forget ! 10 refl $ forget ! 12 refl $ forget ! 14 refl $ forget ! 16 refl $ forget ! 18 refl $
           move ! (18 ∷ 19 ∷ []) $ free1 ! $ move ! (16 ∷ 17 ∷ []) $ free1 ! $ move ! (14 ∷ 15 ∷ []) $ free1 ! $ move ! (12 ∷ 13 ∷ []) $ free1 ! $ move ! (10 ∷ 11 ∷ []) $ free1 ! $ move ! (8 ∷ 9 ∷ []) $ free1 ! $ move ! (6 ∷ 7 ∷ []) $ free1 ! $ move ! (4 ∷ 5 ∷ []) $ free1 ! $ move ! (2 ∷ 3 ∷ []) $ free1 ! $ free0 ! $
-          by ! (exits (get_or h.records x2 zeroRecord) w gw refl)))))
+          by ! (exits (get_or h.records x2 zero_record) w gw refl)))))
           (λ failed.
           skips ! $
           exec ! C Λ (En l0 l1 l2 l3 l4 l5 l6 l7 l8) (after 3 (code.function).body) (at_ret (En l0 l1 l2 l3 l4 l5 l6 l7 l8) Post) $
@@ -161,12 +161,12 @@ module _ {M : Type 1} {𝓤 : Ura M} (𝓛 : Logic 𝓤) (at_mem : Memory → SP
           nothing ! $ use1 𝓛 (raw ((C-zero-record 𝓛 at_mem run).pre (to-zero-record 𝓛 at_mem run))) (goes-zero-record 𝓛 at_mem run) $
           calls_at ! fm (C-zero-record 𝓛 at_mem run) known-zero-record (to-zero-record 𝓛 at_mem run) (no_more !) (λ w1.
           use1 𝓛 (later (some (λ (r : Record). (‵ ftrue ⊛ ‵ ((RecordR.the_row).own_val r (w1 ∷ []))) ⊛ raw (ensured 𝓛 zero-record.ended (zero-record.clauses 𝓛 at_mem run) tt tt tt r)))) (id⊢ 𝓤 _) $ await ! tt $ pick ! (λ r1. split ! $ move ! (1 ∷ []) $
-          use1 𝓛 (raw (fact 𝓤 (r1 ≡ zeroRecord))) (said-zero-record 𝓛 at_mem run r1) $ heard ! (r1 ≡ zeroRecord) (λ e1. split ! $ drop ! $ facts ! RecordR.the_row (Is RecordR.the_row) (shows 𝓛 RecordR.the_row) r1 (w1 ∷ []) (λ is1.
+          use1 𝓛 (raw (fact 𝓤 (r1 ≡ zero_record))) (said-zero-record 𝓛 at_mem run r1) $ heard ! (r1 ≡ zero_record) (λ e1. split ! $ drop ! $ facts ! RecordR.the_row (Is RecordR.the_row) (shows 𝓛 RecordR.the_row) r1 (w1 ∷ []) (λ is1.
           land ! (from ! (stop !)) (init ! 18 {τ = RecordL.mir} {v = w1} refl ((LL.lawful RecordR.the_type RecordL.the_laws 𝓛).typed r1 _ is1).0) $
           returns ! (look ! 18 {q = full_share} {τ = RecordL.mir} {b = l0} {o = 0} {v = w1} refl) $
           forget ! 10 refl $ forget ! 12 refl $ forget ! 14 refl $ forget ! 16 refl $ forget ! 18 refl $
           move ! (18 ∷ 19 ∷ []) $ free1 ! $ move ! (16 ∷ 17 ∷ []) $ free1 ! $ move ! (14 ∷ 15 ∷ []) $ free1 ! $ move ! (12 ∷ 13 ∷ []) $ free1 ! $ move ! (10 ∷ 11 ∷ []) $ free1 ! $ move ! (8 ∷ 9 ∷ []) $ free1 ! $ move ! (6 ∷ 7 ∷ []) $ free1 ! $ move ! (4 ∷ 5 ∷ []) $ free1 ! $ move ! (2 ∷ 3 ∷ []) $ free1 ! $ free0 ! $
-          by ! (exits r1 w1 is1 (e1 ∙ record-beyond h x2 len (passes x2 _ 128 failed (leb→le _ _ tt))))))))))))))))))))
+          by ! (exits r1 w1 is1 (e1 ∙ record_beyond h x2 len (passes x2 _ 128 failed (leb→le _ _ tt))))))))))))))))))))
 
 module _ {M : Type 1} {𝓤 : Ura M} (𝓛 : Logic 𝓤) (at_mem : Memory → SProp 𝓤) (run : Routine → Fun 𝓤) where
   open 𝓛 use {H}

@@ -9,7 +9,7 @@ use Rattle.table_sets.proofs.among.Statement.{statement}
 use Rattle.table_sets.proofs.among.Tie as tie
 
 len : (c : tie.Start) → length c.args.t2.chunks ≡ 8
-len c = simp length-map at c.well-formed.1.0.1.1.0.1.0.1
+len c = simp length-map at c.well_formed_lem.1.0.1.1.0.1.0.1
 
 returns : tie.Need-returns
 returns c = search rules

@@ -5,7 +5,7 @@ use mathlib.Core.Logic.{⊎_elim}
 use native.Mathlib.Omega.{arith}
 use lib.ListN.{length, drop}
 use borrow.Author.Rules.{rules}
-use Rattle.rules.specs.Network.{chunks_of, howMany}
+use Rattle.rules.specs.Network.{chunks_of, how_many}
 use Rattle.rules.specs.Words.{those, numbers}
 use Rattle.rules.specs.Zero.{◌among◌}
 use Rattle.rules.proofs.Loops.{numbers_more, numbers-end, count-here, count-other, count-end}
@@ -31,7 +31,7 @@ loop-again c =
     c.if1.branch
 
 returns : tie.Need-returns invariant-loop decreases-loop
-unfolding howMany
+unfolding how_many
 returns c =
     let l = c.before in
     omega (arith, count-end (λ x. x among l.before.args.t1) _ (numbers-end 8 l.loop.i (omega arith)))

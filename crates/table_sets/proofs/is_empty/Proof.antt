@@ -6,7 +6,7 @@ use native.Mathlib.Omega.{arith}
 use borrow.Author.Rules.{rules}
 use Rattle.rules.specs.Words.{some, numbers}
 use Rattle.rules.specs.Zero.{◌among◌}
-use Rattle.rules.proofs.Loops.{some-begin, some_next, some-stop}
+use Rattle.rules.proofs.Loops.{some_begin, some_next, some_stop}
 use Rattle.table_sets.proofs.is_empty.Statement.{statement}
 use Rattle.table_sets.proofs.is_empty.Tie as tie
 
@@ -17,12 +17,12 @@ abbrev decreases-loop : tie.decreases-loop
 decreases-loop s i₀ i = 8 - i
 
 loop-holds : tie.Need-loop-init invariant-loop decreases-loop
-loop-holds c = (search rules, some-begin _)
+loop-holds c = (search rules, some_begin _)
 
 returns : tie.Need-returns invariant-loop decreases-loop
 returns c =
     let l = c.before.before.before in
-    rw (some-stop (λ x. x among l.before.args.t1) 8 l.loop.i (omega arith) c.if1.true) refl
+    rw (some_stop (λ x. x among l.before.args.t1) 8 l.loop.i (omega arith) c.if1.true) refl
 
 loop-again : tie.Need-loop-preserved invariant-loop decreases-loop
 loop-again c =

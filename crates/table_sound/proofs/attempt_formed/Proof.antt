@@ -6,7 +6,7 @@ use Rattle.table_sound.proofs.attempt_formed.Statement.{statement}
 use Rattle.table_sound.proofs.attempt_formed.Tie as tie
 
 returns : tie.Need-returns
-returns c = rw (lt-ltb _ _ c.before.before.before.if1.true, c.of-store.ensures) refl
+returns c = rw (lt-ltb _ _ c.before.before.before.if1.true, c.of_store_lem.ensures) refl
 
 returns-2 : tie.Need-returns-2
 returns-2 c = rw (le-ltb _ _ c.before.if1.false) c.is-zero-attempt.ensures

@@ -3,21 +3,21 @@ use Prim.Native.Nat.{◌-◌, ◌≤◌}
 use mathlib.Core.Path.{◌≡◌, refl, sym}
 use native.Mathlib.Omega.{arith}
 use borrow.Author.Rules.{rules}
-use Rattle.table_sound.specs.Parts.{ofBlocks}
+use Rattle.table_sound.specs.Parts.{of_blocks}
 use Rattle.rules.specs.Words.{every, numbers}
-use Rattle.rules.proofs.Loops.{every-begin}
+use Rattle.rules.proofs.Loops.{every_begin}
 use Rattle.table_sound.proofs.Laws.{every_more}
 use Rattle.table_sound.proofs.blocks_of_store.Statement.{statement}
 use Rattle.table_sound.proofs.blocks_of_store.Tie as tie
 
 abbrev invariant-loop : tie.invariant-loop
-invariant-loop blocks c ok₀ i₀ ok i = (i ≤ 16) × (ok ≡ every (ofBlocks blocks c) (numbers i))
+invariant-loop blocks c ok₀ i₀ ok i = (i ≤ 16) × (ok ≡ every (of_blocks blocks c) (numbers i))
 
 abbrev decreases-loop : tie.decreases-loop
 decreases-loop blocks c ok₀ i₀ ok i = 16 - i
 
 loop-holds : tie.Need-loop-init invariant-loop decreases-loop
-loop-holds c = (search rules, sym (every-begin _))
+loop-holds c = (search rules, sym (every_begin _))
 
 loop-again : tie.Need-loop-preserved invariant-loop decreases-loop
 loop-again c = (omega arith, every_more _ _ _ _ c.before.before.loop.invariant.1 (refl))

@@ -53,12 +53,12 @@ use Rattle.rules.specs.contracts.Table as TableR
 use Rattle.table_sound.specs.declared.Counts.{Counts}
 use Rattle.table_sound.specs.contracts.Counts as CountsR
 use Rattle.table_sound.proofs.Counts.TheLaws as CountsL
-use Rattle.rules.specs.Zero.{zeroChunk}
-use Rattle.rules.specs.Formed.{chunkAt, chunksFormed}
+use Rattle.rules.specs.Zero.{zero_chunk}
+use Rattle.rules.specs.Formed.{chunk_at, chunks_formed}
 use Rattle.rules.specs.Words.{every, numbers}
-use Rattle.rules.proofs.Loops.{every-begin}
-use Rattle.table_sound.specs.Parts.{counted, chunkInPlace}
-use Rattle.table_sound.proofs.Laws.{every_more, every-end, chunk-is}
+use Rattle.rules.proofs.Loops.{every_begin}
+use Rattle.table_sound.specs.Parts.{counted, chunk_in_place}
+use Rattle.table_sound.proofs.Laws.{every_more, every-end, chunk_is}
 use Rattle.table_lent.proofs.Bodies.{ty_at, inside, after}
 use Rattle.table_lent.proofs.Hole.{reaches, passes}
 use Rattle.table_chunks.specs.contracts.chunk_in as chunk_in
@@ -91,14 +91,14 @@ module _ {M : Type 1} {𝓤 : Ura M} (𝓛 : Logic 𝓤) (at_mem : Memory → SP
   abbrev C-chunk-in : Contract 𝓤
   C-chunk-in = triple_of 𝓛 chunk_in.signature (chunk_in.spec 𝓛 at_mem run)
 
-  said-chunk-in : (κ : Lft) (t : Bor Table) (x0 : ℕ) (r : Chunk) → ent 𝓤 (ensured 𝓛 chunk_in.ended (chunk_in.clauses 𝓛 at_mem run) (κ, tt) (t, (x0, tt)) tt r) (fact 𝓤 (r ≡ get_or t.now.chunks x0 zeroChunk))
-  said-chunk-in κ t x0 r = ex_e 𝓤 _ (λ ws. snd∗ 𝓤 (sem 𝓛 (lasts chunk_in.ended (κ, tt) (t, (x0, tt)) ws)) (fact 𝓤 (r ≡ get_or t.now.chunks x0 zeroChunk)))
+  said-chunk-in : (κ : Lft) (t : Bor Table) (x0 : ℕ) (r : Chunk) → ent 𝓤 (ensured 𝓛 chunk_in.ended (chunk_in.clauses 𝓛 at_mem run) (κ, tt) (t, (x0, tt)) tt r) (fact 𝓤 (r ≡ get_or t.now.chunks x0 zero_chunk))
+  said-chunk-in κ t x0 r = ex_e 𝓤 _ (λ ws. snd∗ 𝓤 (sem 𝓛 (lasts chunk_in.ended (κ, tt) (t, (x0, tt)) ws)) (fact 𝓤 (r ≡ get_or t.now.chunks x0 zero_chunk)))
 
   abbrev C-chunk-next : Contract 𝓤
   C-chunk-next = triple_of 𝓛 chunk_next.signature (chunk_next.spec 𝓛 at_mem run)
 
-  said-chunk-next : (x0 : Bool) (x1 : Counts) (x2 : Epoch) (x3 : ℕ) (x4 : Chunk) (r : Bool) → ent 𝓤 (ensured 𝓛 chunk_next.ended (chunk_next.clauses 𝓛 at_mem run) tt (x0, (x1, (x2, (x3, (x4, tt))))) tt r) (fact 𝓤 (r ≡ x0 && chunkAt (counted x1) x2 x3 x4))
-  said-chunk-next x0 x1 x2 x3 x4 r = ex_e 𝓤 _ (λ ws. snd∗ 𝓤 (sem 𝓛 (lasts chunk_next.ended tt (x0, (x1, (x2, (x3, (x4, tt))))) ws)) (fact 𝓤 (r ≡ x0 && chunkAt (counted x1) x2 x3 x4)))
+  said-chunk-next : (x0 : Bool) (x1 : Counts) (x2 : Epoch) (x3 : ℕ) (x4 : Chunk) (r : Bool) → ent 𝓤 (ensured 𝓛 chunk_next.ended (chunk_next.clauses 𝓛 at_mem run) tt (x0, (x1, (x2, (x3, (x4, tt))))) tt r) (fact 𝓤 (r ≡ x0 && chunk_at (counted x1) x2 x3 x4))
+  said-chunk-next x0 x1 x2 x3 x4 r = ex_e 𝓤 _ (λ ws. snd∗ 𝓤 (sem 𝓛 (lasts chunk_next.ended tt (x0, (x1, (x2, (x3, (x4, tt))))) ws)) (fact 𝓤 (r ≡ x0 && chunk_at (counted x1) x2 x3 x4)))
 
 module _ {M : Type 1} {𝓤 : Ura M} (𝓛 : Logic 𝓤) (at_mem : Memory → SProp 𝓤) (run : Routine → Fun 𝓤) where
   open 𝓛 use {A}
@@ -132,7 +132,7 @@ module _ {M : Type 1} {𝓤 : Ura M} (𝓛 : Logic 𝓤) (at_mem : Memory → SP
   Post = (walk_of 𝓛 me.ended stayed (me.clauses 𝓛 at_mem run)).post (((κ, tt), (q, tt), tt, x, vs), tt)
 
   module _ (g2 : Is CountsR.the_row x2 (m2 ∷ [])) (g3 : Is EpochR.the_row x3 (m3 ∷ [])) where
-    exits : (r : Bool) (v : Val) → Is Boolean r (v ∷ []) → r ≡ chunksFormed (counted x2) x3 h.chunks → ent 𝓤 (⋆ 𝓛 (‵ (flft κ q) ∷ ‵ ((ShrRef (named 0) κ TableR.the_row).own_val (rt γ h) (vptr b o ∷ [])) ∷ [])) (Post v)
+    exits : (r : Bool) (v : Val) → Is Boolean r (v ∷ []) → r ≡ chunks_formed (counted x2) x3 h.chunks → ent 𝓤 (⋆ 𝓛 (‵ (flft κ q) ∷ ‵ ((ShrRef (named 0) κ TableR.the_row).own_val (rt γ h) (vptr b o ∷ [])) ∷ [])) (Post v)
     exits r v g eq =
         qed 𝓛 (‵ (flft κ q) ∷ ‵ ((ShrRef (named 0) κ TableR.the_row).own_val (rt γ h) (vptr b o ∷ [])) ∷ []) ∵
         suffices ! _ (ends_at 𝓛 me.ended stayed (me.clauses 𝓛 at_mem run) (((κ, tt), (q, tt), tt, x, vs), tt) v r (tt, (tt, (tt, tt))) (tt, (tt, (tt, tt)))) $ says ! eq $
@@ -165,7 +165,7 @@ module _ {M : Type 1} {𝓤 : Ura M} (𝓛 : Logic 𝓤) (at_mem : Memory → SP
             ∷ ‵ (froom (ty 7) l7 0) ∷ ‵ (fdies (ty 7) l7)
             ∷ ‵ (froom (ty 6) l6 0) ∷ ‵ (fdies (ty 6) l6)
             ∷ ‵ (fat full_share (ty 5) l5 0 (vint w64 i.0)) ∷ ‵ (fdies (ty 5) l5)
-            ∷ ‵ (fat full_share (ty 4) l4 0 (vbool (every (chunkInPlace x2 x3 h.chunks) (numbers i.0)))) ∷ ‵ (fdies (ty 4) l4)
+            ∷ ‵ (fat full_share (ty 4) l4 0 (vbool (every (chunk_in_place x2 x3 h.chunks) (numbers i.0)))) ∷ ‵ (fdies (ty 4) l4)
             ∷ ‵ (fat full_share (ty 3) l3 0 m3) ∷ ‵ (fdies (ty 3) l3)
             ∷ ‵ (fat full_share (ty 2) l2 0 m2) ∷ ‵ (fdies (ty 2) l2)
             ∷ ‵ (fat full_share (ty 1) l1 0 (vptr b o)) ∷ ‵ (fdies (ty 1) l1)
@@ -189,26 +189,26 @@ module _ {M : Type 1} {𝓤 : Ura M} (𝓛 : Logic 𝓤) (at_mem : Memory → SP
             use2 𝓛 (raw ((C-chunk-in 𝓛 at_mem run).pre (to-chunk-in 𝓛 at_mem run κ q (rt γ h) i.0 (vint w64 i.0)))) (goes-chunk-in 𝓛 at_mem run κ q (rt γ h) i.0 (vint w64 i.0) (refl, lt_of_le_of_lt i.1 (lit< tt))) $
             calls_at ! fm (C-chunk-in 𝓛 at_mem run) known-chunk-in (to-chunk-in 𝓛 at_mem run κ q (rt γ h) i.0 (vint w64 i.0)) (and_then ! (load ! (from ! (stop !)) (look ! 16 refl)) (and_then ! (load ! (from ! (stop !)) (look ! 8 {q = full_share} {τ = ty_int w64} {b = l5} {o = 0} {v = (vint w64 i.0)} refl)) (no_more !))) (λ w1.
             use1 𝓛 (later (some (λ (r : Chunk). ((‵ (flft κ q) ⊛ ‵ ftrue) ⊛ ‵ ((ChunkR.the_row).own_val r (w1 ∷ []))) ⊛ raw (ensured 𝓛 chunk_in.ended (chunk_in.clauses 𝓛 at_mem run) (κ, tt) ((rt γ h), (i.0, tt)) tt r)))) (id⊢ 𝓤 _) $ await ! tt $ pick ! (λ r1. split ! $ move ! (1 ∷ []) $
-            use1 𝓛 (raw (fact 𝓤 (r1 ≡ get_or h.chunks i.0 zeroChunk))) (said-chunk-in 𝓛 at_mem run κ (rt γ h) i.0 r1) $ heard ! (r1 ≡ get_or h.chunks i.0 zeroChunk) (λ e1. split ! $ move ! (1 ∷ []) $ facts ! ChunkR.the_row (Is ChunkR.the_row) (shows 𝓛 ChunkR.the_row) r1 (w1 ∷ []) (λ is1.
+            use1 𝓛 (raw (fact 𝓤 (r1 ≡ get_or h.chunks i.0 zero_chunk))) (said-chunk-in 𝓛 at_mem run κ (rt γ h) i.0 r1) $ heard ! (r1 ≡ get_or h.chunks i.0 zero_chunk) (λ e1. split ! $ move ! (1 ∷ []) $ facts ! ChunkR.the_row (Is ChunkR.the_row) (shows 𝓛 ChunkR.the_row) r1 (w1 ∷ []) (λ is1.
             land ! (from ! (stop !)) (init ! 2 {τ = ChunkL.mir} {v = w1} refl ((LL.lawful ChunkR.the_type ChunkL.the_laws 𝓛).typed r1 _ is1).0) $
             split ! $ move ! (1 ∷ []) $ drop ! $
             -- _4 = table_sound::chunk_next(_4, _2, _3, _5, _8)
-            nothing ! $ use1 𝓛 (raw ((C-chunk-next 𝓛 at_mem run).pre (to-chunk-next 𝓛 at_mem run (every (chunkInPlace x2 x3 h.chunks) (numbers i.0)) (vbool (every (chunkInPlace x2 x3 h.chunks) (numbers i.0))) x2 m2 x3 m3 i.0 (vint w64 i.0) r1 w1))) (goes-chunk-next 𝓛 at_mem run (every (chunkInPlace x2 x3 h.chunks) (numbers i.0)) (vbool (every (chunkInPlace x2 x3 h.chunks) (numbers i.0))) x2 m2 x3 m3 i.0 (vint w64 i.0) r1 w1 refl g2 g3 (refl, lt_of_le_of_lt i.1 (lit< tt)) is1) $
-            calls_at ! fm (C-chunk-next 𝓛 at_mem run) known-chunk-next (to-chunk-next 𝓛 at_mem run (every (chunkInPlace x2 x3 h.chunks) (numbers i.0)) (vbool (every (chunkInPlace x2 x3 h.chunks) (numbers i.0))) x2 m2 x3 m3 i.0 (vint w64 i.0) r1 w1) (and_then ! (load ! (from ! (stop !)) (look ! 11 {q = full_share} {τ = ty_bool} {b = l4} {o = 0} {v = (vbool (every (chunkInPlace x2 x3 h.chunks) (numbers i.0)))} refl)) (and_then ! (load ! (from ! (stop !)) (look ! 15 {q = full_share} {τ = CountsL.mir} {b = l2} {o = 0} {v = m2} refl)) (and_then ! (load ! (from ! (stop !)) (look ! 13 {q = full_share} {τ = EpochL.mir} {b = l3} {o = 0} {v = m3} refl)) (and_then ! (load ! (from ! (stop !)) (look ! 9 {q = full_share} {τ = ty_int w64} {b = l5} {o = 0} {v = (vint w64 i.0)} refl)) (and_then ! (load ! (from ! (stop !)) (look ! 3 {q = full_share} {τ = ChunkL.mir} {b = l8} {o = 0} {v = w1} refl)) (no_more !)))))) (λ w2.
-            use1 𝓛 (later (some (λ (r : Bool). (‵ ftrue ⊛ ‵ (Boolean.own r (w2 ∷ []))) ⊛ raw (ensured 𝓛 chunk_next.ended (chunk_next.clauses 𝓛 at_mem run) tt ((every (chunkInPlace x2 x3 h.chunks) (numbers i.0)), (x2, (x3, (i.0, (r1, tt))))) tt r)))) (id⊢ 𝓤 _) $ await ! tt $ pick ! (λ r2. split ! $ move ! (1 ∷ []) $
-            use1 𝓛 (raw (fact 𝓤 (r2 ≡ (every (chunkInPlace x2 x3 h.chunks) (numbers i.0)) && chunkAt (counted x2) x3 i.0 r1))) (said-chunk-next 𝓛 at_mem run (every (chunkInPlace x2 x3 h.chunks) (numbers i.0)) x2 x3 i.0 r1 r2) $ heard ! (r2 ≡ (every (chunkInPlace x2 x3 h.chunks) (numbers i.0)) && chunkAt (counted x2) x3 i.0 r1) (λ e2. split ! $ drop ! $ facts ! Boolean (Is Boolean) (shows 𝓛 Boolean) r2 (w2 ∷ []) (λ is2.
+            nothing ! $ use1 𝓛 (raw ((C-chunk-next 𝓛 at_mem run).pre (to-chunk-next 𝓛 at_mem run (every (chunk_in_place x2 x3 h.chunks) (numbers i.0)) (vbool (every (chunk_in_place x2 x3 h.chunks) (numbers i.0))) x2 m2 x3 m3 i.0 (vint w64 i.0) r1 w1))) (goes-chunk-next 𝓛 at_mem run (every (chunk_in_place x2 x3 h.chunks) (numbers i.0)) (vbool (every (chunk_in_place x2 x3 h.chunks) (numbers i.0))) x2 m2 x3 m3 i.0 (vint w64 i.0) r1 w1 refl g2 g3 (refl, lt_of_le_of_lt i.1 (lit< tt)) is1) $
+            calls_at ! fm (C-chunk-next 𝓛 at_mem run) known-chunk-next (to-chunk-next 𝓛 at_mem run (every (chunk_in_place x2 x3 h.chunks) (numbers i.0)) (vbool (every (chunk_in_place x2 x3 h.chunks) (numbers i.0))) x2 m2 x3 m3 i.0 (vint w64 i.0) r1 w1) (and_then ! (load ! (from ! (stop !)) (look ! 11 {q = full_share} {τ = ty_bool} {b = l4} {o = 0} {v = (vbool (every (chunk_in_place x2 x3 h.chunks) (numbers i.0)))} refl)) (and_then ! (load ! (from ! (stop !)) (look ! 15 {q = full_share} {τ = CountsL.mir} {b = l2} {o = 0} {v = m2} refl)) (and_then ! (load ! (from ! (stop !)) (look ! 13 {q = full_share} {τ = EpochL.mir} {b = l3} {o = 0} {v = m3} refl)) (and_then ! (load ! (from ! (stop !)) (look ! 9 {q = full_share} {τ = ty_int w64} {b = l5} {o = 0} {v = (vint w64 i.0)} refl)) (and_then ! (load ! (from ! (stop !)) (look ! 3 {q = full_share} {τ = ChunkL.mir} {b = l8} {o = 0} {v = w1} refl)) (no_more !)))))) (λ w2.
+            use1 𝓛 (later (some (λ (r : Bool). (‵ ftrue ⊛ ‵ (Boolean.own r (w2 ∷ []))) ⊛ raw (ensured 𝓛 chunk_next.ended (chunk_next.clauses 𝓛 at_mem run) tt ((every (chunk_in_place x2 x3 h.chunks) (numbers i.0)), (x2, (x3, (i.0, (r1, tt))))) tt r)))) (id⊢ 𝓤 _) $ await ! tt $ pick ! (λ r2. split ! $ move ! (1 ∷ []) $
+            use1 𝓛 (raw (fact 𝓤 (r2 ≡ (every (chunk_in_place x2 x3 h.chunks) (numbers i.0)) && chunk_at (counted x2) x3 i.0 r1))) (said-chunk-next 𝓛 at_mem run (every (chunk_in_place x2 x3 h.chunks) (numbers i.0)) x2 x3 i.0 r1 r2) $ heard ! (r2 ≡ (every (chunk_in_place x2 x3 h.chunks) (numbers i.0)) && chunk_at (counted x2) x3 i.0 r1) (λ e2. split ! $ drop ! $ facts ! Boolean (Is Boolean) (shows 𝓛 Boolean) r2 (w2 ∷ []) (λ is2.
             land ! (from ! (stop !)) (store ! 10 {τ = ty_bool} {v = w2} refl ((bool_Lawful 𝓛).typed r2 _ is2).0) $
             assigns_last ! (bin ! (load ! (from ! (stop !)) (look ! 8 {q = full_share} {τ = ty_int w64} {b = l5} {o = 0} {v = (vint w64 i.0)} refl)) (lit ! tt) (record { fits = lt_of_le_of_lt (add-one-le (reaches i.0 _ 8 held (leb→le _ _ tt))) (lit< tt) })) (from ! (stop !)) (store ! 8 refl (tt, record { fits = lt_of_le_of_lt (add-one-le (reaches i.0 _ 8 held (leb→le _ _ tt))) (lit< tt) })) $
-            rewrite ! 10 (λ (u : Val). ‵ (fat full_share ty_bool l4 0 u)) (ap only (bool_Tells r2 _ is2) ∙ ap vbool (e2 ∙ every_more (chunkInPlace x2 x3 h.chunks) i.0 _ _ refl (chunk-is x2 x3 h.chunks i.0 r1 e1))) refl $
+            rewrite ! 10 (λ (u : Val). ‵ (fat full_share ty_bool l4 0 u)) (ap only (bool_Tells r2 _ is2) ∙ ap vbool (e2 ∙ every_more (chunk_in_place x2 x3 h.chunks) i.0 _ _ refl (chunk_is x2 x3 h.chunks i.0 r1 e1))) refl $
             forget ! 2 refl $ forget ! 4 refl $ forget ! 6 refl $ again ! Nearer At i (i.0 + 1, add-one-le (reaches i.0 _ 8 held (leb→le _ _ tt))) (add-one-dec 8 i.0 (reaches i.0 _ 8 held (leb→le _ _ tt))))))))))))
             (λ failed.
             jumps ! $
             exec ! C Λ (En l0 l1 l2 l3 l4 l5 l6 l7 l8) (after 3 (code.function).body) (at_ret (En l0 l1 l2 l3 l4 l5 l6 l7 l8) Post) $
-            assigns ! (of_opd ! (load ! (from ! (stop !)) (look ! 10 {q = full_share} {τ = ty_bool} {b = l4} {o = 0} {v = (vbool (every (chunkInPlace x2 x3 h.chunks) (numbers i.0)))} refl))) (from ! (stop !)) (init ! 18 {τ = ty_bool} {v = (vbool (every (chunkInPlace x2 x3 h.chunks) (numbers i.0)))} refl ((bool_Lawful 𝓛).typed (every (chunkInPlace x2 x3 h.chunks) (numbers i.0)) _ refl).0) $
-            returns ! (look ! 18 {q = full_share} {τ = ty_bool} {b = l0} {o = 0} {v = (vbool (every (chunkInPlace x2 x3 h.chunks) (numbers i.0)))} refl) $
+            assigns ! (of_opd ! (load ! (from ! (stop !)) (look ! 10 {q = full_share} {τ = ty_bool} {b = l4} {o = 0} {v = (vbool (every (chunk_in_place x2 x3 h.chunks) (numbers i.0)))} refl))) (from ! (stop !)) (init ! 18 {τ = ty_bool} {v = (vbool (every (chunk_in_place x2 x3 h.chunks) (numbers i.0)))} refl ((bool_Lawful 𝓛).typed (every (chunk_in_place x2 x3 h.chunks) (numbers i.0)) _ refl).0) $
+            returns ! (look ! 18 {q = full_share} {τ = ty_bool} {b = l0} {o = 0} {v = (vbool (every (chunk_in_place x2 x3 h.chunks) (numbers i.0)))} refl) $
             forget ! 4 refl $ forget ! 6 refl $ forget ! 8 refl $ forget ! 10 refl $ forget ! 12 refl $ forget ! 14 refl $ forget ! 16 refl $ forget ! 18 refl $
             move ! (18 ∷ 19 ∷ []) $ free1 ! $ move ! (16 ∷ 17 ∷ []) $ free1 ! $ move ! (14 ∷ 15 ∷ []) $ free1 ! $ move ! (12 ∷ 13 ∷ []) $ free1 ! $ move ! (10 ∷ 11 ∷ []) $ free1 ! $ move ! (8 ∷ 9 ∷ []) $ free1 ! $ move ! (6 ∷ 7 ∷ []) $ free1 ! $ move ! (4 ∷ 5 ∷ []) $ free1 ! $ move ! (2 ∷ 3 ∷ []) $ free1 ! $ free0 ! $
-            by ! (exits (every (chunkInPlace x2 x3 h.chunks) (numbers i.0)) (vbool (every (chunkInPlace x2 x3 h.chunks) (numbers i.0))) refl (every-end (chunkInPlace x2 x3 h.chunks) i.0 8 i.1 (passes i.0 _ 8 failed (leb→le _ _ tt)))))
+            by ! (exits (every (chunk_in_place x2 x3 h.chunks) (numbers i.0)) (vbool (every (chunk_in_place x2 x3 h.chunks) (numbers i.0))) refl (every-end (chunk_in_place x2 x3 h.chunks) i.0 8 i.1 (passes i.0 _ 8 failed (leb→le _ _ tt)))))
 
       walk : ent 𝓤 (on_entry 𝓛 me.signature (κ, tt) (q, tt) x vs) (WpFn 𝓤 H C Λ code.function (vptr b o ∷ m2 ∷ m3 ∷ []) Post)
       walk =
@@ -219,7 +219,7 @@ module _ {M : Type 1} {𝓤 : Ura M} (𝓛 : Logic 𝓤) (at_mem : Memory → SP
           -- [the token; t; the locals]
           assigns ! (of_opd ! (true_lit !)) (from ! (stop !)) (init ! 10 refl (tt, tt)) $
           assigns ! (of_opd ! (lit ! tt)) (from ! (stop !)) (init ! 8 refl (tt, record { fits = lit< tt })) $
-          rewrite ! 10 (λ (u : Bool). ‵ (fat full_share ty_bool l4 0 (vbool u))) (sym (every-begin (chunkInPlace x2 x3 h.chunks))) refl $
+          rewrite ! 10 (λ (u : Bool). ‵ (fat full_share ty_bool l4 0 (vbool u))) (sym (every_begin (chunk_in_place x2 x3 h.chunks))) refl $
           first ! $ blocks ! $ loops ! 𝓣 Nearer Nearer-wf (At l0 l1 l2 l3 l4 l5 l6 l7 l8) (turns l0 l1 l2 l3 l4 l5 l6 l7 l8) (0, zero-le))))))))))
 
 module _ {M : Type 1} {𝓤 : Ura M} (𝓛 : Logic 𝓤) (at_mem : Memory → SProp 𝓤) (run : Routine → Fun 𝓤) where

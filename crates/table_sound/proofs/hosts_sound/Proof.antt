@@ -50,12 +50,12 @@ use Rattle.rules.specs.contracts.Table as TableR
 use Rattle.table_sound.specs.declared.Counts.{Counts}
 use Rattle.table_sound.specs.contracts.Counts as CountsR
 use Rattle.table_sound.proofs.Counts.TheLaws as CountsL
-use Rattle.rules.specs.Zero.{zeroHost}
-use Rattle.rules.specs.Formed.{hostAt, hostsFormed}
+use Rattle.rules.specs.Zero.{zero_host}
+use Rattle.rules.specs.Formed.{host_at, hosts_formed}
 use Rattle.rules.specs.Words.{every, numbers}
-use Rattle.rules.proofs.Loops.{every-begin}
-use Rattle.table_sound.specs.Parts.{counted, hostInPlace}
-use Rattle.table_sound.proofs.Laws.{every_more, every-end, host-is}
+use Rattle.rules.proofs.Loops.{every_begin}
+use Rattle.table_sound.specs.Parts.{counted, host_in_place}
+use Rattle.table_sound.proofs.Laws.{every_more, every-end, host_is}
 use Rattle.table_lent.proofs.Bodies.{ty_at, inside, after}
 use Rattle.table_lent.proofs.Hole.{reaches, passes}
 use Rattle.table_hosts.specs.contracts.host_in as host-in
@@ -88,14 +88,14 @@ module _ {M : Type 1} {𝓤 : Ura M} (𝓛 : Logic 𝓤) (at_mem : Memory → SP
   abbrev C-host-in : Contract 𝓤
   C-host-in = triple_of 𝓛 host-in.signature (host-in.spec 𝓛 at_mem run)
 
-  said-host-in : (κ : Lft) (t : Bor Table) (x0 : ℕ) (r : Host) → ent 𝓤 (ensured 𝓛 host-in.ended (host-in.clauses 𝓛 at_mem run) (κ, tt) (t, (x0, tt)) tt r) (fact 𝓤 (r ≡ get_or t.now.hosts x0 zeroHost))
-  said-host-in κ t x0 r = ex_e 𝓤 _ (λ ws. snd∗ 𝓤 (sem 𝓛 (lasts host-in.ended (κ, tt) (t, (x0, tt)) ws)) (fact 𝓤 (r ≡ get_or t.now.hosts x0 zeroHost)))
+  said-host-in : (κ : Lft) (t : Bor Table) (x0 : ℕ) (r : Host) → ent 𝓤 (ensured 𝓛 host-in.ended (host-in.clauses 𝓛 at_mem run) (κ, tt) (t, (x0, tt)) tt r) (fact 𝓤 (r ≡ get_or t.now.hosts x0 zero_host))
+  said-host-in κ t x0 r = ex_e 𝓤 _ (λ ws. snd∗ 𝓤 (sem 𝓛 (lasts host-in.ended (κ, tt) (t, (x0, tt)) ws)) (fact 𝓤 (r ≡ get_or t.now.hosts x0 zero_host)))
 
   abbrev C-host-next : Contract 𝓤
   C-host-next = triple_of 𝓛 host-next.signature (host-next.spec 𝓛 at_mem run)
 
-  said-host-next : (x0 : Bool) (x1 : Counts) (x2 : ℕ) (x3 : Host) (r : Bool) → ent 𝓤 (ensured 𝓛 host-next.ended (host-next.clauses 𝓛 at_mem run) tt (x0, (x1, (x2, (x3, tt)))) tt r) (fact 𝓤 (r ≡ x0 && hostAt (counted x1) x2 x3))
-  said-host-next x0 x1 x2 x3 r = ex_e 𝓤 _ (λ ws. snd∗ 𝓤 (sem 𝓛 (lasts host-next.ended tt (x0, (x1, (x2, (x3, tt)))) ws)) (fact 𝓤 (r ≡ x0 && hostAt (counted x1) x2 x3)))
+  said-host-next : (x0 : Bool) (x1 : Counts) (x2 : ℕ) (x3 : Host) (r : Bool) → ent 𝓤 (ensured 𝓛 host-next.ended (host-next.clauses 𝓛 at_mem run) tt (x0, (x1, (x2, (x3, tt)))) tt r) (fact 𝓤 (r ≡ x0 && host_at (counted x1) x2 x3))
+  said-host-next x0 x1 x2 x3 r = ex_e 𝓤 _ (λ ws. snd∗ 𝓤 (sem 𝓛 (lasts host-next.ended tt (x0, (x1, (x2, (x3, tt)))) ws)) (fact 𝓤 (r ≡ x0 && host_at (counted x1) x2 x3)))
 
 module _ {M : Type 1} {𝓤 : Ura M} (𝓛 : Logic 𝓤) (at_mem : Memory → SProp 𝓤) (run : Routine → Fun 𝓤) where
   open 𝓛 use {A}
@@ -129,7 +129,7 @@ module _ {M : Type 1} {𝓤 : Ura M} (𝓛 : Logic 𝓤) (at_mem : Memory → SP
   Post = (walk_of 𝓛 me.ended stayed (me.clauses 𝓛 at_mem run)).post (((κ, tt), (q, tt), tt, x, vs), tt)
 
   module _ (g2 : Is CountsR.the_row x2 (m2 ∷ [])) where
-    exits : (r : Bool) (v : Val) → Is Boolean r (v ∷ []) → r ≡ hostsFormed (counted x2) h.hosts → ent 𝓤 (⋆ 𝓛 (‵ (flft κ q) ∷ ‵ ((ShrRef (named 0) κ TableR.the_row).own_val (rt γ h) (vptr b o ∷ [])) ∷ [])) (Post v)
+    exits : (r : Bool) (v : Val) → Is Boolean r (v ∷ []) → r ≡ hosts_formed (counted x2) h.hosts → ent 𝓤 (⋆ 𝓛 (‵ (flft κ q) ∷ ‵ ((ShrRef (named 0) κ TableR.the_row).own_val (rt γ h) (vptr b o ∷ [])) ∷ [])) (Post v)
     exits r v g eq =
         qed 𝓛 (‵ (flft κ q) ∷ ‵ ((ShrRef (named 0) κ TableR.the_row).own_val (rt γ h) (vptr b o ∷ [])) ∷ []) ∵
         suffices ! _ (ends_at 𝓛 me.ended stayed (me.clauses 𝓛 at_mem run) (((κ, tt), (q, tt), tt, x, vs), tt) v r (tt, (tt, tt)) (tt, (tt, tt))) $ says ! eq $
@@ -162,7 +162,7 @@ module _ {M : Type 1} {𝓤 : Ura M} (𝓛 : Logic 𝓤) (at_mem : Memory → SP
             ∷ ‵ (froom (ty 6) l6 0) ∷ ‵ (fdies (ty 6) l6)
             ∷ ‵ (froom (ty 5) l5 0) ∷ ‵ (fdies (ty 5) l5)
             ∷ ‵ (fat full_share (ty 4) l4 0 (vint w64 i.0)) ∷ ‵ (fdies (ty 4) l4)
-            ∷ ‵ (fat full_share (ty 3) l3 0 (vbool (every (hostInPlace x2 h.hosts) (numbers i.0)))) ∷ ‵ (fdies (ty 3) l3)
+            ∷ ‵ (fat full_share (ty 3) l3 0 (vbool (every (host_in_place x2 h.hosts) (numbers i.0)))) ∷ ‵ (fdies (ty 3) l3)
             ∷ ‵ (fat full_share (ty 2) l2 0 m2) ∷ ‵ (fdies (ty 2) l2)
             ∷ ‵ (fat full_share (ty 1) l1 0 (vptr b o)) ∷ ‵ (fdies (ty 1) l1)
             ∷ ‵ (froom (ty 0) l0 0) ∷ ‵ (fdies (ty 0) l0)
@@ -185,26 +185,26 @@ module _ {M : Type 1} {𝓤 : Ura M} (𝓛 : Logic 𝓤) (at_mem : Memory → SP
             use2 𝓛 (raw ((C-host-in 𝓛 at_mem run).pre (to-host-in 𝓛 at_mem run κ q (rt γ h) i.0 (vint w64 i.0)))) (goes-host-in 𝓛 at_mem run κ q (rt γ h) i.0 (vint w64 i.0) (refl, lt_of_le_of_lt i.1 (lit< tt))) $
             calls_at ! fm (C-host-in 𝓛 at_mem run) known-host-in (to-host-in 𝓛 at_mem run κ q (rt γ h) i.0 (vint w64 i.0)) (and_then ! (load ! (from ! (stop !)) (look ! 14 refl)) (and_then ! (load ! (from ! (stop !)) (look ! 8 {q = full_share} {τ = ty_int w64} {b = l4} {o = 0} {v = (vint w64 i.0)} refl)) (no_more !))) (λ w1.
             use1 𝓛 (later (some (λ (r : Host). ((‵ (flft κ q) ⊛ ‵ ftrue) ⊛ ‵ ((HostR.the_row).own_val r (w1 ∷ []))) ⊛ raw (ensured 𝓛 host-in.ended (host-in.clauses 𝓛 at_mem run) (κ, tt) ((rt γ h), (i.0, tt)) tt r)))) (id⊢ 𝓤 _) $ await ! tt $ pick ! (λ r1. split ! $ move ! (1 ∷ []) $
-            use1 𝓛 (raw (fact 𝓤 (r1 ≡ get_or h.hosts i.0 zeroHost))) (said-host-in 𝓛 at_mem run κ (rt γ h) i.0 r1) $ heard ! (r1 ≡ get_or h.hosts i.0 zeroHost) (λ e1. split ! $ move ! (1 ∷ []) $ facts ! HostR.the_row (Is HostR.the_row) (shows 𝓛 HostR.the_row) r1 (w1 ∷ []) (λ is1.
+            use1 𝓛 (raw (fact 𝓤 (r1 ≡ get_or h.hosts i.0 zero_host))) (said-host-in 𝓛 at_mem run κ (rt γ h) i.0 r1) $ heard ! (r1 ≡ get_or h.hosts i.0 zero_host) (λ e1. split ! $ move ! (1 ∷ []) $ facts ! HostR.the_row (Is HostR.the_row) (shows 𝓛 HostR.the_row) r1 (w1 ∷ []) (λ is1.
             land ! (from ! (stop !)) (init ! 2 {τ = HostL.mir} {v = w1} refl ((LL.lawful HostR.the_type HostL.the_laws 𝓛).typed r1 _ is1).0) $
             split ! $ move ! (1 ∷ []) $ drop ! $
             -- _3 = table_sound::host_next(_3, _2, _4, _7)
-            nothing ! $ use1 𝓛 (raw ((C-host-next 𝓛 at_mem run).pre (to-host-next 𝓛 at_mem run (every (hostInPlace x2 h.hosts) (numbers i.0)) (vbool (every (hostInPlace x2 h.hosts) (numbers i.0))) x2 m2 i.0 (vint w64 i.0) r1 w1))) (goes-host-next 𝓛 at_mem run (every (hostInPlace x2 h.hosts) (numbers i.0)) (vbool (every (hostInPlace x2 h.hosts) (numbers i.0))) x2 m2 i.0 (vint w64 i.0) r1 w1 refl g2 (refl, lt_of_le_of_lt i.1 (lit< tt)) is1) $
-            calls_at ! fm (C-host-next 𝓛 at_mem run) known-host-next (to-host-next 𝓛 at_mem run (every (hostInPlace x2 h.hosts) (numbers i.0)) (vbool (every (hostInPlace x2 h.hosts) (numbers i.0))) x2 m2 i.0 (vint w64 i.0) r1 w1) (and_then ! (load ! (from ! (stop !)) (look ! 11 {q = full_share} {τ = ty_bool} {b = l3} {o = 0} {v = (vbool (every (hostInPlace x2 h.hosts) (numbers i.0)))} refl)) (and_then ! (load ! (from ! (stop !)) (look ! 13 {q = full_share} {τ = CountsL.mir} {b = l2} {o = 0} {v = m2} refl)) (and_then ! (load ! (from ! (stop !)) (look ! 9 {q = full_share} {τ = ty_int w64} {b = l4} {o = 0} {v = (vint w64 i.0)} refl)) (and_then ! (load ! (from ! (stop !)) (look ! 3 {q = full_share} {τ = HostL.mir} {b = l7} {o = 0} {v = w1} refl)) (no_more !))))) (λ w2.
-            use1 𝓛 (later (some (λ (r : Bool). (‵ ftrue ⊛ ‵ (Boolean.own r (w2 ∷ []))) ⊛ raw (ensured 𝓛 host-next.ended (host-next.clauses 𝓛 at_mem run) tt ((every (hostInPlace x2 h.hosts) (numbers i.0)), (x2, (i.0, (r1, tt)))) tt r)))) (id⊢ 𝓤 _) $ await ! tt $ pick ! (λ r2. split ! $ move ! (1 ∷ []) $
-            use1 𝓛 (raw (fact 𝓤 (r2 ≡ (every (hostInPlace x2 h.hosts) (numbers i.0)) && hostAt (counted x2) i.0 r1))) (said-host-next 𝓛 at_mem run (every (hostInPlace x2 h.hosts) (numbers i.0)) x2 i.0 r1 r2) $ heard ! (r2 ≡ (every (hostInPlace x2 h.hosts) (numbers i.0)) && hostAt (counted x2) i.0 r1) (λ e2. split ! $ drop ! $ facts ! Boolean (Is Boolean) (shows 𝓛 Boolean) r2 (w2 ∷ []) (λ is2.
+            nothing ! $ use1 𝓛 (raw ((C-host-next 𝓛 at_mem run).pre (to-host-next 𝓛 at_mem run (every (host_in_place x2 h.hosts) (numbers i.0)) (vbool (every (host_in_place x2 h.hosts) (numbers i.0))) x2 m2 i.0 (vint w64 i.0) r1 w1))) (goes-host-next 𝓛 at_mem run (every (host_in_place x2 h.hosts) (numbers i.0)) (vbool (every (host_in_place x2 h.hosts) (numbers i.0))) x2 m2 i.0 (vint w64 i.0) r1 w1 refl g2 (refl, lt_of_le_of_lt i.1 (lit< tt)) is1) $
+            calls_at ! fm (C-host-next 𝓛 at_mem run) known-host-next (to-host-next 𝓛 at_mem run (every (host_in_place x2 h.hosts) (numbers i.0)) (vbool (every (host_in_place x2 h.hosts) (numbers i.0))) x2 m2 i.0 (vint w64 i.0) r1 w1) (and_then ! (load ! (from ! (stop !)) (look ! 11 {q = full_share} {τ = ty_bool} {b = l3} {o = 0} {v = (vbool (every (host_in_place x2 h.hosts) (numbers i.0)))} refl)) (and_then ! (load ! (from ! (stop !)) (look ! 13 {q = full_share} {τ = CountsL.mir} {b = l2} {o = 0} {v = m2} refl)) (and_then ! (load ! (from ! (stop !)) (look ! 9 {q = full_share} {τ = ty_int w64} {b = l4} {o = 0} {v = (vint w64 i.0)} refl)) (and_then ! (load ! (from ! (stop !)) (look ! 3 {q = full_share} {τ = HostL.mir} {b = l7} {o = 0} {v = w1} refl)) (no_more !))))) (λ w2.
+            use1 𝓛 (later (some (λ (r : Bool). (‵ ftrue ⊛ ‵ (Boolean.own r (w2 ∷ []))) ⊛ raw (ensured 𝓛 host-next.ended (host-next.clauses 𝓛 at_mem run) tt ((every (host_in_place x2 h.hosts) (numbers i.0)), (x2, (i.0, (r1, tt)))) tt r)))) (id⊢ 𝓤 _) $ await ! tt $ pick ! (λ r2. split ! $ move ! (1 ∷ []) $
+            use1 𝓛 (raw (fact 𝓤 (r2 ≡ (every (host_in_place x2 h.hosts) (numbers i.0)) && host_at (counted x2) i.0 r1))) (said-host-next 𝓛 at_mem run (every (host_in_place x2 h.hosts) (numbers i.0)) x2 i.0 r1 r2) $ heard ! (r2 ≡ (every (host_in_place x2 h.hosts) (numbers i.0)) && host_at (counted x2) i.0 r1) (λ e2. split ! $ drop ! $ facts ! Boolean (Is Boolean) (shows 𝓛 Boolean) r2 (w2 ∷ []) (λ is2.
             land ! (from ! (stop !)) (store ! 10 {τ = ty_bool} {v = w2} refl ((bool_Lawful 𝓛).typed r2 _ is2).0) $
             assigns_last ! (bin ! (load ! (from ! (stop !)) (look ! 8 {q = full_share} {τ = ty_int w64} {b = l4} {o = 0} {v = (vint w64 i.0)} refl)) (lit ! tt) (record { fits = lt_of_le_of_lt (add-one-le (reaches i.0 _ 8 held (leb→le _ _ tt))) (lit< tt) })) (from ! (stop !)) (store ! 8 refl (tt, record { fits = lt_of_le_of_lt (add-one-le (reaches i.0 _ 8 held (leb→le _ _ tt))) (lit< tt) })) $
-            rewrite ! 10 (λ (u : Val). ‵ (fat full_share ty_bool l3 0 u)) (ap only (bool_Tells r2 _ is2) ∙ ap vbool (e2 ∙ every_more (hostInPlace x2 h.hosts) i.0 _ _ refl (host-is x2 h.hosts i.0 r1 e1))) refl $
+            rewrite ! 10 (λ (u : Val). ‵ (fat full_share ty_bool l3 0 u)) (ap only (bool_Tells r2 _ is2) ∙ ap vbool (e2 ∙ every_more (host_in_place x2 h.hosts) i.0 _ _ refl (host_is x2 h.hosts i.0 r1 e1))) refl $
             forget ! 2 refl $ forget ! 4 refl $ forget ! 6 refl $ again ! Nearer At i (i.0 + 1, add-one-le (reaches i.0 _ 8 held (leb→le _ _ tt))) (add-one-dec 8 i.0 (reaches i.0 _ 8 held (leb→le _ _ tt))))))))))))
             (λ failed.
             jumps ! $
             exec ! C Λ (En l0 l1 l2 l3 l4 l5 l6 l7) (after 3 (code.function).body) (at_ret (En l0 l1 l2 l3 l4 l5 l6 l7) Post) $
-            assigns ! (of_opd ! (load ! (from ! (stop !)) (look ! 10 {q = full_share} {τ = ty_bool} {b = l3} {o = 0} {v = (vbool (every (hostInPlace x2 h.hosts) (numbers i.0)))} refl))) (from ! (stop !)) (init ! 16 {τ = ty_bool} {v = (vbool (every (hostInPlace x2 h.hosts) (numbers i.0)))} refl ((bool_Lawful 𝓛).typed (every (hostInPlace x2 h.hosts) (numbers i.0)) _ refl).0) $
-            returns ! (look ! 16 {q = full_share} {τ = ty_bool} {b = l0} {o = 0} {v = (vbool (every (hostInPlace x2 h.hosts) (numbers i.0)))} refl) $
+            assigns ! (of_opd ! (load ! (from ! (stop !)) (look ! 10 {q = full_share} {τ = ty_bool} {b = l3} {o = 0} {v = (vbool (every (host_in_place x2 h.hosts) (numbers i.0)))} refl))) (from ! (stop !)) (init ! 16 {τ = ty_bool} {v = (vbool (every (host_in_place x2 h.hosts) (numbers i.0)))} refl ((bool_Lawful 𝓛).typed (every (host_in_place x2 h.hosts) (numbers i.0)) _ refl).0) $
+            returns ! (look ! 16 {q = full_share} {τ = ty_bool} {b = l0} {o = 0} {v = (vbool (every (host_in_place x2 h.hosts) (numbers i.0)))} refl) $
             forget ! 4 refl $ forget ! 6 refl $ forget ! 8 refl $ forget ! 10 refl $ forget ! 12 refl $ forget ! 14 refl $ forget ! 16 refl $
             move ! (16 ∷ 17 ∷ []) $ free1 ! $ move ! (14 ∷ 15 ∷ []) $ free1 ! $ move ! (12 ∷ 13 ∷ []) $ free1 ! $ move ! (10 ∷ 11 ∷ []) $ free1 ! $ move ! (8 ∷ 9 ∷ []) $ free1 ! $ move ! (6 ∷ 7 ∷ []) $ free1 ! $ move ! (4 ∷ 5 ∷ []) $ free1 ! $ move ! (2 ∷ 3 ∷ []) $ free1 ! $ free0 ! $
-            by ! (exits (every (hostInPlace x2 h.hosts) (numbers i.0)) (vbool (every (hostInPlace x2 h.hosts) (numbers i.0))) refl (every-end (hostInPlace x2 h.hosts) i.0 8 i.1 (passes i.0 _ 8 failed (leb→le _ _ tt)))))
+            by ! (exits (every (host_in_place x2 h.hosts) (numbers i.0)) (vbool (every (host_in_place x2 h.hosts) (numbers i.0))) refl (every-end (host_in_place x2 h.hosts) i.0 8 i.1 (passes i.0 _ 8 failed (leb→le _ _ tt)))))
 
       walk : ent 𝓤 (on_entry 𝓛 me.signature (κ, tt) (q, tt) x vs) (WpFn 𝓤 H C Λ code.function (vptr b o ∷ m2 ∷ []) Post)
       walk =
@@ -215,7 +215,7 @@ module _ {M : Type 1} {𝓤 : Ura M} (𝓛 : Logic 𝓤) (at_mem : Memory → SP
           -- [the token; t; the locals]
           assigns ! (of_opd ! (true_lit !)) (from ! (stop !)) (init ! 10 refl (tt, tt)) $
           assigns ! (of_opd ! (lit ! tt)) (from ! (stop !)) (init ! 8 refl (tt, record { fits = lit< tt })) $
-          rewrite ! 10 (λ (u : Bool). ‵ (fat full_share ty_bool l3 0 (vbool u))) (sym (every-begin (hostInPlace x2 h.hosts))) refl $
+          rewrite ! 10 (λ (u : Bool). ‵ (fat full_share ty_bool l3 0 (vbool u))) (sym (every_begin (host_in_place x2 h.hosts))) refl $
           first ! $ blocks ! $ loops ! 𝓣 Nearer Nearer-wf (At l0 l1 l2 l3 l4 l5 l6 l7) (turns l0 l1 l2 l3 l4 l5 l6 l7) (0, zero-le)))))))))
 
 module _ {M : Type 1} {𝓤 : Ura M} (𝓛 : Logic 𝓤) (at_mem : Memory → SProp 𝓤) (run : Routine → Fun 𝓤) where

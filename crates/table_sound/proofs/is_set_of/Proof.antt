@@ -5,7 +5,7 @@ use Rattle.table_sound.proofs.is_set_of.Statement.{statement}
 use Rattle.table_sound.proofs.is_set_of.Tie as tie
 
 returns : tie.Need-returns
-returns c = rw (c.before.if1.true, c.of-store.ensures, c.before.before.is-empty.ensures) refl
+returns c = rw (c.before.if1.true, c.of_store_lem.ensures, c.before.before.is-empty.ensures) refl
 
 returns-2 : tie.Need-returns-2
 returns-2 c = rw c.if1.false c.before.is-empty.ensures

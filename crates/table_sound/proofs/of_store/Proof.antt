@@ -7,7 +7,7 @@ use mathlib.Core.Bool.{not, ◌||◌}
 use lib.Dec.{ltb}
 use Rattle.rules.specs.Zero.{◌among◌}
 use Rattle.rules.specs.Words.{every, numbers}
-use Rattle.rules.proofs.Loops.{every-begin}
+use Rattle.rules.proofs.Loops.{every_begin}
 use Rattle.table_sound.proofs.Laws.{every_more}
 use Rattle.table_sound.proofs.of_store.Statement.{statement}
 use Rattle.table_sound.proofs.of_store.Tie as tie
@@ -19,7 +19,7 @@ abbrev decreases-loop : tie.decreases-loop
 decreases-loop n s ok₀ i₀ ok i = 8 - i
 
 loop-holds : tie.Need-loop-init invariant-loop decreases-loop
-loop-holds c = (search rules, sym (every-begin _))
+loop-holds c = (search rules, sym (every_begin _))
 
 loop-again : tie.Need-loop-preserved invariant-loop decreases-loop
 loop-again c = (omega arith, every_more _ _ _ _ c.before.before.before.loop.invariant.1 (refl))

@@ -3,22 +3,22 @@ use Prim.Native.Nat.{◌-◌, ◌≤◌}
 use mathlib.Core.Path.{◌≡◌, sym}
 use native.Mathlib.Omega.{arith}
 use borrow.Author.Rules.{rules}
-use Rattle.rules.specs.Formed.{operationAt}
+use Rattle.rules.specs.Formed.{operation_at}
 use Rattle.table_sound.specs.Parts.{counted}
 use Rattle.rules.specs.Words.{every, numbers}
-use Rattle.rules.proofs.Loops.{every-begin}
+use Rattle.rules.proofs.Loops.{every_begin}
 use Rattle.table_sound.proofs.Laws.{every_more}
 use Rattle.table_sound.proofs.operations_formed.Statement.{statement}
 use Rattle.table_sound.proofs.operations_formed.Tie as tie
 
 abbrev invariant-loop : tie.invariant-loop
-invariant-loop n q ok₀ i₀ ok i = (i ≤ 8) × (ok ≡ every (operationAt (counted n) q) (numbers i))
+invariant-loop n q ok₀ i₀ ok i = (i ≤ 8) × (ok ≡ every (operation_at (counted n) q) (numbers i))
 
 abbrev decreases-loop : tie.decreases-loop
 decreases-loop n q ok₀ i₀ ok i = 8 - i
 
 loop-holds : tie.Need-loop-init invariant-loop decreases-loop
-loop-holds c = (search rules, sym (every-begin _))
+loop-holds c = (search rules, sym (every_begin _))
 
 loop-again : tie.Need-loop-preserved invariant-loop decreases-loop
 loop-again c = (omega arith, every_more _ _ _ _ c.before.before.before.loop.invariant.1 c.operation-at.ensures)

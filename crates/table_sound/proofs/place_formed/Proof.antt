@@ -7,7 +7,7 @@ returns : tie.Need-returns
 returns c = search rules
 
 returns-2 : tie.Need-returns-2
-returns-2 c = rw c.before.before.s.given.1 c.message-formed.ensures
+returns-2 c = rw c.before.before.s.given.1 c.message_formed_lem.ensures
 
 pub place-formed-spec : {M : Type 1} → statement M
 place-formed-spec =

@@ -43,9 +43,9 @@ use Rattle.rules.specs.contracts.Table as TableR
 use Rattle.table_sound.specs.declared.Counts.{Counts}
 use Rattle.table_sound.specs.contracts.Counts as CountsR
 use Rattle.table_sound.proofs.Counts.TheLaws as CountsL
-use Rattle.rules.specs.Zero.{zeroRecord}
-use Rattle.table_sound.specs.Parts.{isQuiet, quietAt, busyAt, recordInPlace}
-use Rattle.table_sound.proofs.Laws.{quiet-in, busy-in}
+use Rattle.rules.specs.Zero.{zero_record}
+use Rattle.table_sound.specs.Parts.{is_quiet, quiet_at, busy_at, record_in_place}
+use Rattle.table_sound.proofs.Laws.{quiet_in, busy_in}
 use Rattle.table_records.specs.contracts.record_in as record-in
 use Rattle.table_records.proofs.record_in.Symbol as record-in-def
 use Rattle.table_records.proofs.record_in.Symbol.{name as #table_records·record-in}
@@ -74,26 +74,26 @@ module _ {M : Type 1} {𝓤 : Ura M} (𝓛 : Logic 𝓤) (at_mem : Memory → SP
   abbrev C-record-in : Contract 𝓤
   C-record-in = triple_of 𝓛 record-in.signature (record-in.spec 𝓛 at_mem run)
 
-  said-record-in : (κ : Lft) (t : Bor Table) (x0 : ℕ) (r : Record) → ent 𝓤 (ensured 𝓛 record-in.ended (record-in.clauses 𝓛 at_mem run) (κ, tt) (t, (x0, tt)) tt r) (fact 𝓤 (r ≡ get_or t.now.records x0 zeroRecord))
-  said-record-in κ t x0 r = ex_e 𝓤 _ (λ ws. snd∗ 𝓤 (sem 𝓛 (lasts record-in.ended (κ, tt) (t, (x0, tt)) ws)) (fact 𝓤 (r ≡ get_or t.now.records x0 zeroRecord)))
+  said-record-in : (κ : Lft) (t : Bor Table) (x0 : ℕ) (r : Record) → ent 𝓤 (ensured 𝓛 record-in.ended (record-in.clauses 𝓛 at_mem run) (κ, tt) (t, (x0, tt)) tt r) (fact 𝓤 (r ≡ get_or t.now.records x0 zero_record))
+  said-record-in κ t x0 r = ex_e 𝓤 _ (λ ws. snd∗ 𝓤 (sem 𝓛 (lasts record-in.ended (κ, tt) (t, (x0, tt)) ws)) (fact 𝓤 (r ≡ get_or t.now.records x0 zero_record)))
 
   abbrev C-is-quiet : Contract 𝓤
   C-is-quiet = triple_of 𝓛 is-quiet.signature (is-quiet.spec 𝓛 at_mem run)
 
-  said-is-quiet : (x0 : Record) (r : Bool) → ent 𝓤 (ensured 𝓛 is-quiet.ended (is-quiet.clauses 𝓛 at_mem run) tt (x0, tt) tt r) (fact 𝓤 (r ≡ isQuiet x0))
-  said-is-quiet x0 r = ex_e 𝓤 _ (λ ws. snd∗ 𝓤 (sem 𝓛 (lasts is-quiet.ended tt (x0, tt) ws)) (fact 𝓤 (r ≡ isQuiet x0)))
+  said-is-quiet : (x0 : Record) (r : Bool) → ent 𝓤 (ensured 𝓛 is-quiet.ended (is-quiet.clauses 𝓛 at_mem run) tt (x0, tt) tt r) (fact 𝓤 (r ≡ is_quiet x0))
+  said-is-quiet x0 r = ex_e 𝓤 _ (λ ws. snd∗ 𝓤 (sem 𝓛 (lasts is-quiet.ended tt (x0, tt) ws)) (fact 𝓤 (r ≡ is_quiet x0)))
 
   abbrev C-quiet-at : Contract 𝓤
   C-quiet-at = triple_of 𝓛 quiet_at.signature (quiet_at.spec 𝓛 at_mem run)
 
-  said-quiet-at : (x0 : Counts) (x1 : ℕ) (x2 : Record) (r : Bool) → ent 𝓤 (ensured 𝓛 quiet_at.ended (quiet_at.clauses 𝓛 at_mem run) tt (x0, (x1, (x2, tt))) tt r) (fact 𝓤 (r ≡ quietAt x0 x1 x2))
-  said-quiet-at x0 x1 x2 r = ex_e 𝓤 _ (λ ws. snd∗ 𝓤 (sem 𝓛 (lasts quiet_at.ended tt (x0, (x1, (x2, tt))) ws)) (fact 𝓤 (r ≡ quietAt x0 x1 x2)))
+  said-quiet-at : (x0 : Counts) (x1 : ℕ) (x2 : Record) (r : Bool) → ent 𝓤 (ensured 𝓛 quiet_at.ended (quiet_at.clauses 𝓛 at_mem run) tt (x0, (x1, (x2, tt))) tt r) (fact 𝓤 (r ≡ quiet_at x0 x1 x2))
+  said-quiet-at x0 x1 x2 r = ex_e 𝓤 _ (λ ws. snd∗ 𝓤 (sem 𝓛 (lasts quiet_at.ended tt (x0, (x1, (x2, tt))) ws)) (fact 𝓤 (r ≡ quiet_at x0 x1 x2)))
 
   abbrev C-busy-at : Contract 𝓤
   C-busy-at = triple_of 𝓛 busy-at.signature (busy-at.spec 𝓛 at_mem run)
 
-  said-busy-at : (x0 : Counts) (x1 : ℕ) (x2 : Record) (r : Bool) → ent 𝓤 (ensured 𝓛 busy-at.ended (busy-at.clauses 𝓛 at_mem run) tt (x0, (x1, (x2, tt))) tt r) (fact 𝓤 (r ≡ busyAt x0 x1 x2))
-  said-busy-at x0 x1 x2 r = ex_e 𝓤 _ (λ ws. snd∗ 𝓤 (sem 𝓛 (lasts busy-at.ended tt (x0, (x1, (x2, tt))) ws)) (fact 𝓤 (r ≡ busyAt x0 x1 x2)))
+  said-busy-at : (x0 : Counts) (x1 : ℕ) (x2 : Record) (r : Bool) → ent 𝓤 (ensured 𝓛 busy-at.ended (busy-at.clauses 𝓛 at_mem run) tt (x0, (x1, (x2, tt))) tt r) (fact 𝓤 (r ≡ busy_at x0 x1 x2))
+  said-busy-at x0 x1 x2 r = ex_e 𝓤 _ (λ ws. snd∗ 𝓤 (sem 𝓛 (lasts busy-at.ended tt (x0, (x1, (x2, tt))) ws)) (fact 𝓤 (r ≡ busy_at x0 x1 x2)))
 
 module _ {M : Type 1} {𝓤 : Ura M} (𝓛 : Logic 𝓤) (at_mem : Memory → SProp 𝓤) (run : Routine → Fun 𝓤) where
   open 𝓛 use {A}
@@ -139,7 +139,7 @@ module _ {M : Type 1} {𝓤 : Ura M} (𝓛 : Logic 𝓤) (at_mem : Memory → SP
   Post = (walk_of 𝓛 me.ended stayed (me.clauses 𝓛 at_mem run)).post (((κ, tt), (q, tt), tt, x, vs), tt)
 
   module _ (g2 : Is CountsR.the_row x2 (m2 ∷ [])) (g3 : Is usize x3 ((vint w64 x3) ∷ [])) where
-    exits : (r : Bool) (v : Val) → Is Boolean r (v ∷ []) → r ≡ recordInPlace x2 h.records x3 → ent 𝓤 (⋆ 𝓛 (‵ (flft κ q) ∷ ‵ ((ShrRef (named 0) κ TableR.the_row).own_val (rt γ h) (vptr b o ∷ [])) ∷ [])) (Post v)
+    exits : (r : Bool) (v : Val) → Is Boolean r (v ∷ []) → r ≡ record_in_place x2 h.records x3 → ent 𝓤 (⋆ 𝓛 (‵ (flft κ q) ∷ ‵ ((ShrRef (named 0) κ TableR.the_row).own_val (rt γ h) (vptr b o ∷ [])) ∷ [])) (Post v)
     exits r v g eq =
         qed 𝓛 (‵ (flft κ q) ∷ ‵ ((ShrRef (named 0) κ TableR.the_row).own_val (rt γ h) (vptr b o ∷ [])) ∷ []) ∵
         suffices ! _ (ends_at 𝓛 me.ended stayed (me.clauses 𝓛 at_mem run) (((κ, tt), (q, tt), tt, x, vs), tt) v r (tt, (tt, (tt, tt))) (tt, (tt, (tt, tt)))) $ says ! eq $
@@ -167,14 +167,14 @@ module _ {M : Type 1} {𝓤 : Ura M} (𝓛 : Logic 𝓤) (at_mem : Memory → SP
           use2 𝓛 (raw ((C-record-in 𝓛 at_mem run).pre (to-record-in 𝓛 at_mem run κ q (rt γ h) x3 (vint w64 x3)))) (goes-record-in 𝓛 at_mem run κ q (rt γ h) x3 (vint w64 x3) g3) $
           calls_at ! fm (C-record-in 𝓛 at_mem run) known-record-in (to-record-in 𝓛 at_mem run κ q (rt γ h) x3 (vint w64 x3)) (and_then ! (load ! (from ! (stop !)) (look ! 16 refl)) (and_then ! (load ! (from ! (stop !)) (look ! 12 {q = full_share} {τ = ty_int w64} {b = l3} {o = 0} {v = (vint w64 x3)} refl)) (no_more !))) (λ w1.
           use1 𝓛 (later (some (λ (r : Record). ((‵ (flft κ q) ⊛ ‵ ftrue) ⊛ ‵ ((RecordR.the_row).own_val r (w1 ∷ []))) ⊛ raw (ensured 𝓛 record-in.ended (record-in.clauses 𝓛 at_mem run) (κ, tt) ((rt γ h), (x3, tt)) tt r)))) (id⊢ 𝓤 _) $ await ! tt $ pick ! (λ r1. split ! $ move ! (1 ∷ []) $
-          use1 𝓛 (raw (fact 𝓤 (r1 ≡ get_or h.records x3 zeroRecord))) (said-record-in 𝓛 at_mem run κ (rt γ h) x3 r1) $ heard ! (r1 ≡ get_or h.records x3 zeroRecord) (λ e1. split ! $ move ! (1 ∷ []) $ facts ! RecordR.the_row (Is RecordR.the_row) (shows 𝓛 RecordR.the_row) r1 (w1 ∷ []) (λ is1.
+          use1 𝓛 (raw (fact 𝓤 (r1 ≡ get_or h.records x3 zero_record))) (said-record-in 𝓛 at_mem run κ (rt γ h) x3 r1) $ heard ! (r1 ≡ get_or h.records x3 zero_record) (λ e1. split ! $ move ! (1 ∷ []) $ facts ! RecordR.the_row (Is RecordR.the_row) (shows 𝓛 RecordR.the_row) r1 (w1 ∷ []) (λ is1.
           land ! (from ! (stop !)) (init ! 8 {τ = RecordL.mir} {v = w1} refl ((LL.lawful RecordR.the_type RecordL.the_laws 𝓛).typed r1 _ is1).0) $
           split ! $ move ! (1 ∷ []) $ drop ! $
           -- _4 = table_sound::is_quiet(_5)
           nothing ! $ use1 𝓛 (raw ((C-is-quiet 𝓛 at_mem run).pre (to-is-quiet 𝓛 at_mem run r1 w1))) (goes-is-quiet 𝓛 at_mem run r1 w1 is1) $
           calls_at ! fm (C-is-quiet 𝓛 at_mem run) known-is-quiet (to-is-quiet 𝓛 at_mem run r1 w1) (and_then ! (load ! (from ! (stop !)) (look ! 9 {q = full_share} {τ = RecordL.mir} {b = l5} {o = 0} {v = w1} refl)) (no_more !)) (λ w2.
           use1 𝓛 (later (some (λ (r : Bool). (‵ ftrue ⊛ ‵ (Boolean.own r (w2 ∷ []))) ⊛ raw (ensured 𝓛 is-quiet.ended (is-quiet.clauses 𝓛 at_mem run) tt (r1, tt) tt r)))) (id⊢ 𝓤 _) $ await ! tt $ pick ! (λ r2. split ! $ move ! (1 ∷ []) $
-          use1 𝓛 (raw (fact 𝓤 (r2 ≡ isQuiet r1))) (said-is-quiet 𝓛 at_mem run r1 r2) $ heard ! (r2 ≡ isQuiet r1) (λ e2. split ! $ drop ! $ facts ! Boolean (Is Boolean) (shows 𝓛 Boolean) r2 (w2 ∷ []) (λ is2.
+          use1 𝓛 (raw (fact 𝓤 (r2 ≡ is_quiet r1))) (said-is-quiet 𝓛 at_mem run r1 r2) $ heard ! (r2 ≡ is_quiet r1) (λ e2. split ! $ drop ! $ facts ! Boolean (Is Boolean) (shows 𝓛 Boolean) r2 (w2 ∷ []) (λ is2.
           land ! (from ! (stop !)) (init ! 10 {τ = ty_bool} {v = w2} refl ((bool_Lawful 𝓛).typed r2 _ is2).0) $
           assigns ! (of_opd ! (load ! (from ! (stop !)) (look ! 10 {q = full_share} {τ = ty_bool} {b = l4} {o = 0} {v = w2} refl))) (from ! (stop !)) (init ! 6 {τ = ty_bool} {v = w2} refl ((bool_Lawful 𝓛).typed r2 _ is2).0) $
           rewrite ! 6 (λ (u : Val). ‵ (fat full_share ty_bool l6 0 u)) (ap only (bool_Tells r2 _ is2)) refl $
@@ -185,38 +185,38 @@ module _ {M : Type 1} {𝓤 : Ura M} (𝓛 : Logic 𝓤) (at_mem : Memory → SP
           use2 𝓛 (raw ((C-record-in 𝓛 at_mem run).pre (to-record-in 𝓛 at_mem run κ q (rt γ h) x3 (vint w64 x3)))) (goes-record-in 𝓛 at_mem run κ q (rt γ h) x3 (vint w64 x3) g3) $
           calls_at ! fm (C-record-in 𝓛 at_mem run) known-record-in (to-record-in 𝓛 at_mem run κ q (rt γ h) x3 (vint w64 x3)) (and_then ! (load ! (from ! (stop !)) (look ! 16 refl)) (and_then ! (load ! (from ! (stop !)) (look ! 12 {q = full_share} {τ = ty_int w64} {b = l3} {o = 0} {v = (vint w64 x3)} refl)) (no_more !))) (λ w3.
           use1 𝓛 (later (some (λ (r : Record). ((‵ (flft κ q) ⊛ ‵ ftrue) ⊛ ‵ ((RecordR.the_row).own_val r (w3 ∷ []))) ⊛ raw (ensured 𝓛 record-in.ended (record-in.clauses 𝓛 at_mem run) (κ, tt) ((rt γ h), (x3, tt)) tt r)))) (id⊢ 𝓤 _) $ await ! tt $ pick ! (λ r3. split ! $ move ! (1 ∷ []) $
-          use1 𝓛 (raw (fact 𝓤 (r3 ≡ get_or h.records x3 zeroRecord))) (said-record-in 𝓛 at_mem run κ (rt γ h) x3 r3) $ heard ! (r3 ≡ get_or h.records x3 zeroRecord) (λ e3. split ! $ move ! (1 ∷ []) $ facts ! RecordR.the_row (Is RecordR.the_row) (shows 𝓛 RecordR.the_row) r3 (w3 ∷ []) (λ is3.
+          use1 𝓛 (raw (fact 𝓤 (r3 ≡ get_or h.records x3 zero_record))) (said-record-in 𝓛 at_mem run κ (rt γ h) x3 r3) $ heard ! (r3 ≡ get_or h.records x3 zero_record) (λ e3. split ! $ move ! (1 ∷ []) $ facts ! RecordR.the_row (Is RecordR.the_row) (shows 𝓛 RecordR.the_row) r3 (w3 ∷ []) (λ is3.
           land ! (from ! (stop !)) (init ! 4 {τ = RecordL.mir} {v = w3} refl ((LL.lawful RecordR.the_type RecordL.the_laws 𝓛).typed r3 _ is3).0) $
           split ! $ move ! (1 ∷ []) $ drop ! $
           -- _0 = table_sound::quiet_at(_2, _3, _7)
           nothing ! $ use1 𝓛 (raw ((C-quiet-at 𝓛 at_mem run).pre (to-quiet-at 𝓛 at_mem run x2 m2 x3 (vint w64 x3) r3 w3))) (goes-quiet-at 𝓛 at_mem run x2 m2 x3 (vint w64 x3) r3 w3 g2 g3 is3) $
           calls_at ! fm (C-quiet-at 𝓛 at_mem run) known-quiet-at (to-quiet-at 𝓛 at_mem run x2 m2 x3 (vint w64 x3) r3 w3) (and_then ! (load ! (from ! (stop !)) (look ! 15 {q = full_share} {τ = CountsL.mir} {b = l2} {o = 0} {v = m2} refl)) (and_then ! (load ! (from ! (stop !)) (look ! 13 {q = full_share} {τ = ty_int w64} {b = l3} {o = 0} {v = (vint w64 x3)} refl)) (and_then ! (load ! (from ! (stop !)) (look ! 5 {q = full_share} {τ = RecordL.mir} {b = l7} {o = 0} {v = w3} refl)) (no_more !)))) (λ w4.
           use1 𝓛 (later (some (λ (r : Bool). (‵ ftrue ⊛ ‵ (Boolean.own r (w4 ∷ []))) ⊛ raw (ensured 𝓛 quiet_at.ended (quiet_at.clauses 𝓛 at_mem run) tt (x2, (x3, (r3, tt))) tt r)))) (id⊢ 𝓤 _) $ await ! tt $ pick ! (λ r4. split ! $ move ! (1 ∷ []) $
-          use1 𝓛 (raw (fact 𝓤 (r4 ≡ quietAt x2 x3 r3))) (said-quiet-at 𝓛 at_mem run x2 x3 r3 r4) $ heard ! (r4 ≡ quietAt x2 x3 r3) (λ e4. split ! $ drop ! $ facts ! Boolean (Is Boolean) (shows 𝓛 Boolean) r4 (w4 ∷ []) (λ is4.
+          use1 𝓛 (raw (fact 𝓤 (r4 ≡ quiet_at x2 x3 r3))) (said-quiet-at 𝓛 at_mem run x2 x3 r3 r4) $ heard ! (r4 ≡ quiet_at x2 x3 r3) (λ e4. split ! $ drop ! $ facts ! Boolean (Is Boolean) (shows 𝓛 Boolean) r4 (w4 ∷ []) (λ is4.
           land ! (from ! (stop !)) (init ! 18 {τ = ty_bool} {v = w4} refl ((bool_Lawful 𝓛).typed r4 _ is4).0) $
           returns_within ! Post refl (look ! 18 {q = full_share} {τ = ty_bool} {b = l0} {o = 0} {v = w4} refl) $
           forget ! 4 refl $ forget ! 6 refl $ forget ! 8 refl $ forget ! 10 refl $ forget ! 12 refl $ forget ! 14 refl $ forget ! 16 refl $ forget ! 18 refl $
           move ! (18 ∷ 19 ∷ []) $ free1 ! $ move ! (16 ∷ 17 ∷ []) $ free1 ! $ move ! (14 ∷ 15 ∷ []) $ free1 ! $ move ! (12 ∷ 13 ∷ []) $ free1 ! $ move ! (10 ∷ 11 ∷ []) $ free1 ! $ move ! (8 ∷ 9 ∷ []) $ free1 ! $ move ! (6 ∷ 7 ∷ []) $ free1 ! $ move ! (4 ∷ 5 ∷ []) $ free1 ! $ move ! (2 ∷ 3 ∷ []) $ free1 ! $ free0 ! $
-          by ! (exits r4 w4 is4 (quiet-in x2 x3 h.records r1 e1 r2 e2 held r3 e3 r4 e4)))))))))))
+          by ! (exits r4 w4 is4 (quiet_in x2 x3 h.records r1 e1 r2 e2 held r3 e3 r4 e4)))))))))))
           (λ failed.
           -- _8 = table_records::record_in(_1, _3)
           move ! (1 ∷ []) $ use1 𝓛 (‵ ((ShrRef (named 0) κ TableR.the_row).own_val (rt γ h) (vptr b o ∷ [])) ⊛ ‵ ((ShrRef (named 0) κ TableR.the_row).own_val (rt γ h) (vptr b o ∷ []))) ((shr_copy 𝓛 (named 0) κ TableR.the_row).twice (rt γ h) (vptr b o ∷ [])) $ split ! $ move ! (2 ∷ 0 ∷ []) $
           use2 𝓛 (raw ((C-record-in 𝓛 at_mem run).pre (to-record-in 𝓛 at_mem run κ q (rt γ h) x3 (vint w64 x3)))) (goes-record-in 𝓛 at_mem run κ q (rt γ h) x3 (vint w64 x3) g3) $
           calls_at ! fm (C-record-in 𝓛 at_mem run) known-record-in (to-record-in 𝓛 at_mem run κ q (rt γ h) x3 (vint w64 x3)) (and_then ! (load ! (from ! (stop !)) (look ! 16 refl)) (and_then ! (load ! (from ! (stop !)) (look ! 12 {q = full_share} {τ = ty_int w64} {b = l3} {o = 0} {v = (vint w64 x3)} refl)) (no_more !))) (λ w5.
           use1 𝓛 (later (some (λ (r : Record). ((‵ (flft κ q) ⊛ ‵ ftrue) ⊛ ‵ ((RecordR.the_row).own_val r (w5 ∷ []))) ⊛ raw (ensured 𝓛 record-in.ended (record-in.clauses 𝓛 at_mem run) (κ, tt) ((rt γ h), (x3, tt)) tt r)))) (id⊢ 𝓤 _) $ await ! tt $ pick ! (λ r5. split ! $ move ! (1 ∷ []) $
-          use1 𝓛 (raw (fact 𝓤 (r5 ≡ get_or h.records x3 zeroRecord))) (said-record-in 𝓛 at_mem run κ (rt γ h) x3 r5) $ heard ! (r5 ≡ get_or h.records x3 zeroRecord) (λ e5. split ! $ move ! (1 ∷ []) $ facts ! RecordR.the_row (Is RecordR.the_row) (shows 𝓛 RecordR.the_row) r5 (w5 ∷ []) (λ is5.
+          use1 𝓛 (raw (fact 𝓤 (r5 ≡ get_or h.records x3 zero_record))) (said-record-in 𝓛 at_mem run κ (rt γ h) x3 r5) $ heard ! (r5 ≡ get_or h.records x3 zero_record) (λ e5. split ! $ move ! (1 ∷ []) $ facts ! RecordR.the_row (Is RecordR.the_row) (shows 𝓛 RecordR.the_row) r5 (w5 ∷ []) (λ is5.
           land ! (from ! (stop !)) (init ! 2 {τ = RecordL.mir} {v = w5} refl ((LL.lawful RecordR.the_type RecordL.the_laws 𝓛).typed r5 _ is5).0) $
           split ! $ move ! (1 ∷ []) $ drop ! $
           -- _0 = table_sound::busy_at(_2, _3, _8)
           nothing ! $ use1 𝓛 (raw ((C-busy-at 𝓛 at_mem run).pre (to-busy-at 𝓛 at_mem run x2 m2 x3 (vint w64 x3) r5 w5))) (goes-busy-at 𝓛 at_mem run x2 m2 x3 (vint w64 x3) r5 w5 g2 g3 is5) $
           calls_at ! fm (C-busy-at 𝓛 at_mem run) known-busy-at (to-busy-at 𝓛 at_mem run x2 m2 x3 (vint w64 x3) r5 w5) (and_then ! (load ! (from ! (stop !)) (look ! 15 {q = full_share} {τ = CountsL.mir} {b = l2} {o = 0} {v = m2} refl)) (and_then ! (load ! (from ! (stop !)) (look ! 13 {q = full_share} {τ = ty_int w64} {b = l3} {o = 0} {v = (vint w64 x3)} refl)) (and_then ! (load ! (from ! (stop !)) (look ! 3 {q = full_share} {τ = RecordL.mir} {b = l8} {o = 0} {v = w5} refl)) (no_more !)))) (λ w6.
           use1 𝓛 (later (some (λ (r : Bool). (‵ ftrue ⊛ ‵ (Boolean.own r (w6 ∷ []))) ⊛ raw (ensured 𝓛 busy-at.ended (busy-at.clauses 𝓛 at_mem run) tt (x2, (x3, (r5, tt))) tt r)))) (id⊢ 𝓤 _) $ await ! tt $ pick ! (λ r6. split ! $ move ! (1 ∷ []) $
-          use1 𝓛 (raw (fact 𝓤 (r6 ≡ busyAt x2 x3 r5))) (said-busy-at 𝓛 at_mem run x2 x3 r5 r6) $ heard ! (r6 ≡ busyAt x2 x3 r5) (λ e6. split ! $ drop ! $ facts ! Boolean (Is Boolean) (shows 𝓛 Boolean) r6 (w6 ∷ []) (λ is6.
+          use1 𝓛 (raw (fact 𝓤 (r6 ≡ busy_at x2 x3 r5))) (said-busy-at 𝓛 at_mem run x2 x3 r5 r6) $ heard ! (r6 ≡ busy_at x2 x3 r5) (λ e6. split ! $ drop ! $ facts ! Boolean (Is Boolean) (shows 𝓛 Boolean) r6 (w6 ∷ []) (λ is6.
           land ! (from ! (stop !)) (init ! 18 {τ = ty_bool} {v = w6} refl ((bool_Lawful 𝓛).typed r6 _ is6).0) $
           returns_within ! Post refl (look ! 18 {q = full_share} {τ = ty_bool} {b = l0} {o = 0} {v = w6} refl) $
           forget ! 2 refl $ forget ! 6 refl $ forget ! 8 refl $ forget ! 10 refl $ forget ! 12 refl $ forget ! 14 refl $ forget ! 16 refl $ forget ! 18 refl $
           move ! (18 ∷ 19 ∷ []) $ free1 ! $ move ! (16 ∷ 17 ∷ []) $ free1 ! $ move ! (14 ∷ 15 ∷ []) $ free1 ! $ move ! (12 ∷ 13 ∷ []) $ free1 ! $ move ! (10 ∷ 11 ∷ []) $ free1 ! $ move ! (8 ∷ 9 ∷ []) $ free1 ! $ move ! (6 ∷ 7 ∷ []) $ free1 ! $ move ! (4 ∷ 5 ∷ []) $ free1 ! $ move ! (2 ∷ 3 ∷ []) $ free1 ! $ free0 ! $
-          by ! (exits r6 w6 is6 (busy-in x2 x3 h.records r1 e1 r2 e2 failed r5 e5 r6 e6))))))))))))))))))))))))))))
+          by ! (exits r6 w6 is6 (busy_in x2 x3 h.records r1 e1 r2 e2 failed r5 e5 r6 e6))))))))))))))))))))))))))))
 
 module _ {M : Type 1} {𝓤 : Ura M} (𝓛 : Logic 𝓤) (at_mem : Memory → SProp 𝓤) (run : Routine → Fun 𝓤) where
   open 𝓛 use {H}

@@ -46,11 +46,11 @@ use Rattle.rules.specs.contracts.Table as TableR
 use Rattle.table_sound.specs.declared.Counts.{Counts}
 use Rattle.table_sound.specs.contracts.Counts as CountsR
 use Rattle.table_sound.proofs.Counts.TheLaws as CountsL
-use Rattle.rules.specs.Formed.{recordsFormed}
+use Rattle.rules.specs.Formed.{records_formed}
 use Rattle.rules.specs.Words.{every, numbers}
-use Rattle.rules.proofs.Loops.{every-begin}
-use Rattle.table_sound.specs.Parts.{counted, recordInPlace}
-use Rattle.table_sound.proofs.Laws.{every_more, every-end, record-by-record}
+use Rattle.rules.proofs.Loops.{every_begin}
+use Rattle.table_sound.specs.Parts.{counted, record_in_place}
+use Rattle.table_sound.proofs.Laws.{every_more, every-end, record_by_record}
 use Rattle.table_lent.proofs.Bodies.{ty_at, inside, after}
 use Rattle.table_lent.proofs.Hole.{reaches, passes}
 use Rattle.table_sound.specs.contracts.record_sound as record-sound
@@ -83,8 +83,8 @@ module _ {M : Type 1} {𝓤 : Ura M} (𝓛 : Logic 𝓤) (at_mem : Memory → SP
   abbrev C-record-sound : Contract 𝓤
   C-record-sound = triple_of 𝓛 record-sound.signature (record-sound.spec 𝓛 at_mem run)
 
-  said-record-sound : (κ : Lft) (t : Bor Table) (x0 : Counts) (x1 : ℕ) (r : Bool) → ent 𝓤 (ensured 𝓛 record-sound.ended (record-sound.clauses 𝓛 at_mem run) (κ, tt) (t, (x0, (x1, tt))) tt r) (fact 𝓤 (r ≡ recordInPlace x0 t.now.records x1))
-  said-record-sound κ t x0 x1 r = ex_e 𝓤 _ (λ ws. snd∗ 𝓤 (sem 𝓛 (lasts record-sound.ended (κ, tt) (t, (x0, (x1, tt))) ws)) (fact 𝓤 (r ≡ recordInPlace x0 t.now.records x1)))
+  said-record-sound : (κ : Lft) (t : Bor Table) (x0 : Counts) (x1 : ℕ) (r : Bool) → ent 𝓤 (ensured 𝓛 record-sound.ended (record-sound.clauses 𝓛 at_mem run) (κ, tt) (t, (x0, (x1, tt))) tt r) (fact 𝓤 (r ≡ record_in_place x0 t.now.records x1))
+  said-record-sound κ t x0 x1 r = ex_e 𝓤 _ (λ ws. snd∗ 𝓤 (sem 𝓛 (lasts record-sound.ended (κ, tt) (t, (x0, (x1, tt))) ws)) (fact 𝓤 (r ≡ record_in_place x0 t.now.records x1)))
 
   abbrev C-record-next : Contract 𝓤
   C-record-next = triple_of 𝓛 record-next.signature (record-next.spec 𝓛 at_mem run)
@@ -124,7 +124,7 @@ module _ {M : Type 1} {𝓤 : Ura M} (𝓛 : Logic 𝓤) (at_mem : Memory → SP
   Post = (walk_of 𝓛 me.ended stayed (me.clauses 𝓛 at_mem run)).post (((κ, tt), (q, tt), tt, x, vs), tt)
 
   module _ (g2 : Is CountsR.the_row x2 (m2 ∷ [])) where
-    exits : (r : Bool) (v : Val) → Is Boolean r (v ∷ []) → r ≡ recordsFormed (counted x2) h.records → ent 𝓤 (⋆ 𝓛 (‵ (flft κ q) ∷ ‵ ((ShrRef (named 0) κ TableR.the_row).own_val (rt γ h) (vptr b o ∷ [])) ∷ [])) (Post v)
+    exits : (r : Bool) (v : Val) → Is Boolean r (v ∷ []) → r ≡ records_formed (counted x2) h.records → ent 𝓤 (⋆ 𝓛 (‵ (flft κ q) ∷ ‵ ((ShrRef (named 0) κ TableR.the_row).own_val (rt γ h) (vptr b o ∷ [])) ∷ [])) (Post v)
     exits r v g eq =
         qed 𝓛 (‵ (flft κ q) ∷ ‵ ((ShrRef (named 0) κ TableR.the_row).own_val (rt γ h) (vptr b o ∷ [])) ∷ []) ∵
         suffices ! _ (ends_at 𝓛 me.ended stayed (me.clauses 𝓛 at_mem run) (((κ, tt), (q, tt), tt, x, vs), tt) v r (tt, (tt, tt)) (tt, (tt, tt))) $ says ! eq $
@@ -156,7 +156,7 @@ module _ {M : Type 1} {𝓤 : Ura M} (𝓛 : Logic 𝓤) (at_mem : Memory → SP
             ∷ ‵ (froom (ty 6) l6 0) ∷ ‵ (fdies (ty 6) l6)
             ∷ ‵ (froom (ty 5) l5 0) ∷ ‵ (fdies (ty 5) l5)
             ∷ ‵ (fat full_share (ty 4) l4 0 (vint w64 i.0)) ∷ ‵ (fdies (ty 4) l4)
-            ∷ ‵ (fat full_share (ty 3) l3 0 (vbool (every (recordInPlace x2 h.records) (numbers i.0)))) ∷ ‵ (fdies (ty 3) l3)
+            ∷ ‵ (fat full_share (ty 3) l3 0 (vbool (every (record_in_place x2 h.records) (numbers i.0)))) ∷ ‵ (fdies (ty 3) l3)
             ∷ ‵ (fat full_share (ty 2) l2 0 m2) ∷ ‵ (fdies (ty 2) l2)
             ∷ ‵ (fat full_share (ty 1) l1 0 (vptr b o)) ∷ ‵ (fdies (ty 1) l1)
             ∷ ‵ (froom (ty 0) l0 0) ∷ ‵ (fdies (ty 0) l0)
@@ -179,26 +179,26 @@ module _ {M : Type 1} {𝓤 : Ura M} (𝓛 : Logic 𝓤) (at_mem : Memory → SP
             use2 𝓛 (raw ((C-record-sound 𝓛 at_mem run).pre (to-record-sound 𝓛 at_mem run κ q (rt γ h) x2 m2 i.0 (vint w64 i.0)))) (goes-record-sound 𝓛 at_mem run κ q (rt γ h) x2 m2 i.0 (vint w64 i.0) g2 (refl, lt_of_le_of_lt i.1 (lit< tt))) $
             calls_at ! fm (C-record-sound 𝓛 at_mem run) known-record-sound (to-record-sound 𝓛 at_mem run κ q (rt γ h) x2 m2 i.0 (vint w64 i.0)) (and_then ! (load ! (from ! (stop !)) (look ! 12 refl)) (and_then ! (load ! (from ! (stop !)) (look ! 10 {q = full_share} {τ = CountsL.mir} {b = l2} {o = 0} {v = m2} refl)) (and_then ! (load ! (from ! (stop !)) (look ! 6 {q = full_share} {τ = ty_int w64} {b = l4} {o = 0} {v = (vint w64 i.0)} refl)) (no_more !)))) (λ w1.
             use1 𝓛 (later (some (λ (r : Bool). ((‵ (flft κ q) ⊛ ‵ ftrue) ⊛ ‵ (Boolean.own r (w1 ∷ []))) ⊛ raw (ensured 𝓛 record-sound.ended (record-sound.clauses 𝓛 at_mem run) (κ, tt) ((rt γ h), (x2, (i.0, tt))) tt r)))) (id⊢ 𝓤 _) $ await ! tt $ pick ! (λ r1. split ! $ move ! (1 ∷ []) $
-            use1 𝓛 (raw (fact 𝓤 (r1 ≡ recordInPlace x2 h.records i.0))) (said-record-sound 𝓛 at_mem run κ (rt γ h) x2 i.0 r1) $ heard ! (r1 ≡ recordInPlace x2 h.records i.0) (λ e1. split ! $ move ! (1 ∷ []) $ facts ! Boolean (Is Boolean) (shows 𝓛 Boolean) r1 (w1 ∷ []) (λ is1.
+            use1 𝓛 (raw (fact 𝓤 (r1 ≡ record_in_place x2 h.records i.0))) (said-record-sound 𝓛 at_mem run κ (rt γ h) x2 i.0 r1) $ heard ! (r1 ≡ record_in_place x2 h.records i.0) (λ e1. split ! $ move ! (1 ∷ []) $ facts ! Boolean (Is Boolean) (shows 𝓛 Boolean) r1 (w1 ∷ []) (λ is1.
             land ! (from ! (stop !)) (store ! 2 {τ = ty_bool} {v = w1} refl ((bool_Lawful 𝓛).typed r1 _ is1).0) $
             split ! $ move ! (1 ∷ []) $ drop ! $
             -- _3 = table_sound::record_next(_3, _6)
-            nothing ! $ use1 𝓛 (raw ((C-record-next 𝓛 at_mem run).pre (to-record-next 𝓛 at_mem run (every (recordInPlace x2 h.records) (numbers i.0)) (vbool (every (recordInPlace x2 h.records) (numbers i.0))) r1 w1))) (goes-record-next 𝓛 at_mem run (every (recordInPlace x2 h.records) (numbers i.0)) (vbool (every (recordInPlace x2 h.records) (numbers i.0))) r1 w1 refl is1) $
-            calls_at ! fm (C-record-next 𝓛 at_mem run) known-record-next (to-record-next 𝓛 at_mem run (every (recordInPlace x2 h.records) (numbers i.0)) (vbool (every (recordInPlace x2 h.records) (numbers i.0))) r1 w1) (and_then ! (load ! (from ! (stop !)) (look ! 9 {q = full_share} {τ = ty_bool} {b = l3} {o = 0} {v = (vbool (every (recordInPlace x2 h.records) (numbers i.0)))} refl)) (and_then ! (load ! (from ! (stop !)) (look ! 3 {q = full_share} {τ = ty_bool} {b = l6} {o = 0} {v = w1} refl)) (no_more !))) (λ w2.
-            use1 𝓛 (later (some (λ (r : Bool). (‵ ftrue ⊛ ‵ (Boolean.own r (w2 ∷ []))) ⊛ raw (ensured 𝓛 record-next.ended (record-next.clauses 𝓛 at_mem run) tt ((every (recordInPlace x2 h.records) (numbers i.0)), (r1, tt)) tt r)))) (id⊢ 𝓤 _) $ await ! tt $ pick ! (λ r2. split ! $ move ! (1 ∷ []) $
-            use1 𝓛 (raw (fact 𝓤 (r2 ≡ (every (recordInPlace x2 h.records) (numbers i.0)) && r1))) (said-record-next 𝓛 at_mem run (every (recordInPlace x2 h.records) (numbers i.0)) r1 r2) $ heard ! (r2 ≡ (every (recordInPlace x2 h.records) (numbers i.0)) && r1) (λ e2. split ! $ drop ! $ facts ! Boolean (Is Boolean) (shows 𝓛 Boolean) r2 (w2 ∷ []) (λ is2.
+            nothing ! $ use1 𝓛 (raw ((C-record-next 𝓛 at_mem run).pre (to-record-next 𝓛 at_mem run (every (record_in_place x2 h.records) (numbers i.0)) (vbool (every (record_in_place x2 h.records) (numbers i.0))) r1 w1))) (goes-record-next 𝓛 at_mem run (every (record_in_place x2 h.records) (numbers i.0)) (vbool (every (record_in_place x2 h.records) (numbers i.0))) r1 w1 refl is1) $
+            calls_at ! fm (C-record-next 𝓛 at_mem run) known-record-next (to-record-next 𝓛 at_mem run (every (record_in_place x2 h.records) (numbers i.0)) (vbool (every (record_in_place x2 h.records) (numbers i.0))) r1 w1) (and_then ! (load ! (from ! (stop !)) (look ! 9 {q = full_share} {τ = ty_bool} {b = l3} {o = 0} {v = (vbool (every (record_in_place x2 h.records) (numbers i.0)))} refl)) (and_then ! (load ! (from ! (stop !)) (look ! 3 {q = full_share} {τ = ty_bool} {b = l6} {o = 0} {v = w1} refl)) (no_more !))) (λ w2.
+            use1 𝓛 (later (some (λ (r : Bool). (‵ ftrue ⊛ ‵ (Boolean.own r (w2 ∷ []))) ⊛ raw (ensured 𝓛 record-next.ended (record-next.clauses 𝓛 at_mem run) tt ((every (record_in_place x2 h.records) (numbers i.0)), (r1, tt)) tt r)))) (id⊢ 𝓤 _) $ await ! tt $ pick ! (λ r2. split ! $ move ! (1 ∷ []) $
+            use1 𝓛 (raw (fact 𝓤 (r2 ≡ (every (record_in_place x2 h.records) (numbers i.0)) && r1))) (said-record-next 𝓛 at_mem run (every (record_in_place x2 h.records) (numbers i.0)) r1 r2) $ heard ! (r2 ≡ (every (record_in_place x2 h.records) (numbers i.0)) && r1) (λ e2. split ! $ drop ! $ facts ! Boolean (Is Boolean) (shows 𝓛 Boolean) r2 (w2 ∷ []) (λ is2.
             land ! (from ! (stop !)) (store ! 8 {τ = ty_bool} {v = w2} refl ((bool_Lawful 𝓛).typed r2 _ is2).0) $
             assigns_last ! (bin ! (load ! (from ! (stop !)) (look ! 6 {q = full_share} {τ = ty_int w64} {b = l4} {o = 0} {v = (vint w64 i.0)} refl)) (lit ! tt) (record { fits = lt_of_le_of_lt (add-one-le (reaches i.0 _ 128 held (leb→le _ _ tt))) (lit< tt) })) (from ! (stop !)) (store ! 6 refl (tt, record { fits = lt_of_le_of_lt (add-one-le (reaches i.0 _ 128 held (leb→le _ _ tt))) (lit< tt) })) $
-            rewrite ! 8 (λ (u : Val). ‵ (fat full_share ty_bool l3 0 u)) (ap only (bool_Tells r2 _ is2) ∙ ap vbool (e2 ∙ every_more (recordInPlace x2 h.records) i.0 _ _ refl (e1))) refl $
+            rewrite ! 8 (λ (u : Val). ‵ (fat full_share ty_bool l3 0 u)) (ap only (bool_Tells r2 _ is2) ∙ ap vbool (e2 ∙ every_more (record_in_place x2 h.records) i.0 _ _ refl (e1))) refl $
             forget ! 2 refl $ forget ! 4 refl $ again ! Nearer At i (i.0 + 1, add-one-le (reaches i.0 _ 128 held (leb→le _ _ tt))) (add-one-dec 128 i.0 (reaches i.0 _ 128 held (leb→le _ _ tt))))))))))))
             (λ failed.
             jumps ! $
             exec ! C Λ (En l0 l1 l2 l3 l4 l5 l6) (after 3 (code.function).body) (at_ret (En l0 l1 l2 l3 l4 l5 l6) Post) $
-            assigns ! (of_opd ! (load ! (from ! (stop !)) (look ! 8 {q = full_share} {τ = ty_bool} {b = l3} {o = 0} {v = (vbool (every (recordInPlace x2 h.records) (numbers i.0)))} refl))) (from ! (stop !)) (init ! 14 {τ = ty_bool} {v = (vbool (every (recordInPlace x2 h.records) (numbers i.0)))} refl ((bool_Lawful 𝓛).typed (every (recordInPlace x2 h.records) (numbers i.0)) _ refl).0) $
-            returns ! (look ! 14 {q = full_share} {τ = ty_bool} {b = l0} {o = 0} {v = (vbool (every (recordInPlace x2 h.records) (numbers i.0)))} refl) $
+            assigns ! (of_opd ! (load ! (from ! (stop !)) (look ! 8 {q = full_share} {τ = ty_bool} {b = l3} {o = 0} {v = (vbool (every (record_in_place x2 h.records) (numbers i.0)))} refl))) (from ! (stop !)) (init ! 14 {τ = ty_bool} {v = (vbool (every (record_in_place x2 h.records) (numbers i.0)))} refl ((bool_Lawful 𝓛).typed (every (record_in_place x2 h.records) (numbers i.0)) _ refl).0) $
+            returns ! (look ! 14 {q = full_share} {τ = ty_bool} {b = l0} {o = 0} {v = (vbool (every (record_in_place x2 h.records) (numbers i.0)))} refl) $
             forget ! 2 refl $ forget ! 4 refl $ forget ! 6 refl $ forget ! 8 refl $ forget ! 10 refl $ forget ! 12 refl $ forget ! 14 refl $
             move ! (14 ∷ 15 ∷ []) $ free1 ! $ move ! (12 ∷ 13 ∷ []) $ free1 ! $ move ! (10 ∷ 11 ∷ []) $ free1 ! $ move ! (8 ∷ 9 ∷ []) $ free1 ! $ move ! (6 ∷ 7 ∷ []) $ free1 ! $ move ! (4 ∷ 5 ∷ []) $ free1 ! $ move ! (2 ∷ 3 ∷ []) $ free1 ! $ free0 ! $
-            by ! (exits (every (recordInPlace x2 h.records) (numbers i.0)) (vbool (every (recordInPlace x2 h.records) (numbers i.0))) refl (every-end (recordInPlace x2 h.records) i.0 128 i.1 (passes i.0 _ 128 failed (leb→le _ _ tt)) ∙ record-by-record x2 h.records)))
+            by ! (exits (every (record_in_place x2 h.records) (numbers i.0)) (vbool (every (record_in_place x2 h.records) (numbers i.0))) refl (every-end (record_in_place x2 h.records) i.0 128 i.1 (passes i.0 _ 128 failed (leb→le _ _ tt)) ∙ record_by_record x2 h.records)))
 
       walk : ent 𝓤 (on_entry 𝓛 me.signature (κ, tt) (q, tt) x vs) (WpFn 𝓤 H C Λ code.function (vptr b o ∷ m2 ∷ []) Post)
       walk =
@@ -209,7 +209,7 @@ module _ {M : Type 1} {𝓤 : Ura M} (𝓛 : Logic 𝓤) (at_mem : Memory → SP
           -- [the token; t; the locals]
           assigns ! (of_opd ! (true_lit !)) (from ! (stop !)) (init ! 8 refl (tt, tt)) $
           assigns ! (of_opd ! (lit ! tt)) (from ! (stop !)) (init ! 6 refl (tt, record { fits = lit< tt })) $
-          rewrite ! 8 (λ (u : Bool). ‵ (fat full_share ty_bool l3 0 (vbool u))) (sym (every-begin (recordInPlace x2 h.records))) refl $
+          rewrite ! 8 (λ (u : Bool). ‵ (fat full_share ty_bool l3 0 (vbool u))) (sym (every_begin (record_in_place x2 h.records))) refl $
           first ! $ blocks ! $ loops ! 𝓣 Nearer Nearer-wf (At l0 l1 l2 l3 l4 l5 l6) (turns l0 l1 l2 l3 l4 l5 l6) (0, zero-le))))))))
 
 module _ {M : Type 1} {𝓤 : Ura M} (𝓛 : Logic 𝓤) (at_mem : Memory → SProp 𝓤) (run : Routine → Fun 𝓤) where

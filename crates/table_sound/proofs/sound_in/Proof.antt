@@ -44,8 +44,8 @@ use Rattle.rules.specs.contracts.Table as TableR
 use Rattle.table_sound.specs.declared.Counts.{Counts}
 use Rattle.table_sound.specs.contracts.Counts as CountsR
 use Rattle.table_sound.proofs.Counts.TheLaws as CountsL
-use Rattle.rules.specs.Formed.{hostsFormed, chunksFormed, recordsFormed, placesFormed, wellFormed}
-use Rattle.table_sound.specs.Parts.{counted, countsOf, allFormed}
+use Rattle.rules.specs.Formed.{hosts_formed, chunks_formed, records_formed, places_formed, well_formed}
+use Rattle.table_sound.specs.Parts.{counted, counts_of, all_formed}
 use Rattle.table_sound.proofs.Laws.{scanned}
 use Rattle.table_numbers.specs.contracts.creation_in as creation-in
 use Rattle.table_numbers.proofs.creation_in.Symbol as creation-in-def
@@ -103,38 +103,38 @@ module _ {M : Type 1} {𝓤 : Ura M} (𝓛 : Logic 𝓤) (at_mem : Memory → SP
   abbrev C-counts-of : Contract 𝓤
   C-counts-of = triple_of 𝓛 Counts-of.signature (Counts-of.spec 𝓛 at_mem run)
 
-  said-counts-of : (x0 : Creation) (r : Counts) → ent 𝓤 (ensured 𝓛 Counts-of.ended (Counts-of.clauses 𝓛 at_mem run) tt (x0, tt) tt r) (fact 𝓤 (r ≡ countsOf x0))
-  said-counts-of x0 r = ex_e 𝓤 _ (λ ws. snd∗ 𝓤 (sem 𝓛 (lasts Counts-of.ended tt (x0, tt) ws)) (fact 𝓤 (r ≡ countsOf x0)))
+  said-counts-of : (x0 : Creation) (r : Counts) → ent 𝓤 (ensured 𝓛 Counts-of.ended (Counts-of.clauses 𝓛 at_mem run) tt (x0, tt) tt r) (fact 𝓤 (r ≡ counts_of x0))
+  said-counts-of x0 r = ex_e 𝓤 _ (λ ws. snd∗ 𝓤 (sem 𝓛 (lasts Counts-of.ended tt (x0, tt) ws)) (fact 𝓤 (r ≡ counts_of x0)))
 
   abbrev C-hosts-sound : Contract 𝓤
   C-hosts-sound = triple_of 𝓛 hosts-sound.signature (hosts-sound.spec 𝓛 at_mem run)
 
-  said-hosts-sound : (κ : Lft) (t : Bor Table) (x0 : Counts) (r : Bool) → ent 𝓤 (ensured 𝓛 hosts-sound.ended (hosts-sound.clauses 𝓛 at_mem run) (κ, tt) (t, (x0, tt)) tt r) (fact 𝓤 (r ≡ hostsFormed (counted x0) t.now.hosts))
-  said-hosts-sound κ t x0 r = ex_e 𝓤 _ (λ ws. snd∗ 𝓤 (sem 𝓛 (lasts hosts-sound.ended (κ, tt) (t, (x0, tt)) ws)) (fact 𝓤 (r ≡ hostsFormed (counted x0) t.now.hosts)))
+  said-hosts-sound : (κ : Lft) (t : Bor Table) (x0 : Counts) (r : Bool) → ent 𝓤 (ensured 𝓛 hosts-sound.ended (hosts-sound.clauses 𝓛 at_mem run) (κ, tt) (t, (x0, tt)) tt r) (fact 𝓤 (r ≡ hosts_formed (counted x0) t.now.hosts))
+  said-hosts-sound κ t x0 r = ex_e 𝓤 _ (λ ws. snd∗ 𝓤 (sem 𝓛 (lasts hosts-sound.ended (κ, tt) (t, (x0, tt)) ws)) (fact 𝓤 (r ≡ hosts_formed (counted x0) t.now.hosts)))
 
   abbrev C-chunks-sound : Contract 𝓤
   C-chunks-sound = triple_of 𝓛 chunks-sound.signature (chunks-sound.spec 𝓛 at_mem run)
 
-  said-chunks-sound : (κ : Lft) (t : Bor Table) (x0 : Counts) (x1 : Epoch) (r : Bool) → ent 𝓤 (ensured 𝓛 chunks-sound.ended (chunks-sound.clauses 𝓛 at_mem run) (κ, tt) (t, (x0, (x1, tt))) tt r) (fact 𝓤 (r ≡ chunksFormed (counted x0) x1 t.now.chunks))
-  said-chunks-sound κ t x0 x1 r = ex_e 𝓤 _ (λ ws. snd∗ 𝓤 (sem 𝓛 (lasts chunks-sound.ended (κ, tt) (t, (x0, (x1, tt))) ws)) (fact 𝓤 (r ≡ chunksFormed (counted x0) x1 t.now.chunks)))
+  said-chunks-sound : (κ : Lft) (t : Bor Table) (x0 : Counts) (x1 : Epoch) (r : Bool) → ent 𝓤 (ensured 𝓛 chunks-sound.ended (chunks-sound.clauses 𝓛 at_mem run) (κ, tt) (t, (x0, (x1, tt))) tt r) (fact 𝓤 (r ≡ chunks_formed (counted x0) x1 t.now.chunks))
+  said-chunks-sound κ t x0 x1 r = ex_e 𝓤 _ (λ ws. snd∗ 𝓤 (sem 𝓛 (lasts chunks-sound.ended (κ, tt) (t, (x0, (x1, tt))) ws)) (fact 𝓤 (r ≡ chunks_formed (counted x0) x1 t.now.chunks)))
 
   abbrev C-records-sound : Contract 𝓤
   C-records-sound = triple_of 𝓛 records-sound.signature (records-sound.spec 𝓛 at_mem run)
 
-  said-records-sound : (κ : Lft) (t : Bor Table) (x0 : Counts) (r : Bool) → ent 𝓤 (ensured 𝓛 records-sound.ended (records-sound.clauses 𝓛 at_mem run) (κ, tt) (t, (x0, tt)) tt r) (fact 𝓤 (r ≡ recordsFormed (counted x0) t.now.records))
-  said-records-sound κ t x0 r = ex_e 𝓤 _ (λ ws. snd∗ 𝓤 (sem 𝓛 (lasts records-sound.ended (κ, tt) (t, (x0, tt)) ws)) (fact 𝓤 (r ≡ recordsFormed (counted x0) t.now.records)))
+  said-records-sound : (κ : Lft) (t : Bor Table) (x0 : Counts) (r : Bool) → ent 𝓤 (ensured 𝓛 records-sound.ended (records-sound.clauses 𝓛 at_mem run) (κ, tt) (t, (x0, tt)) tt r) (fact 𝓤 (r ≡ records_formed (counted x0) t.now.records))
+  said-records-sound κ t x0 r = ex_e 𝓤 _ (λ ws. snd∗ 𝓤 (sem 𝓛 (lasts records-sound.ended (κ, tt) (t, (x0, tt)) ws)) (fact 𝓤 (r ≡ records_formed (counted x0) t.now.records)))
 
   abbrev C-places-sound : Contract 𝓤
   C-places-sound = triple_of 𝓛 places-sound.signature (places-sound.spec 𝓛 at_mem run)
 
-  said-places-sound : (κ : Lft) (t : Bor Table) (x0 : Counts) (r : Bool) → ent 𝓤 (ensured 𝓛 places-sound.ended (places-sound.clauses 𝓛 at_mem run) (κ, tt) (t, (x0, tt)) tt r) (fact 𝓤 (r ≡ placesFormed (counted x0) t.now.places))
-  said-places-sound κ t x0 r = ex_e 𝓤 _ (λ ws. snd∗ 𝓤 (sem 𝓛 (lasts places-sound.ended (κ, tt) (t, (x0, tt)) ws)) (fact 𝓤 (r ≡ placesFormed (counted x0) t.now.places)))
+  said-places-sound : (κ : Lft) (t : Bor Table) (x0 : Counts) (r : Bool) → ent 𝓤 (ensured 𝓛 places-sound.ended (places-sound.clauses 𝓛 at_mem run) (κ, tt) (t, (x0, tt)) tt r) (fact 𝓤 (r ≡ places_formed (counted x0) t.now.places))
+  said-places-sound κ t x0 r = ex_e 𝓤 _ (λ ws. snd∗ 𝓤 (sem 𝓛 (lasts places-sound.ended (κ, tt) (t, (x0, tt)) ws)) (fact 𝓤 (r ≡ places_formed (counted x0) t.now.places)))
 
   abbrev C-all-formed : Contract 𝓤
   C-all-formed = triple_of 𝓛 all-formed.signature (all-formed.spec 𝓛 at_mem run)
 
-  said-all-formed : (x0 : Creation) (x1 : Epoch) (x2 : Bool) (x3 : Bool) (x4 : Bool) (x5 : Bool) (r : Bool) → ent 𝓤 (ensured 𝓛 all-formed.ended (all-formed.clauses 𝓛 at_mem run) tt (x0, (x1, (x2, (x3, (x4, (x5, tt)))))) tt r) (fact 𝓤 (r ≡ allFormed x0 x1 x2 x3 x4 x5))
-  said-all-formed x0 x1 x2 x3 x4 x5 r = ex_e 𝓤 _ (λ ws. snd∗ 𝓤 (sem 𝓛 (lasts all-formed.ended tt (x0, (x1, (x2, (x3, (x4, (x5, tt)))))) ws)) (fact 𝓤 (r ≡ allFormed x0 x1 x2 x3 x4 x5)))
+  said-all-formed : (x0 : Creation) (x1 : Epoch) (x2 : Bool) (x3 : Bool) (x4 : Bool) (x5 : Bool) (r : Bool) → ent 𝓤 (ensured 𝓛 all-formed.ended (all-formed.clauses 𝓛 at_mem run) tt (x0, (x1, (x2, (x3, (x4, (x5, tt)))))) tt r) (fact 𝓤 (r ≡ all_formed x0 x1 x2 x3 x4 x5))
+  said-all-formed x0 x1 x2 x3 x4 x5 r = ex_e 𝓤 _ (λ ws. snd∗ 𝓤 (sem 𝓛 (lasts all-formed.ended tt (x0, (x1, (x2, (x3, (x4, (x5, tt)))))) ws)) (fact 𝓤 (r ≡ all_formed x0 x1 x2 x3 x4 x5)))
 
 module _ {M : Type 1} {𝓤 : Ura M} (𝓛 : Logic 𝓤) (at_mem : Memory → SProp 𝓤) (run : Routine → Fun 𝓤) where
   open 𝓛 use {A}
@@ -209,7 +209,7 @@ module _ {M : Type 1} {𝓤 : Ura M} (𝓛 : Logic 𝓤) (at_mem : Memory → SP
   Post = (walk_of 𝓛 me.ended stayed (me.clauses 𝓛 at_mem run)).post (((κ, tt), (q, tt), tt, x, vs), tt)
 
   module _ (_ : Unit {0}) where
-    exits : (r : Bool) (v : Val) → Is Boolean r (v ∷ []) → r ≡ wellFormed h → ent 𝓤 (⋆ 𝓛 (‵ (flft κ q) ∷ ‵ ((ShrRef (named 0) κ TableR.the_row).own_val (rt γ h) (vptr b o ∷ [])) ∷ [])) (Post v)
+    exits : (r : Bool) (v : Val) → Is Boolean r (v ∷ []) → r ≡ well_formed h → ent 𝓤 (⋆ 𝓛 (‵ (flft κ q) ∷ ‵ ((ShrRef (named 0) κ TableR.the_row).own_val (rt γ h) (vptr b o ∷ [])) ∷ [])) (Post v)
     exits r v g eq =
         qed 𝓛 (‵ (flft κ q) ∷ ‵ ((ShrRef (named 0) κ TableR.the_row).own_val (rt γ h) (vptr b o ∷ [])) ∷ []) ∵
         suffices ! _ (ends_at 𝓛 me.ended stayed (me.clauses 𝓛 at_mem run) (((κ, tt), (q, tt), tt, x, vs), tt) v r (tt, tt) (tt, tt)) $ says ! eq $
@@ -252,14 +252,14 @@ module _ {M : Type 1} {𝓤 : Ura M} (𝓛 : Logic 𝓤) (at_mem : Memory → SP
           nothing ! $ use1 𝓛 (raw ((C-counts-of 𝓛 at_mem run).pre (to-counts-of 𝓛 at_mem run r1 w1))) (goes-counts-of 𝓛 at_mem run r1 w1 is1) $
           calls_at ! fm (C-counts-of 𝓛 at_mem run) known-counts-of (to-counts-of 𝓛 at_mem run r1 w1) (and_then ! (load ! (from ! (stop !)) (look ! 15 {q = full_share} {τ = CreationL.mir} {b = l2} {o = 0} {v = w1} refl)) (no_more !)) (λ w3.
           use1 𝓛 (later (some (λ (r : Counts). (‵ ftrue ⊛ ‵ ((CountsR.the_row).own_val r (w3 ∷ []))) ⊛ raw (ensured 𝓛 Counts-of.ended (Counts-of.clauses 𝓛 at_mem run) tt (r1, tt) tt r)))) (id⊢ 𝓤 _) $ await ! tt $ pick ! (λ r3. split ! $ move ! (1 ∷ []) $
-          use1 𝓛 (raw (fact 𝓤 (r3 ≡ countsOf r1))) (said-counts-of 𝓛 at_mem run r1 r3) $ heard ! (r3 ≡ countsOf r1) (λ e3. split ! $ drop ! $ facts ! CountsR.the_row (Is CountsR.the_row) (shows 𝓛 CountsR.the_row) r3 (w3 ∷ []) (λ is3.
+          use1 𝓛 (raw (fact 𝓤 (r3 ≡ counts_of r1))) (said-counts-of 𝓛 at_mem run r1 r3) $ heard ! (r3 ≡ counts_of r1) (λ e3. split ! $ drop ! $ facts ! CountsR.the_row (Is CountsR.the_row) (shows 𝓛 CountsR.the_row) r3 (w3 ∷ []) (λ is3.
           land ! (from ! (stop !)) (init ! 10 {τ = CountsL.mir} {v = w3} refl ((LL.lawful CountsR.the_type CountsL.the_laws 𝓛).typed r3 _ is3).0) $
           -- _5 = table_sound::hosts_sound(_1, _4)
           move ! (1 ∷ []) $ use1 𝓛 (‵ ((ShrRef (named 0) κ TableR.the_row).own_val (rt γ h) (vptr b o ∷ [])) ⊛ ‵ ((ShrRef (named 0) κ TableR.the_row).own_val (rt γ h) (vptr b o ∷ []))) ((shr_copy 𝓛 (named 0) κ TableR.the_row).twice (rt γ h) (vptr b o ∷ [])) $ split ! $ move ! (2 ∷ 0 ∷ []) $
           use2 𝓛 (raw ((C-hosts-sound 𝓛 at_mem run).pre (to-hosts-sound 𝓛 at_mem run κ q (rt γ h) r3 w3))) (goes-hosts-sound 𝓛 at_mem run κ q (rt γ h) r3 w3 is3) $
           calls_at ! fm (C-hosts-sound 𝓛 at_mem run) known-hosts-sound (to-hosts-sound 𝓛 at_mem run κ q (rt γ h) r3 w3) (and_then ! (load ! (from ! (stop !)) (look ! 16 refl)) (and_then ! (load ! (from ! (stop !)) (look ! 10 {q = full_share} {τ = CountsL.mir} {b = l4} {o = 0} {v = w3} refl)) (no_more !))) (λ w4.
           use1 𝓛 (later (some (λ (r : Bool). ((‵ (flft κ q) ⊛ ‵ ftrue) ⊛ ‵ (Boolean.own r (w4 ∷ []))) ⊛ raw (ensured 𝓛 hosts-sound.ended (hosts-sound.clauses 𝓛 at_mem run) (κ, tt) ((rt γ h), (r3, tt)) tt r)))) (id⊢ 𝓤 _) $ await ! tt $ pick ! (λ r4. split ! $ move ! (1 ∷ []) $
-          use1 𝓛 (raw (fact 𝓤 (r4 ≡ hostsFormed (counted r3) h.hosts))) (said-hosts-sound 𝓛 at_mem run κ (rt γ h) r3 r4) $ heard ! (r4 ≡ hostsFormed (counted r3) h.hosts) (λ e4. split ! $ move ! (1 ∷ []) $ facts ! Boolean (Is Boolean) (shows 𝓛 Boolean) r4 (w4 ∷ []) (λ is4.
+          use1 𝓛 (raw (fact 𝓤 (r4 ≡ hosts_formed (counted r3) h.hosts))) (said-hosts-sound 𝓛 at_mem run κ (rt γ h) r3 r4) $ heard ! (r4 ≡ hosts_formed (counted r3) h.hosts) (λ e4. split ! $ move ! (1 ∷ []) $ facts ! Boolean (Is Boolean) (shows 𝓛 Boolean) r4 (w4 ∷ []) (λ is4.
           land ! (from ! (stop !)) (init ! 8 {τ = ty_bool} {v = w4} refl ((bool_Lawful 𝓛).typed r4 _ is4).0) $
           split ! $ move ! (1 ∷ []) $ drop ! $
           -- _6 = table_sound::chunks_sound(_1, _4, _3)
@@ -267,7 +267,7 @@ module _ {M : Type 1} {𝓤 : Ura M} (𝓛 : Logic 𝓤) (at_mem : Memory → SP
           use2 𝓛 (raw ((C-chunks-sound 𝓛 at_mem run).pre (to-chunks-sound 𝓛 at_mem run κ q (rt γ h) r3 w3 r2 w2))) (goes-chunks-sound 𝓛 at_mem run κ q (rt γ h) r3 w3 r2 w2 is3 is2) $
           calls_at ! fm (C-chunks-sound 𝓛 at_mem run) known-chunks-sound (to-chunks-sound 𝓛 at_mem run κ q (rt γ h) r3 w3 r2 w2) (and_then ! (load ! (from ! (stop !)) (look ! 16 refl)) (and_then ! (load ! (from ! (stop !)) (look ! 10 {q = full_share} {τ = CountsL.mir} {b = l4} {o = 0} {v = w3} refl)) (and_then ! (load ! (from ! (stop !)) (look ! 12 {q = full_share} {τ = EpochL.mir} {b = l3} {o = 0} {v = w2} refl)) (no_more !)))) (λ w5.
           use1 𝓛 (later (some (λ (r : Bool). ((‵ (flft κ q) ⊛ ‵ ftrue) ⊛ ‵ (Boolean.own r (w5 ∷ []))) ⊛ raw (ensured 𝓛 chunks-sound.ended (chunks-sound.clauses 𝓛 at_mem run) (κ, tt) ((rt γ h), (r3, (r2, tt))) tt r)))) (id⊢ 𝓤 _) $ await ! tt $ pick ! (λ r5. split ! $ move ! (1 ∷ []) $
-          use1 𝓛 (raw (fact 𝓤 (r5 ≡ chunksFormed (counted r3) r2 h.chunks))) (said-chunks-sound 𝓛 at_mem run κ (rt γ h) r3 r2 r5) $ heard ! (r5 ≡ chunksFormed (counted r3) r2 h.chunks) (λ e5. split ! $ move ! (1 ∷ []) $ facts ! Boolean (Is Boolean) (shows 𝓛 Boolean) r5 (w5 ∷ []) (λ is5.
+          use1 𝓛 (raw (fact 𝓤 (r5 ≡ chunks_formed (counted r3) r2 h.chunks))) (said-chunks-sound 𝓛 at_mem run κ (rt γ h) r3 r2 r5) $ heard ! (r5 ≡ chunks_formed (counted r3) r2 h.chunks) (λ e5. split ! $ move ! (1 ∷ []) $ facts ! Boolean (Is Boolean) (shows 𝓛 Boolean) r5 (w5 ∷ []) (λ is5.
           land ! (from ! (stop !)) (init ! 6 {τ = ty_bool} {v = w5} refl ((bool_Lawful 𝓛).typed r5 _ is5).0) $
           split ! $ move ! (1 ∷ []) $ drop ! $
           -- _7 = table_sound::records_sound(_1, _4)
@@ -275,7 +275,7 @@ module _ {M : Type 1} {𝓤 : Ura M} (𝓛 : Logic 𝓤) (at_mem : Memory → SP
           use2 𝓛 (raw ((C-records-sound 𝓛 at_mem run).pre (to-records-sound 𝓛 at_mem run κ q (rt γ h) r3 w3))) (goes-records-sound 𝓛 at_mem run κ q (rt γ h) r3 w3 is3) $
           calls_at ! fm (C-records-sound 𝓛 at_mem run) known-records-sound (to-records-sound 𝓛 at_mem run κ q (rt γ h) r3 w3) (and_then ! (load ! (from ! (stop !)) (look ! 16 refl)) (and_then ! (load ! (from ! (stop !)) (look ! 10 {q = full_share} {τ = CountsL.mir} {b = l4} {o = 0} {v = w3} refl)) (no_more !))) (λ w6.
           use1 𝓛 (later (some (λ (r : Bool). ((‵ (flft κ q) ⊛ ‵ ftrue) ⊛ ‵ (Boolean.own r (w6 ∷ []))) ⊛ raw (ensured 𝓛 records-sound.ended (records-sound.clauses 𝓛 at_mem run) (κ, tt) ((rt γ h), (r3, tt)) tt r)))) (id⊢ 𝓤 _) $ await ! tt $ pick ! (λ r6. split ! $ move ! (1 ∷ []) $
-          use1 𝓛 (raw (fact 𝓤 (r6 ≡ recordsFormed (counted r3) h.records))) (said-records-sound 𝓛 at_mem run κ (rt γ h) r3 r6) $ heard ! (r6 ≡ recordsFormed (counted r3) h.records) (λ e6. split ! $ move ! (1 ∷ []) $ facts ! Boolean (Is Boolean) (shows 𝓛 Boolean) r6 (w6 ∷ []) (λ is6.
+          use1 𝓛 (raw (fact 𝓤 (r6 ≡ records_formed (counted r3) h.records))) (said-records-sound 𝓛 at_mem run κ (rt γ h) r3 r6) $ heard ! (r6 ≡ records_formed (counted r3) h.records) (λ e6. split ! $ move ! (1 ∷ []) $ facts ! Boolean (Is Boolean) (shows 𝓛 Boolean) r6 (w6 ∷ []) (λ is6.
           land ! (from ! (stop !)) (init ! 4 {τ = ty_bool} {v = w6} refl ((bool_Lawful 𝓛).typed r6 _ is6).0) $
           split ! $ move ! (1 ∷ []) $ drop ! $
           -- _8 = table_sound::places_sound(_1, _4)
@@ -283,14 +283,14 @@ module _ {M : Type 1} {𝓤 : Ura M} (𝓛 : Logic 𝓤) (at_mem : Memory → SP
           use2 𝓛 (raw ((C-places-sound 𝓛 at_mem run).pre (to-places-sound 𝓛 at_mem run κ q (rt γ h) r3 w3))) (goes-places-sound 𝓛 at_mem run κ q (rt γ h) r3 w3 is3) $
           calls_at ! fm (C-places-sound 𝓛 at_mem run) known-places-sound (to-places-sound 𝓛 at_mem run κ q (rt γ h) r3 w3) (and_then ! (load ! (from ! (stop !)) (look ! 16 refl)) (and_then ! (load ! (from ! (stop !)) (look ! 10 {q = full_share} {τ = CountsL.mir} {b = l4} {o = 0} {v = w3} refl)) (no_more !))) (λ w7.
           use1 𝓛 (later (some (λ (r : Bool). ((‵ (flft κ q) ⊛ ‵ ftrue) ⊛ ‵ (Boolean.own r (w7 ∷ []))) ⊛ raw (ensured 𝓛 places-sound.ended (places-sound.clauses 𝓛 at_mem run) (κ, tt) ((rt γ h), (r3, tt)) tt r)))) (id⊢ 𝓤 _) $ await ! tt $ pick ! (λ r7. split ! $ move ! (1 ∷ []) $
-          use1 𝓛 (raw (fact 𝓤 (r7 ≡ placesFormed (counted r3) h.places))) (said-places-sound 𝓛 at_mem run κ (rt γ h) r3 r7) $ heard ! (r7 ≡ placesFormed (counted r3) h.places) (λ e7. split ! $ move ! (1 ∷ []) $ facts ! Boolean (Is Boolean) (shows 𝓛 Boolean) r7 (w7 ∷ []) (λ is7.
+          use1 𝓛 (raw (fact 𝓤 (r7 ≡ places_formed (counted r3) h.places))) (said-places-sound 𝓛 at_mem run κ (rt γ h) r3 r7) $ heard ! (r7 ≡ places_formed (counted r3) h.places) (λ e7. split ! $ move ! (1 ∷ []) $ facts ! Boolean (Is Boolean) (shows 𝓛 Boolean) r7 (w7 ∷ []) (λ is7.
           land ! (from ! (stop !)) (init ! 2 {τ = ty_bool} {v = w7} refl ((bool_Lawful 𝓛).typed r7 _ is7).0) $
           split ! $ move ! (1 ∷ []) $ drop ! $
           -- _0 = table_sound::all_formed(_2, _3, _5, _6, _7, _8)
           nothing ! $ use1 𝓛 (raw ((C-all-formed 𝓛 at_mem run).pre (to-all-formed 𝓛 at_mem run r1 w1 r2 w2 r4 w4 r5 w5 r6 w6 r7 w7))) (goes-all-formed 𝓛 at_mem run r1 w1 r2 w2 r4 w4 r5 w5 r6 w6 r7 w7 is1 is2 is4 is5 is6 is7) $
           calls_at ! fm (C-all-formed 𝓛 at_mem run) known-all-formed (to-all-formed 𝓛 at_mem run r1 w1 r2 w2 r4 w4 r5 w5 r6 w6 r7 w7) (and_then ! (load ! (from ! (stop !)) (look ! 15 {q = full_share} {τ = CreationL.mir} {b = l2} {o = 0} {v = w1} refl)) (and_then ! (load ! (from ! (stop !)) (look ! 13 {q = full_share} {τ = EpochL.mir} {b = l3} {o = 0} {v = w2} refl)) (and_then ! (load ! (from ! (stop !)) (look ! 9 {q = full_share} {τ = ty_bool} {b = l5} {o = 0} {v = w4} refl)) (and_then ! (load ! (from ! (stop !)) (look ! 7 {q = full_share} {τ = ty_bool} {b = l6} {o = 0} {v = w5} refl)) (and_then ! (load ! (from ! (stop !)) (look ! 5 {q = full_share} {τ = ty_bool} {b = l7} {o = 0} {v = w6} refl)) (and_then ! (load ! (from ! (stop !)) (look ! 3 {q = full_share} {τ = ty_bool} {b = l8} {o = 0} {v = w7} refl)) (no_more !))))))) (λ w8.
           use1 𝓛 (later (some (λ (r : Bool). (‵ ftrue ⊛ ‵ (Boolean.own r (w8 ∷ []))) ⊛ raw (ensured 𝓛 all-formed.ended (all-formed.clauses 𝓛 at_mem run) tt (r1, (r2, (r4, (r5, (r6, (r7, tt)))))) tt r)))) (id⊢ 𝓤 _) $ await ! tt $ pick ! (λ r8. split ! $ move ! (1 ∷ []) $
-          use1 𝓛 (raw (fact 𝓤 (r8 ≡ allFormed r1 r2 r4 r5 r6 r7))) (said-all-formed 𝓛 at_mem run r1 r2 r4 r5 r6 r7 r8) $ heard ! (r8 ≡ allFormed r1 r2 r4 r5 r6 r7) (λ e8. split ! $ drop ! $ facts ! Boolean (Is Boolean) (shows 𝓛 Boolean) r8 (w8 ∷ []) (λ is8.
+          use1 𝓛 (raw (fact 𝓤 (r8 ≡ all_formed r1 r2 r4 r5 r6 r7))) (said-all-formed 𝓛 at_mem run r1 r2 r4 r5 r6 r7 r8) $ heard ! (r8 ≡ all_formed r1 r2 r4 r5 r6 r7) (λ e8. split ! $ drop ! $ facts ! Boolean (Is Boolean) (shows 𝓛 Boolean) r8 (w8 ∷ []) (λ is8.
           land ! (from ! (stop !)) (init ! 18 {τ = ty_bool} {v = w8} refl ((bool_Lawful 𝓛).typed r8 _ is8).0) $
           returns ! (look ! 18 {q = full_share} {τ = ty_bool} {b = l0} {o = 0} {v = w8} refl) $
           forget ! 2 refl $ forget ! 4 refl $ forget ! 6 refl $ forget ! 8 refl $ forget ! 10 refl $ forget ! 12 refl $ forget ! 14 refl $ forget ! 16 refl $ forget ! 18 refl $

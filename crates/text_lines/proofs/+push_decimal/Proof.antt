@@ -6,7 +6,7 @@ use borrow.Fn.Kinds.{In}
 use borrow.Fn.PlainCycle.{Measures, is, falls, and}
 use Rattle.text_lines.proofs.push_decimal.Kinds as push-decimal-kinds
 use Rattle.text_lines.proofs.+push_decimal.Lts-push_decimal as push-decimal-lts
-use Rattle.text_lines.proofs.Texts.{push-one, push-more}
+use Rattle.text_lines.proofs.Texts.{push_one, push_more}
 use Rattle.text_lines.proofs.+push_decimal.{statement}
 use Rattle.text_lines.proofs.push_decimal.Reads as push-decimal
 use Rattle.text_lines.proofs.push.Reads as push-reads
@@ -57,7 +57,7 @@ push-decimal-returns : (t : ℕ) → push-decimal-lts.Need-returns (
   push-decimal-below t,
   push-decimal.Post,
 ) (push-decimal-at t) push-decimal.Post
-push-decimal-returns t c = c.push.ensures ∙ push-one c.before.before.args.t c.before.before.args.n c.before.if1.true
+push-decimal-returns t c = c.push.ensures ∙ push_one c.before.before.args.t c.before.before.args.n c.before.if1.true
 
 push-decimal-push-decimal-requires : (t : ℕ) → push-decimal-lts.Need-push-decimal-requires (
   push-reads.Asked,
@@ -99,7 +99,7 @@ push-decimal-returns-2 : (t : ℕ) → push-decimal-lts.Need-returns-2 (
 ) (push-decimal-at t) push-decimal.Post
 push-decimal-returns-2 t c =
     let s = c.before.before.before in
-    c.push2.ensures ∙ push-more s.args.t s.args.n c.before.before.if1.false s.ranges.n.fits c.before.push-decimal.result c.before.push-decimal.ensures
+    c.push2.ensures ∙ push_more s.args.t s.args.n c.before.before.if1.false s.ranges.n.fits c.before.push-decimal.result c.before.push-decimal.ensures
 
 pub +push-decimal-spec : {M : Type 1} → statement M
 +push-decimal-spec = close μ-push-decimal λ t. push-decimal-lts.spec (

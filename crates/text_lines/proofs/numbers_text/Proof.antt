@@ -1,13 +1,13 @@
 -- `text_lines::numbers_text` meets its contract
 use borrow.Author.Rules.{rules}
-use Rattle.text_lines.proofs.Texts.{five-line}
+use Rattle.text_lines.proofs.Texts.{five_line}
 use Rattle.text_lines.proofs.numbers_text.Statement.{statement}
 use Rattle.text_lines.proofs.numbers_text.Tie as tie
 
 returns : tie.Need-returns
 returns c =
     let c1 = c.before.before.before.before in
-    five-line _ _ _ _ _ _ _ _ _ _ (rw (← c1.before.no_text.ensures) c1.push-number.ensures) c.before.before.before.push-number2.ensures
+    five_line _ _ _ _ _ _ _ _ _ _ (rw (← c1.before.no_text.ensures) c1.push-number.ensures) c.before.before.before.push-number2.ensures
     c.before.before.push-number3.ensures c.before.push-number4.ensures c.push-number5.ensures
 
 pub numbers-text-spec : {M : Type 1} → statement M

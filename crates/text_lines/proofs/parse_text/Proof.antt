@@ -11,7 +11,7 @@ use Rattle.text_lines.proofs.parse_text.Statement.{statement}
 use Rattle.text_lines.proofs.parse_text.Tie as tie
 
 len : (c : tie.Start) → length c.args.t.bytes ≡ 121
-len c = simp length-map at c.well-formed.0.1.1.0.1.0.1
+len c = simp length-map at c.well_formed_lem.0.1.1.0.1.0.1
 
 array-share-prefix-bytes : tie.Need-array-share-prefix-bytes
 array-share-prefix-bytes c =

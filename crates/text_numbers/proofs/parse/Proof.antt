@@ -7,19 +7,19 @@ use borrow.Author.Rules.{rules}
 use Rattle.rules.specs.Words.{fold}
 use Rattle.rules.proofs.Loops.{fold_more, fold_end}
 use Rattle.text_numbers.specs.declared.Reading.{Reading}
-use Rattle.text_numbers.specs.Steps.{newReading, ended, taken}
-use Rattle.text_numbers.proofs.Laws.{taken-count, line_read, line-long}
+use Rattle.text_numbers.specs.Steps.{new_reading, ended, taken}
+use Rattle.text_numbers.proofs.Laws.{taken-count, line_read, line_long}
 use Rattle.text_numbers.proofs.parse.Statement.{statement}
 use Rattle.text_numbers.proofs.parse.Tie as tie
 
 abbrev invariant-loop : tie.invariant-loop
-invariant-loop line r₀ i₀ r i = (i ≤ length line) × (r.line.count ≤ i) × (fold taken r (drop i line) ≡ fold taken newReading line)
+invariant-loop line r₀ i₀ r i = (i ≤ length line) × (r.line.count ≤ i) × (fold taken r (drop i line) ≡ fold taken new_reading line)
 
 abbrev decreases-loop : tie.decreases-loop
 decreases-loop line r₀ i₀ r i = length line - i
 
 returns : tie.Need-returns invariant-loop decreases-loop
-returns c = c.bad-line.ensures ∙ line-long _ c.before.if1.true
+returns c = c.bad-line.ensures ∙ line_long _ c.before.if1.true
 
 loop-holds : tie.Need-loop-init invariant-loop decreases-loop
 loop-holds c = (omega arith, rw c.new-reading.ensures (omega arith), ap (λ (r : Reading). fold taken r c.before.before.before.args.line.now) c.new-reading.ensures)

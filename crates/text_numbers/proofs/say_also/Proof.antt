@@ -8,7 +8,7 @@ use Rattle.text_numbers.proofs.say_also.Statement.{statement}
 use Rattle.text_numbers.proofs.say_also.Tie as tie
 
 len : (c : tie.Start) → length c.args.l.numbers ≡ 16
-len c = simp length-map at c.well-formed.0.1.1.1.1.0.1.0.1
+len c = simp length-map at c.well_formed_lem.0.1.1.1.1.0.1.0.1
 
 returns : tie.Need-returns
 returns c = search rules

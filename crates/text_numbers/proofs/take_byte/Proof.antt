@@ -4,12 +4,12 @@ use mathlib.Core.Path.{◌∙◌, ap}
 use borrow.Author.Rules.{rules}
 use borrow.Author.Tests.{not-true, not-false}
 use Rattle.text_numbers.specs.Steps.{continued}
-use Rattle.text_numbers.proofs.Laws.{taken-bad, taken-space, taken-below, taken-above, taken-digit}
+use Rattle.text_numbers.proofs.Laws.{taken_bad, taken-space, taken-below, taken-above, taken_digit}
 use Rattle.text_numbers.proofs.take_byte.Statement.{statement}
 use Rattle.text_numbers.proofs.take_byte.Tie as tie
 
 returns : tie.Need-returns
-returns c = taken-bad _ _ (not-true _ c.if1.true)
+returns c = taken_bad _ _ (not-true _ c.if1.true)
 
 returns-2 : tie.Need-returns-2
 returns-2 c = c.end-word.ensures ∙ taken-space _ _ (not-false _ c.before.before.if1.false) c.before.if2.true
@@ -26,7 +26,7 @@ returns-5 c =
     let r = c2.before.before.before.before.args.r in
     c.add-digit.ensures
     ∙ ap (λ (n : ℕ). continued r (n - 48)) c.before.wide.ensures
-    ∙ taken-digit _ _ (not-false _ c2.before.if1.false) c2.if2.false c.before.before.before.if3.false c.before.before.if4.false
+    ∙ taken_digit _ _ (not-false _ c2.before.if1.false) c2.if2.false c.before.before.before.if3.false c.before.before.if4.false
 
 pub take-byte-spec : {M : Type 1} → statement M
 take-byte-spec =
