@@ -131,10 +131,12 @@ def main(argv):
             if len(ns) > 1:
                 print("fall together:", to, sorted(ns))
         return 0
+    prose = {n for n in renamed if re.fullmatch("[a-z]+", n)}  # words of the language too: names in .antt alone
     paths = [p for p in glob.glob(root + "/crates/**/*", recursive=True) if p.endswith((".antt", ".rt", ".edit")) and "/out/" not in p]
     for path in paths:
         text = read(path)
-        new = turned(text, renamed | lent(text, path, root, clash, own), imported(text, own))
+        plain = set() if path.endswith(".antt") else prose
+        new = turned(text, renamed | lent(text, path, root, clash, own), imported(text, own) | plain)
         if new != text:
             with open(path, "w", encoding="utf-8") as f:
                 f.write(new)
@@ -142,7 +144,7 @@ def main(argv):
         if path.endswith("PORT.md"):
             continue
         text = read(path)
-        new = re.sub(r"`[^`\n]+`|\|[^\n]*\|", lambda m: turned(m.group(0), renamed, set()), text)
+        new = re.sub(r"`[^`\n]+`|\|[^\n]*\|", lambda m: turned(m.group(0), renamed, prose), text)
         if new != text:
             with open(path, "w", encoding="utf-8") as f:
                 f.write(new)

@@ -16,7 +16,7 @@ pub fn create(k: Creation) -> Created
     table_creation::create(k)
 }
 
-// ---- what is read of an event, and Said of it
+// ---- what is read of an event, and said of it
 
 // A code without an outcome: a refusal's, or that of an event that has none.
 fn quiet(code: u64) -> Reply

@@ -218,7 +218,7 @@ module _ (b : ℕ) (h : Hist) (t : Table) (f : Formed t) (s : Shape t) (lb : is_
     abbrev QuietTo : ℕ → Host → Type 0
     QuietTo j y = Quiet S b t.places t.epoch.0 (seats_of t j) (seat_of y)
 
-    -- nothing new is Said
+    -- nothing new is said
     as_before : (j : ℕ) → QuietTo j (host_of t j)
     as_before j = same-host S b t.places t.epoch.0 (seats_of t j) (seats_of t j)
         (front_same (host_of t j) (host_of t j) refl) refl refl (i.known j) refl refl refl

@@ -14,7 +14,7 @@ use Rattle.rules.specs.Zero.{◌among◌, zero_place}
 use Rattle.rules.proofs.Messages.{made}
 use Rattle.one_copy.proofs.Lists.{Any, any_set, any_get_d, any_those, any_numbers}
 
--- what is Said by a read, by a prewrite's epoch and value, by a commit, an abort, a read reply's value, a prewrite reply: a message
+-- what is said by a read, by a prewrite's epoch and value, by a commit, an abort, a read reply's value, a prewrite reply: a message
 -- says it by its sort, and a refusal says nothing
 abbrev Said : (read : Type 0) → (prewrite : ℕ → ℕ → Type 0) → (commit abort : Type 0) → (value : ℕ → Type 0) → (ack : Type 0) → Sort → Type 0
 Said r p c a v k (Sort.Request e Request.Read) = r
