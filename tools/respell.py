@@ -76,6 +76,10 @@ def table(root):
     own = crates(root)
     facts = {n for n, at in found.items() if n[0].islower() and any(re.search(r"Type 0\s*$", rest) for _, rest in at)}
     renamed = {n: spelled(n, found, n in facts) for n in found if re.match(r"[A-Za-z]", n)}
+    # the uniqueness of a function's answer: its name keeps its spelling, and a dash joins it to the word
+    for n, at in found.items():
+        if n.endswith("-unique") and at[0][0].endswith("/proofs/Unique.antt") and "/rules/" not in at[0][0]:
+            renamed[n] = n[: -len("-unique")].replace("-", "_") + "-unique"
     # names that a lemma binds: a dash there is between plain words
     for path in glob.glob(root + "/crates/*/proofs/*.antt"):
         text = read(path)

@@ -8,11 +8,11 @@ use Rattle.chunk_alone.proofs.take_lease.Reads as take_lease_contract
 fail-unique : Determined fail_contract.Learnt
 fail-unique κs a x y s u = unique
 
-recover_unique : Determined recover_contract.Learnt
-recover_unique κs a x y s u = unique
+recover-unique : Determined recover_contract.Learnt
+recover-unique κs a x y s u = unique
 
-take_lease_unique : Determined take_lease_contract.Learnt
-take_lease_unique κs a x y s u = unique
+take_lease-unique : Determined take_lease_contract.Learnt
+take_lease-unique κs a x y s u = unique
 
-give_lease_unique : Determined give_lease_contract.Learnt
-give_lease_unique κs a x y s u = unique
+give_lease-unique : Determined give_lease_contract.Learnt
+give_lease-unique κs a x y s u = unique

@@ -1,4 +1,6 @@
 // One chunk by itself: it fails, recovers, takes and gives its lease.
+#![tactic(auto)]
+
 ghost use Rattle.std.specs.Prelude.{◌≡◌, eqb};
 ghost use Rattle.rules.specs.Codes.{code_of, unless_refused};
 ghost use Rattle.rules.specs.Chunks.{with_state, fail_refusals, failed, recover_refusals, recovered, take_lease_refusals, lease_taken, give_lease_refusals, lease_given};
@@ -7,7 +9,7 @@ ghost use Rattle.rules.specs.Words.{if◌then◌else◌};
 use rules::{Chunk, State};
 
 // What an event makes of its chunk: 0 and the chunk after it, or a refusal's code and the chunk as it was.
-#[derive(Drop)]
+#[derive(Clone, Copy)]
 pub struct Changed {
     pub code: u64,
     pub chunk: Chunk,

@@ -2,5 +2,5 @@
 use Rattle.rules.proofs.Unique.{unique, Determined}
 use Rattle.chunk_arrival.proofs.arrive.Reads as arrive_contract
 
-arrive_unique : Determined arrive_contract.Learnt
-arrive_unique κs a x y s u = unique
+arrive-unique : Determined arrive_contract.Learnt
+arrive-unique κs a x y s u = unique

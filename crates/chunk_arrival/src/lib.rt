@@ -1,4 +1,6 @@
 // A message arrives at a chunk: what it makes of the chunk and its record of the block, and the reply.
+#![tactic(auto)]
+
 ghost use Rattle.std.specs.Prelude.{◌≡◌};
 ghost use Rattle.rules.specs.Chunks.{answering, refusing, silent, is_out_of_order, waits, arrived, decides, at_chunk, arrives};
 ghost use Rattle.rules.specs.Messages.{header_of, sort_of};

@@ -29,8 +29,8 @@ fail_in_states : {M : Type 1} {𝓤 : Ura M} (𝓛 : Logic 𝓤) (at_mem : Memor
     → (fail_in_contract.clauses 𝓛 at_mem run κs a).ensures tt out end ≡ fact 𝓤 (Learnt a.0.now a.1.0 out end.0.now)
 fail_in_states 𝓛 at_mem run κs a out end = refl
 
-fail_in_unique : (t : Table) (chunk : ℕ) (x y : ℕ) (left right : Table) → Learnt t chunk x left → Learnt t chunk y right → (x ≡ y) × (left ≡ right)
-fail_in_unique t chunk x y left right p q = (unique p.0 q.0, unique p.1 q.1)
+fail_in-unique : (t : Table) (chunk : ℕ) (x y : ℕ) (left right : Table) → Learnt t chunk x left → Learnt t chunk y right → (x ≡ y) × (left ≡ right)
+fail_in-unique t chunk x y left right p q = (unique p.0 q.0, unique p.1 q.1)
 
 -- where it is granted this is what rules' step leaves
 fail_in_effect : (t : Table) (chunk : ℕ) → code_of (fail_refusals (chunk_of t chunk).state) ≡ 0 → failed_to chunk t ≡ (fail_rule t chunk 0 0).effect.table

@@ -1,4 +1,6 @@
 // Event 11 of a lent table where it lies: the chunk fails, and what waits in it goes, block by block.
+#![tactic(auto)]
+
 ghost use Rattle.std.specs.Prelude.{◌≡◌, not, eqb};
 ghost use Rattle.rules.specs.Chunks.{fail_refusals, emptied};
 ghost use Rattle.rules.specs.Codes.{code_of};

@@ -1,4 +1,6 @@
 // The head of a waiting list at a chunk: it runs, or its block is overdue.
+#![tactic(auto)]
+
 ghost use Rattle.std.specs.Prelude.{◌<◌, ◌^◌, ◌≡◌, pos, ◌-ℤ◌};
 ghost use Rattle.std.specs.Int.Signed.{lt_z};
 ghost use Rattle.rules.specs.declared.Kind.{Kind};
@@ -13,7 +15,7 @@ use rules::{
 };
 
 // What a run leaves: 0, the chunk and its record after it and the reply, if any; or a refusal's code, both as they were, no reply.
-#[derive(Drop)]
+#[derive(Clone, Copy)]
 pub struct Ran {
     pub code: u64,
     pub left: Arrived,

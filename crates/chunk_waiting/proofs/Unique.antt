@@ -6,8 +6,8 @@ use Rattle.chunk_waiting.proofs.insert.Reads as insert_contract
 use Rattle.chunk_waiting.proofs.mark.Reads as mark_contract
 use Rattle.chunk_waiting.proofs.remove_head.Reads as remove_head_contract
 
-find_unique : Determined find_contract.Learnt
-find_unique κs a x y s u = unique
+find-unique : Determined find_contract.Learnt
+find-unique κs a x y s u = unique
 
 head-unique : Determined head_contract.Learnt
 head-unique κs a x y s u = unique
@@ -15,8 +15,8 @@ head-unique κs a x y s u = unique
 insert-unique : Determined insert_contract.Learnt
 insert-unique κs a x y s u = unique
 
-remove_head_unique : Determined remove_head_contract.Learnt
-remove_head_unique κs a x y s u = unique
+remove_head-unique : Determined remove_head_contract.Learnt
+remove_head-unique κs a x y s u = unique
 
 mark-unique : Determined mark_contract.Learnt
 mark-unique κs a x y s u = unique

@@ -1,5 +1,7 @@
 // The waiting list of a block in a chunk. Each function is total: a count above 8 stands for 8 entries, and what lies in unused places
 // does not survive.
+#![tactic(auto)]
+
 ghost use Rattle.std.specs.Prelude.{◌≤◌, ◌≡◌, length};
 ghost use Rattle.rules.specs.Limits.{waiting_limit};
 ghost use Rattle.rules.specs.Waiting.{in_order, holding, inserted, head, head_removed, first_with, decided_kind, decided, marked};

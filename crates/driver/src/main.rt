@@ -1,6 +1,8 @@
 // The store driver: a session from standard input to standard output. Document 01, "One session, whole".
 // What a line says and what an answer looks like is promised by `text_lines`, what an event does by `engine`; here is what reads and
 // writes, and that it is safe and ends. Memory does not grow with the input: of a line that is too long no more is kept than shows it.
+#![tactic(auto)]
+
 ghost use Rattle.std.specs.Prelude.{◌+◌, ◌≤◌, ◌≡◌, length};
 ghost use Rattle.std.proofs.Math.Seq.{paste};
 ghost use Rattle.text_lines.specs.Texts.{text_limit};
@@ -11,14 +13,14 @@ use text_lines::Text;
 use text_meanings::Asked;
 
 // The bytes of the block of input that are not looked at yet.
-#[derive(Drop)]
+#[derive(Clone, Copy)]
 struct Unread {
     at: usize,
     end: usize,
 }
 
 // The next line and what is unread behind it. At the end of the input there is none, and its text is empty.
-#[derive(Drop)]
+#[derive(Clone, Copy)]
 struct Next {
     found: bool,
     text: Text,

@@ -19,8 +19,8 @@ use Rattle.engine.proofs.create.Reads as create_contract
 use Rattle.engine.specs.contracts.step as step_contract
 use Rattle.engine.specs.contracts.step_in as step_in_contract
 
-create_unique : Determined create_contract.Learnt
-create_unique κs a x y s u = unique
+create-unique : Determined create_contract.Learnt
+create-unique κs a x y s u = unique
 
 -- what a caller of the others learns
 abbrev Answered : Table → Event → (out : Answer) → Type 0
@@ -42,5 +42,5 @@ module _ {M : Type 1} {𝓤 : Ura M} (𝓛 : Logic 𝓤) (at_mem : Memory → SP
 step-unique : (t : Table) (e : Event) (x y : Answer) → Answered t e x → Answered t e y → x ≡ y
 step-unique t e x y = unique
 
-step_in_unique : (t : Table) (e : Event) (x y : Reply) (left right : Table) → Learnt t e x left → Learnt t e y right → (x ≡ y) × (left ≡ right)
-step_in_unique t e x y left right p q = (unique p.0 q.0, unique p.1 q.1)
+step_in-unique : (t : Table) (e : Event) (x y : Reply) (left right : Table) → Learnt t e x left → Learnt t e y right → (x ≡ y) × (left ≡ right)
+step_in-unique t e x y left right p q = (unique p.0 q.0, unique p.1 q.1)

@@ -1,5 +1,7 @@
 // The access engine: creation and the single event, on a lent table or one by value. It works where the table lies; what it calls is
 // lent the table, or handed parts.
+#![tactic(auto)]
+
 ghost use Rattle.std.specs.Prelude.{◌<◌, ◌≡◌, true, not, eqb};
 ghost use Rattle.rules.specs.Creation.{created};
 ghost use Rattle.rules.specs.Events.{ranges, step, reply_of};

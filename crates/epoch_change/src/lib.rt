@@ -1,4 +1,6 @@
 // Event 15, the epoch change, in its parts: its code, every chunk renewed.
+#![tactic(auto)]
+
 ghost use Rattle.std.specs.Prelude.{◌≡◌, ◌&&◌, get_or};
 ghost use Rattle.rules.specs.Codes.{code_of};
 ghost use Rattle.rules.specs.Events.{anew, renewed, all_lost, epoch_refusals};

@@ -29,8 +29,8 @@ change_in_states : {M : Type 1} {𝓤 : Ura M} (𝓛 : Logic 𝓤) (at_mem : Mem
     → (change_in_contract.clauses 𝓛 at_mem run κs a).ensures tt out end ≡ fact 𝓤 (Learnt a.0.now a.1.0 out end.0.now)
 change_in_states 𝓛 at_mem run κs a out end = refl
 
-change_in_unique : (t : Table) (later : Epoch) (x y : ℕ) (left right : Table) → Learnt t later x left → Learnt t later y right → (x ≡ y) × (left ≡ right)
-change_in_unique t later x y left right p q = (unique p.0 q.0, unique p.1 q.1)
+change_in-unique : (t : Table) (later : Epoch) (x y : ℕ) (left right : Table) → Learnt t later x left → Learnt t later y right → (x ≡ y) × (left ≡ right)
+change_in-unique t later x y left right p q = (unique p.0 q.0, unique p.1 q.1)
 
 -- where next is the epoch that follows, this is what rules' step leaves
 change_in_effect : (t : Table) → code_of (epoch_refusals t.creation t.epoch t.chunks) ≡ 0 → changed_to (next t.epoch) t ≡ epoch_changed t

@@ -1,6 +1,8 @@
 // Event 15, the epoch change, of a lent table where it lies: the copies of a block are gathered, settled by value and stored back,
 // block by block; then the chunks begin anew. The functions that have the table only call, so that their proofs can be generated
 // (walks/); what they call is by value.
+#![tactic(auto)]
+
 ghost use Rattle.std.specs.Prelude.{◌≡◌, not, [], ◌∷◌, eqb};
 ghost use Rattle.rules.specs.Codes.{code_of};
 ghost use Rattle.rules.specs.Events.{settled_in, renewed, epoch_refusals};
@@ -14,7 +16,7 @@ ghost use Rattle.epoch_lent.specs.Steps.{copy_of, copy_at, copies_at, held_at, w
 use rules::{Chunk, Copy, Creation, Epoch, Record, Table};
 
 // The copies of one block, one a chunk.
-#[derive(Drop)]
+#[derive(Clone, Copy)]
 struct Copies {
     copies: [Copy; rules::CHUNKS],
 }
@@ -131,7 +133,7 @@ fn settle_in(t: &mut Table)
 
 // ---- the chunks
 
-#[derive(Drop)]
+#[derive(Clone, Copy)]
 struct Chunks {
     chunks: [Chunk; rules::CHUNKS],
 }

@@ -1,4 +1,6 @@
 // Settlement of one block: "Settling takes all copies of one block together".
+#![tactic(auto)]
+
 ghost use Rattle.std.specs.Prelude.{◌≡◌, ◌&&◌};
 ghost use Rattle.rules.specs.Kinds.{value_of};
 ghost use Rattle.rules.specs.Settlement.{waiting, write_with, aborted_with, not_lost, agreed, settled};
@@ -11,7 +13,7 @@ ghost use Rattle.epoch_settle.specs.Steps.{agrees, with_entry, common};
 use rules::{Copy, Entry, Timestamp, Waiting};
 
 // What every chunk of the set has after settlement.
-#[derive(Drop)]
+#[derive(Clone, Copy)]
 struct Common {
     value: u64,
     read: Timestamp,

@@ -27,5 +27,5 @@ act_in_states : {M : Type 1} {𝓤 : Ura M} (𝓛 : Logic 𝓤) (at_mem : Memory
     → (act_in_contract.clauses 𝓛 at_mem run κs a).ensures tt out end ≡ fact 𝓤 (Learnt a.0.now a.1.0 out end.0.now)
 act_in_states 𝓛 at_mem run κs a out end = refl
 
-act_in_unique : (t : Table) (e : Event) (x y : Reply) (left right : Table) → Learnt t e x left → Learnt t e y right → (x ≡ y) × (left ≡ right)
-act_in_unique t e x y left right p q = (unique p.0 q.0, unique p.1 q.1)
+act_in-unique : (t : Table) (e : Event) (x y : Reply) (left right : Table) → Learnt t e x left → Learnt t e y right → (x ≡ y) × (left ≡ right)
+act_in-unique t e x y left right p q = (unique p.0 q.0, unique p.1 q.1)

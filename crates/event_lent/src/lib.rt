@@ -1,5 +1,7 @@
 // One event that touches one host, one chunk, one record and the network, on a lent table: they are read where they lie, the event
 // acts on them by value, and what it leaves is stored back. On any table: beyond an array's end there is zero, and nothing is stored.
+#![tactic(auto)]
+
 ghost use Rattle.std.specs.Prelude.{not, ◌≡◌, eqb, get_or, length};
 ghost use Rattle.rules.specs.Events.{reply_of};
 ghost use Rattle.rules.specs.Limits.{chunk_limit};
@@ -14,7 +16,7 @@ use event_parts::{Acted, Parts};
 use rules::{Chunk, Creation, Epoch, Event, Host, Outcome, Place, Record, Reply, Set, Slot, Table};
 
 // Whom an event is about: its place's slot, and the numbers of the host, the chunk, the block, the record and the place that is emptied.
-#[derive(Drop)]
+#[derive(Clone, Copy)]
 pub struct Here {
     pub slot: Slot,
     pub host: u64,

@@ -7,20 +7,20 @@ use Rattle.event_operands.proofs.host_at.Reads as host_at_contract
 use Rattle.event_operands.proofs.in_range.Reads as in_range_contract
 use Rattle.event_operands.proofs.place_at.Reads as place_at_contract
 
-in_range_unique : Determined in_range_contract.Learnt
-in_range_unique κs a x y s u = unique
+in_range-unique : Determined in_range_contract.Learnt
+in_range-unique κs a x y s u = unique
 
 count-unique : Determined count_contract.Learnt
 count-unique κs a x y s u = unique
 
-place-at-unique : Determined place_at_contract.Learnt
-place-at-unique κs a x y s u = unique
+place_at-unique : Determined place_at_contract.Learnt
+place_at-unique κs a x y s u = unique
 
-host-at-unique : Determined host_at_contract.Learnt
-host-at-unique κs a x y s u = unique
+host_at-unique : Determined host_at_contract.Learnt
+host_at-unique κs a x y s u = unique
 
-chunk-at-unique : Determined chunk_at_contract.Learnt
-chunk-at-unique κs a x y s u = unique
+chunk_at-unique : Determined chunk_at_contract.Learnt
+chunk_at-unique κs a x y s u = unique
 
-block-at-unique : Determined block_at_contract.Learnt
-block-at-unique κs a x y s u = unique
+block_at-unique : Determined block_at_contract.Learnt
+block_at-unique κs a x y s u = unique

@@ -1,4 +1,6 @@
 // An event's operands: are they in their ranges, how many has it, and which place, host, chunk and block is it about?
+#![tactic(auto)]
+
 ghost use Rattle.std.specs.Prelude.{◌≤◌, ◌≡◌, length};
 ghost use Rattle.rules.specs.Events.{kind_of, ranges};
 ghost use Rattle.rules.specs.Operands.{in_range, is_own, own_of};

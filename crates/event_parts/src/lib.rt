@@ -1,5 +1,7 @@
 // One event on the parts of the table that it touches: a host, a chunk, a record, and the network as its place's slot, how many
 // places are free, and new messages. Failure and epoch change touch more.
+#![tactic(auto)]
+
 ghost use Rattle.std.specs.Prelude.{◌≡◌};
 ghost use Rattle.event_parts.specs.Acts.{unchanged, by_host, by_messages, by_chunk, by_mail, to_chunk, to_host, delivered, acted};
 
@@ -11,7 +13,7 @@ use rules::{
 };
 
 // What an event looks at: what the store was created with, its epoch, the place's slot, the parts, how many places are free.
-#[derive(Drop)]
+#[derive(Clone, Copy)]
 pub struct Parts {
     pub creation: Creation,
     pub epoch: Epoch,
@@ -25,7 +27,7 @@ pub struct Parts {
 
 // What it leaves: 0, the parts after it and new messages, at most one a chunk; or a refusal's code, the parts as they were and no
 // message. (A delivered or dropped message is not removed here.)
-#[derive(Drop)]
+#[derive(Clone, Copy)]
 pub struct Acted {
     pub code: u64,
     pub host: Host,
@@ -36,7 +38,7 @@ pub struct Acted {
 }
 
 // What a message leaves of the host, the chunk and the record that it names, and the reply, if any.
-#[derive(Drop)]
+#[derive(Clone, Copy)]
 struct Delivered {
     host: Host,
     chunk: Chunk,

@@ -1,5 +1,7 @@
 // The engine called from Rattle: host 0 writes 77 to a block that two chunks mirror, and reads it back from chunk 1.
 // It writes a line an event.
+#![tactic(auto)]
+
 use rules::{Creation, Event, Outcome, Set};
 
 const EVENTS: usize = 18;

@@ -1,4 +1,6 @@
 // One host by itself: operations come in, it times out, refreshes its map, stops.
+#![tactic(auto)]
+
 ghost use Rattle.std.specs.Prelude.{◌≡◌};
 ghost use Rattle.rules.specs.Codes.{code_of, unless_refused};
 ghost use Rattle.rules.specs.Hosts.{intake_refusals, appended, timeout_refusals, timed_out, working_refusals, refreshed, stopped};
@@ -6,7 +8,7 @@ ghost use Rattle.rules.specs.Hosts.{intake_refusals, appended, timeout_refusals,
 use rules::{Epoch, Host, Operation};
 
 // What an event makes of its host: 0 and the host after it, or a refusal's code and the host as it was.
-#[derive(Drop)]
+#[derive(Clone, Copy)]
 pub struct Moved {
     pub code: u64,
     pub host: Host,

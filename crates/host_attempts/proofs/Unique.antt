@@ -3,8 +3,8 @@ use Rattle.rules.proofs.Unique.{unique, Determined}
 use Rattle.host_attempts.proofs.finish.Reads as finish_contract
 use Rattle.host_attempts.proofs.start.Reads as start_contract
 
-start_unique : Determined start_contract.Learnt
-start_unique κs a x y s u = unique
+start-unique : Determined start_contract.Learnt
+start-unique κs a x y s u = unique
 
-finish_unique : Determined finish_contract.Learnt
-finish_unique κs a x y s u = unique
+finish-unique : Determined finish_contract.Learnt
+finish-unique κs a x y s u = unique

@@ -1,4 +1,6 @@
 // An attempt of a host's front operation: it starts with a timestamp that the clock keeper drew, and it finishes.
+#![tactic(auto)]
+
 ghost use Rattle.std.specs.Prelude.{◌≡◌, ◌&&◌, ◌||◌, not, eqb, ltb};
 ghost use Rattle.rules.specs.Codes.{code_of};
 ghost use Rattle.rules.specs.Hosts.{has_current, only, opening_to, started};
@@ -12,7 +14,7 @@ use host_keeper::{Drawn, Keeper};
 use rules::{Action, Attempt, Host, Operation, Outcome, Place, Set, Slot};
 
 // What a start or a finish makes of its host, its new messages, and the outcome; a refusal has no messages.
-#[derive(Drop)]
+#[derive(Clone, Copy)]
 pub struct Sent {
     pub code: u64,
     pub host: Host,

@@ -27,8 +27,8 @@ draw_states : {M : Type 1} {𝓤 : Ura M} (𝓛 : Logic 𝓤) (at_mem : Memory �
     → (draw_contract.clauses 𝓛 at_mem run κs a).ensures tt out end ≡ fact 𝓤 (Learnt a.0.now a.1.0 out end.0.now)
 draw_states 𝓛 at_mem run κs a out end = refl
 
-draw_unique : (k : Keeper) (clock : ℕ) (x y : Handed) (left right : Keeper) → Learnt k clock x left → Learnt k clock y right → (x ≡ y) × (left ≡ right)
-draw_unique k clock x y left right p q = (unique p.0 q.0, unique p.1 q.1)
+draw-unique : (k : Keeper) (clock : ℕ) (x y : Handed) (left right : Keeper) → Learnt k clock x left → Learnt k clock y right → (x ≡ y) × (left ≡ right)
+draw-unique k clock x y left right p q = (unique p.0 q.0, unique p.1 q.1)
 
-draw_from_unique : Determined draw_from_contract.Learnt
-draw_from_unique κs a x y s u = unique
+draw_from-unique : Determined draw_from_contract.Learnt
+draw_from-unique κs a x y s u = unique

@@ -1,4 +1,6 @@
 // A host's clock keeper, lent for each draw: "drawing updates it or refuses".
+#![tactic(auto)]
+
 ghost use Rattle.std.specs.Prelude.{◌≡◌};
 ghost use Rattle.rules.specs.Codes.{code_of};
 ghost use Rattle.host_keeper.specs.Keeper.{draw_refusals, drawn, handed, drawn_as};
@@ -6,21 +8,21 @@ ghost use Rattle.host_keeper.specs.Keeper.{draw_refusals, drawn, handed, drawn_a
 use rules::Timestamp;
 
 // "each host's clock keeper hands out a number and remembers it".
-#[derive(Drop)]
+#[derive(Clone, Copy)]
 pub struct Keeper {
     pub host: u64,
     pub last: u64,
 }
 
 // What a draw hands out: 0 and the timestamp, or a refusal's code and 0.
-#[derive(Drop)]
+#[derive(Clone, Copy)]
 pub struct Handed {
     pub code: u64,
     pub timestamp: Timestamp,
 }
 
 // The keeper after a draw by value, and what was handed out.
-#[derive(Drop)]
+#[derive(Clone, Copy)]
 pub struct Drawn {
     pub keeper: Keeper,
     pub code: u64,

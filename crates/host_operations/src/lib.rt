@@ -1,4 +1,6 @@
 // A host's operations: up to 8 in a row, the current one at the front.
+#![tactic(auto)]
+
 ghost use Rattle.std.specs.Prelude.{◌≤◌, ◌≡◌, [], ◌∷◌, ◌++◌, length, get_or, take, drop};
 ghost use Rattle.rules.specs.Hosts.{queue_of, front};
 ghost use Rattle.rules.specs.Limits.{operation_limit};

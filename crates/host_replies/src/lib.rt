@@ -1,4 +1,6 @@
 // A reply arrives at its host.
+#![tactic(auto)]
+
 ghost use Rattle.std.specs.Prelude.{◌≡◌, false, set};
 ghost use Rattle.rules.specs.Hosts.{suits, counts, answered_by, heard, hears};
 ghost use Rattle.rules.specs.Messages.{sort_of};

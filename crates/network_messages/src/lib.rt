@@ -1,4 +1,6 @@
 // A message: its header, of which sort it is, and the message of a sort with a header.
+#![tactic(auto)]
+
 ghost use Rattle.std.specs.Prelude.{◌≡◌, false};
 ghost use Rattle.rules.specs.Messages.{headed, header_of, sort_of, message_of, asking, is_for_chunk};
 ghost use Rattle.rules.specs.declared.Sort.{Sort};

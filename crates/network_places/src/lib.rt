@@ -1,4 +1,6 @@
 // The network, of an event: the code of an empty place, and its new messages.
+#![tactic(auto)]
+
 ghost use Rattle.std.specs.Prelude.{◌≡◌};
 ghost use Rattle.rules.specs.Codes.{code_of};
 ghost use Rattle.rules.specs.Kinds.{is_empty_slot};

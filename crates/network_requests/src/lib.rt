@@ -1,4 +1,6 @@
 // What a host asks of each chunk of a set: a start opens its operation there, a finish closes it.
+#![tactic(auto)]
+
 ghost use Rattle.std.specs.Prelude.{◌≡◌};
 ghost use Rattle.rules.specs.Hosts.{opening, closing};
 ghost use Rattle.rules.specs.Messages.{headed, asking};

@@ -28,8 +28,8 @@ pub record Cell : Type 1 where
   pub w : ℕ → ℕ → Mark → Type 0  -- (t, v, m): a write that waits
   pub r : ℕ → Type 0  -- t: a read that waits
 
--- the block's era and the history: what was begun under each timestamp (its kind, value, era), what is listed, and what is Void.
--- In the base the era is the store's epoch and nothing is Void; a salvage would begin an era and make Void what it leaves out
+-- the block's era and the history: what was begun under each timestamp (its kind, value, era), what is listed, and what is void.
+-- In the base the era is the store's epoch and nothing is void; a salvage would begin an era and make void what it leaves out
 pub record Book : Type 1 where
   pub era : ℕ
   pub kind : ℕ → Began
@@ -152,7 +152,7 @@ module _ (S : ℕ → Type 0) where
     pub told : (t : ℕ) → F.comm t → B.L t ⊎ B.Void t
     -- a write of an older era, okay and answered by all copies, is listed
     pub old : (t : ℕ) → F.act t → B.ae t < B.era → ((c : ℕ) → S c → F.ack t c) → B.L t ⊎ B.Void t
-    -- what is Void is of an older era
+    -- what is void is of an older era
     pub stale : (t : ℕ) → B.Void t → B.ae t < B.era
 
   -- a read t that got x: some copy's last read guards it, and x is the value of the last listed write below it

@@ -123,7 +123,7 @@ cell_of p = record {
       λ t. Any (IsR t) p.queue;
 }
 
--- the era is the epoch, and nothing is Void
+-- the era is the epoch, and nothing is void
 abbrev pub book : Hist → ℕ → Book
 book h ep = record { era = ep; kind = h.kind; value = h.value; ae = h.ae; L = λ t. Any (IsTs t) h.listed; Void = λ _. ⊥ }
 

@@ -1,5 +1,7 @@
 // Events replayed through the engine, for programs in other languages that time it (bench/): exported as C functions, a slice as
 // a pointer and then a length. Each event is a step, on the table by value or where it lies; what comes back stands for every answer.
+#![tactic(auto)]
+
 ghost use Rattle.std.specs.Prelude.{◌≡◌, ◌+◌, ◌*◌, ◌/◌, ◌<◌, length};
 ghost use Rattle.replay.specs.Replay.{event_at, mixed, mixed_with, replayed, store_of, sum_after, table_bytes};
 

@@ -1,5 +1,6 @@
 // The types of the table, its events and its answers. They are the definitions' types too (specs/).
 // In each enum the first case is the one that an unused place holds: the machine's zero is the definitions' zero.
+#![tactic(auto)]
 
 // Limits, named once.
 pub const HOSTS: usize = 8;
@@ -52,20 +53,20 @@ pub const LAST_EPOCH: u64 = 7;
 pub const NOT_FORMED: u64 = 8;
 
 // 0 means "never".
-#[derive(Drop)]
+#[derive(Clone, Copy)]
 pub struct Timestamp(pub u64);
 
-#[derive(Drop)]
+#[derive(Clone, Copy)]
 pub struct Epoch(pub u64);
 
 // A set of chunks.
-#[derive(Drop)]
+#[derive(Clone, Copy)]
 pub struct Set {
     pub chunks: [bool; CHUNKS],
 }
 
 // What a store is created with: counts, age limit, and for each block the set of chunks that hold its copies.
-#[derive(Drop)]
+#[derive(Clone, Copy)]
 pub struct Creation {
     pub hosts: u64,
     pub chunks: u64,
@@ -75,7 +76,7 @@ pub struct Creation {
 }
 
 // A waiting entry is a read, an undecided write, a committed write or an aborted write; a write has its value.
-#[derive(Drop)]
+#[derive(Clone, Copy)]
 pub enum Kind {
     Read,
     Undecided(u64),
@@ -83,7 +84,7 @@ pub enum Kind {
     Aborted(u64),
 }
 
-#[derive(Drop)]
+#[derive(Clone, Copy)]
 pub struct Entry {
     pub timestamp: Timestamp,
     pub sender: u64,
@@ -92,14 +93,14 @@ pub struct Entry {
 }
 
 // Up to 8 waiting entries in timestamp order.
-#[derive(Drop)]
+#[derive(Clone, Copy)]
 pub struct Waiting {
     pub count: u64,
     pub entries: [Entry; WAITING],
 }
 
 // What a chunk has of one block: its value, last read, last write, and the waiting entries.
-#[derive(Drop)]
+#[derive(Clone, Copy)]
 pub struct Record {
     pub value: u64,
     pub read: Timestamp,
@@ -107,7 +108,7 @@ pub struct Record {
     pub waiting: Waiting,
 }
 
-#[derive(Drop)]
+#[derive(Clone, Copy)]
 pub enum State {
     Normal,
     Nolease,
@@ -115,7 +116,7 @@ pub enum State {
 }
 
 // A chunk without its records; reconcile is the set of blocks that need reconciliation.
-#[derive(Drop)]
+#[derive(Clone, Copy)]
 pub struct Chunk {
     pub state: State,
     pub lost: bool,
@@ -123,27 +124,27 @@ pub struct Chunk {
     pub reconcile: [bool; BLOCKS],
 }
 
-#[derive(Drop)]
+#[derive(Clone, Copy)]
 pub enum Action {
     Read,
     Write(u64),
 }
 
-#[derive(Drop)]
+#[derive(Clone, Copy)]
 pub struct Operation {
     pub block: u64,
     pub action: Action,
 }
 
 // Up to 8 operations. The front one is the current one while the host has an attempt.
-#[derive(Drop)]
+#[derive(Clone, Copy)]
 pub struct Queue {
     pub count: u64,
     pub operations: [Operation; OPERATIONS],
 }
 
 // One attempt at the current operation; a host without a current operation has zeros here.
-#[derive(Drop)]
+#[derive(Clone, Copy)]
 pub struct Attempt {
     pub timestamp: Timestamp,
     pub outstanding: Set,
@@ -153,7 +154,7 @@ pub struct Attempt {
 }
 
 // epoch is the epoch known, mapped says that the map is current, clock is the last clock drawn.
-#[derive(Drop)]
+#[derive(Clone, Copy)]
 pub struct Host {
     pub working: bool,
     pub queue: Queue,
@@ -164,7 +165,7 @@ pub struct Host {
 }
 
 // What every message has. A reply has its request's.
-#[derive(Drop)]
+#[derive(Clone, Copy)]
 pub struct Header {
     pub host: u64,
     pub chunk: u64,
@@ -173,7 +174,7 @@ pub struct Header {
 }
 
 // A message carries only its own kind's numbers; epoch is the one that the host knows.
-#[derive(Drop)]
+#[derive(Clone, Copy)]
 pub enum Message {
     Read {
         host: u64,
@@ -244,7 +245,7 @@ pub enum Message {
 }
 
 // What a host asks of a chunk.
-#[derive(Drop)]
+#[derive(Clone, Copy)]
 pub enum Request {
     Read,
     Prewrite(u64),
@@ -253,7 +254,7 @@ pub enum Request {
 }
 
 // Why a chunk does not take a read or a prewrite, or cannot answer a read.
-#[derive(Drop)]
+#[derive(Clone, Copy)]
 pub enum Refusal {
     Mismatch,
     Error,
@@ -263,7 +264,7 @@ pub enum Refusal {
 
 // Of which sort a message is, with the numbers that it has beside its header: a request, a plain refusal, a read reply or a
 // prewrite reply.
-#[derive(Drop)]
+#[derive(Clone, Copy)]
 pub enum Sort {
     Request(Epoch, Request),
     Refusal(Refusal),
@@ -271,20 +272,20 @@ pub enum Sort {
     PrewriteReply,
 }
 
-#[derive(Drop)]
+#[derive(Clone, Copy)]
 pub enum Slot {
     Empty,
     Full(Message),
 }
 
 // One place of the network.
-#[derive(Drop)]
+#[derive(Clone, Copy)]
 pub struct Place {
     pub slot: Slot,
 }
 
 // The record of chunk c and block b stands at c x 16 + b.
-#[derive(Drop)]
+#[derive(Clone, Copy)]
 pub struct Table {
     pub creation: Creation,
     pub epoch: Epoch,
@@ -295,14 +296,14 @@ pub struct Table {
 }
 
 // The answer to a creation; a refused one gives no store, that is a table of zeros.
-#[derive(Drop)]
+#[derive(Clone, Copy)]
 pub struct Created {
     pub table: Table,
     pub code: u64,
 }
 
 // What a message or a run makes of a chunk and its record, and the reply, if any.
-#[derive(Drop)]
+#[derive(Clone, Copy)]
 pub struct Arrived {
     pub chunk: Chunk,
     pub held: Record,
@@ -310,7 +311,7 @@ pub struct Arrived {
 }
 
 // One chunk's copy of the block that is settled.
-#[derive(Drop)]
+#[derive(Clone, Copy)]
 pub struct Copy {
     pub member: bool,
     pub lost: bool,
@@ -318,7 +319,7 @@ pub struct Copy {
 }
 
 // An event's number and three operands; an operand that its kind does not use is 0.
-#[derive(Drop)]
+#[derive(Clone, Copy)]
 pub struct Event {
     pub kind: u64,
     pub a: u64,
@@ -327,7 +328,7 @@ pub struct Event {
 }
 
 // What an operand is: the number of a host, a chunk, a block or a place, a clock, a time, a value; unused; of an unknown kind.
-#[derive(Drop)]
+#[derive(Clone, Copy)]
 pub enum Operand {
     Unknown,
     Unused,
@@ -341,10 +342,10 @@ pub enum Operand {
 }
 
 // What the three operands of a kind are.
-#[derive(Drop)]
+#[derive(Clone, Copy)]
 pub struct Operands(pub Operand, pub Operand, pub Operand);
 
-#[derive(Drop)]
+#[derive(Clone, Copy)]
 pub enum Outcome {
     None,
     ReadDone { host: u64, block: u64, value: u64 },
@@ -353,7 +354,7 @@ pub enum Outcome {
     WriteFailed { host: u64, block: u64 },
 }
 
-#[derive(Drop)]
+#[derive(Clone, Copy)]
 pub struct Answer {
     pub table: Table,
     pub code: u64,
@@ -361,7 +362,7 @@ pub struct Answer {
 }
 
 // An answer without its table: what the caller of an event is told.
-#[derive(Drop)]
+#[derive(Clone, Copy)]
 pub struct Reply {
     pub code: u64,
     pub outcome: Outcome,

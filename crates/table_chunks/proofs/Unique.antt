@@ -36,8 +36,8 @@ module _ {M : Type 1} {𝓤 : Ura M} (𝓛 : Logic 𝓤) (at_mem : Memory → SP
       → (put_chunk_contract.clauses 𝓛 at_mem run κs a).ensures tt out end ≡ fact 𝓤 (Left a.0.now a.1.0 a.1.1.0 end.0.now)
   put_chunk_states a out end = refl
 
-chunk_in_unique : (t : Table) (i : ℕ) (x y : Chunk) → Read t i x → Read t i y → x ≡ y
-chunk_in_unique t i x y = unique
+chunk_in-unique : (t : Table) (i : ℕ) (x y : Chunk) → Read t i x → Read t i y → x ≡ y
+chunk_in-unique t i x y = unique
 
-put-chunk-unique : (t : Table) (i : ℕ) (x : Chunk) (left right : Table) → Left t i x left → Left t i x right → left ≡ right
-put-chunk-unique t i x left right = unique
+put_chunk-unique : (t : Table) (i : ℕ) (x : Chunk) (left right : Table) → Left t i x left → Left t i x right → left ≡ right
+put_chunk-unique t i x left right = unique

@@ -2,5 +2,5 @@
 use Rattle.rules.proofs.Unique.{unique, Determined}
 use Rattle.table_creation.proofs.create.Reads as create_contract
 
-create_unique : Determined create_contract.Learnt
-create_unique κs a x y s u = unique
+create-unique : Determined create_contract.Learnt
+create-unique κs a x y s u = unique

@@ -1,4 +1,6 @@
 // What a created store begins with: fresh parts, and zero in unused places.
+#![tactic(auto)]
+
 ghost use Rattle.std.specs.Prelude.{◌≡◌, true};
 ghost use Rattle.rules.specs.Creation.{is_creation, fresh, created};
 ghost use Rattle.rules.specs.Zero.{zero_table};

@@ -36,8 +36,8 @@ module _ {M : Type 1} {𝓤 : Ura M} (𝓛 : Logic 𝓤) (at_mem : Memory → SP
       → (put_host_contract.clauses 𝓛 at_mem run κs a).ensures tt out end ≡ fact 𝓤 (Left a.0.now a.1.0 a.1.1.0 end.0.now)
   put_host_states a out end = refl
 
-host_in_unique : (t : Table) (i : ℕ) (x y : Host) → Read t i x → Read t i y → x ≡ y
-host_in_unique t i x y = unique
+host_in-unique : (t : Table) (i : ℕ) (x y : Host) → Read t i x → Read t i y → x ≡ y
+host_in-unique t i x y = unique
 
-put-host-unique : (t : Table) (i : ℕ) (x : Host) (left right : Table) → Left t i x left → Left t i x right → left ≡ right
-put-host-unique t i x left right = unique
+put_host-unique : (t : Table) (i : ℕ) (x : Host) (left right : Table) → Left t i x left → Left t i x right → left ≡ right
+put_host-unique t i x left right = unique

@@ -1,4 +1,6 @@
 // A host of a lent table, read and written where it lies.
+#![tactic(auto)]
+
 ghost use Rattle.std.specs.Prelude.{◌≡◌, get_or};
 ghost use Rattle.rules.specs.Tables.{with_host};
 ghost use Rattle.rules.specs.Zero.{zero_host};

@@ -6,17 +6,17 @@ use Rattle.table_kinds.proofs.value_of.Reads as value_of_contract
 use Rattle.table_kinds.proofs.is_normal.Reads as is_normal_contract
 use Rattle.table_kinds.proofs.is_reading.Reads as is_reading_contract
 
-is_read_unique : Determined is_read_contract.Learnt
-is_read_unique κs a x y s u = unique
+is_read-unique : Determined is_read_contract.Learnt
+is_read-unique κs a x y s u = unique
 
-is_aborted_unique : Determined is_aborted_contract.Learnt
-is_aborted_unique κs a x y s u = unique
+is_aborted-unique : Determined is_aborted_contract.Learnt
+is_aborted-unique κs a x y s u = unique
 
-value_of_unique : Determined value_of_contract.Learnt
-value_of_unique κs a x y s u = unique
+value_of-unique : Determined value_of_contract.Learnt
+value_of-unique κs a x y s u = unique
 
-is_normal_unique : Determined is_normal_contract.Learnt
-is_normal_unique κs a x y s u = unique
+is_normal-unique : Determined is_normal_contract.Learnt
+is_normal-unique κs a x y s u = unique
 
-is_reading_unique : Determined is_reading_contract.Learnt
-is_reading_unique κs a x y s u = unique
+is_reading-unique : Determined is_reading_contract.Learnt
+is_reading-unique κs a x y s u = unique

@@ -1,4 +1,6 @@
 // What an entry, a chunk's state or an operation is: an enum looked at case by case.
+#![tactic(auto)]
+
 ghost use Rattle.std.specs.Prelude.{◌≡◌};
 ghost use Rattle.rules.specs.Kinds.{is_read, is_aborted, value_of, is_normal, is_reading};
 

@@ -42,11 +42,11 @@ module _ {M : Type 1} {𝓤 : Ura M} (𝓛 : Logic 𝓤) (at_mem : Memory → SP
       → (put_epoch_contract.clauses 𝓛 at_mem run κs a).ensures tt out end ≡ fact 𝓤 (Left a.0.now a.1.0 end.0.now)
   put_epoch_states a out end = refl
 
-creation_in_unique : (t : Table) (x y : Creation) → CreationRead t x → CreationRead t y → x ≡ y
-creation_in_unique t x y = unique
+creation_in-unique : (t : Table) (x y : Creation) → CreationRead t x → CreationRead t y → x ≡ y
+creation_in-unique t x y = unique
 
-epoch_in_unique : (t : Table) (x y : Epoch) → EpochRead t x → EpochRead t y → x ≡ y
-epoch_in_unique t x y = unique
+epoch_in-unique : (t : Table) (x y : Epoch) → EpochRead t x → EpochRead t y → x ≡ y
+epoch_in-unique t x y = unique
 
-put-epoch-unique : (t : Table) (x : Epoch) (left right : Table) → Left t x left → Left t x right → left ≡ right
-put-epoch-unique t x left right = unique
+put_epoch-unique : (t : Table) (x : Epoch) (left right : Table) → Left t x left → Left t x right → left ≡ right
+put_epoch-unique t x left right = unique

@@ -1,4 +1,6 @@
 // The creation numbers and the epoch of a lent table, read and written where they lie.
+#![tactic(auto)]
+
 ghost use Rattle.std.specs.Prelude.{◌≡◌};
 ghost use Rattle.rules.specs.Tables.{with_epoch};
 

@@ -54,14 +54,14 @@ module _ {M : Type 1} {𝓤 : Ura M} (𝓛 : Logic 𝓤) (at_mem : Memory → SP
       → (send_in_contract.clauses 𝓛 at_mem run κs a).ensures tt out end ≡ fact 𝓤 (Sent a.0.now a.1.0 end.0.now)
   send_in_states a out end = refl
 
-place_in_unique : (t : Table) (i : ℕ) (x y : Place) → Read t i x → Read t i y → x ≡ y
-place_in_unique t i x y = unique
+place_in-unique : (t : Table) (i : ℕ) (x y : Place) → Read t i x → Read t i y → x ≡ y
+place_in-unique t i x y = unique
 
-remove_in_unique : (t : Table) (i : ℕ) (left right : Table) → Removed t i left → Removed t i right → left ≡ right
-remove_in_unique t i left right = unique
+remove_in-unique : (t : Table) (i : ℕ) (left right : Table) → Removed t i left → Removed t i right → left ≡ right
+remove_in-unique t i left right = unique
 
-free_in_unique : (t : Table) (x y : ℕ) → Free t x → Free t y → x ≡ y
-free_in_unique t x y = unique
+free_in-unique : (t : Table) (x y : ℕ) → Free t x → Free t y → x ≡ y
+free_in-unique t x y = unique
 
-send_in_unique : (t : Table) (s : Slot) (left right : Table) → Sent t s left → Sent t s right → left ≡ right
-send_in_unique t s left right = unique
+send_in-unique : (t : Table) (s : Slot) (left right : Table) → Sent t s left → Sent t s right → left ≡ right
+send_in-unique t s left right = unique

@@ -1,4 +1,6 @@
 // The network's places of a lent table, read and written where they lie.
+#![tactic(auto)]
+
 ghost use Rattle.std.specs.Prelude.{◌+◌, ◌<◌, cond, not, ◌≡◌, get_or, set};
 ghost use Rattle.rules.specs.Kinds.{is_empty_slot};
 ghost use Rattle.rules.specs.Network.{is_free, free_places, removed, replied};

@@ -37,11 +37,11 @@ module _ {M : Type 1} {𝓤 : Ura M} (𝓛 : Logic 𝓤) (at_mem : Memory → SP
       → (put_record_contract.clauses 𝓛 at_mem run κs a).ensures tt out end ≡ fact 𝓤 (Left a.0.now a.1.0 a.1.1.0 end.0.now)
   put_record_states a out end = refl
 
-record_number_unique : Determined record_number_contract.Learnt
-record_number_unique κs a x y s u = unique
+record_number-unique : Determined record_number_contract.Learnt
+record_number-unique κs a x y s u = unique
 
-record_in_unique : (t : Table) (i : ℕ) (x y : Record) → Read t i x → Read t i y → x ≡ y
-record_in_unique t i x y = unique
+record_in-unique : (t : Table) (i : ℕ) (x y : Record) → Read t i x → Read t i y → x ≡ y
+record_in-unique t i x y = unique
 
-put_record_unique : (t : Table) (i : ℕ) (x : Record) (left right : Table) → Left t i x left → Left t i x right → left ≡ right
-put_record_unique t i x left right = unique
+put_record-unique : (t : Table) (i : ℕ) (x : Record) (left right : Table) → Left t i x left → Left t i x right → left ≡ right
+put_record-unique t i x left right = unique

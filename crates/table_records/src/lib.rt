@@ -1,4 +1,6 @@
 // A chunk's record of a block of a lent table, read and written where it lies.
+#![tactic(auto)]
+
 ghost use Rattle.std.specs.Prelude.{◌≡◌, get_or, set};
 ghost use Rattle.rules.specs.Tables.{with_records};
 ghost use Rattle.rules.specs.Zero.{zero_record};

@@ -1,4 +1,6 @@
 // Sets of chunks.
+#![tactic(auto)]
+
 ghost use Rattle.std.specs.Prelude.{◌≡◌};
 ghost use Rattle.rules.specs.Network.{how_many};
 ghost use Rattle.rules.specs.Zero.{◌among◌, is_empty};

@@ -16,8 +16,8 @@ use Rattle.rules.proofs.Unique.{unique, Determined}
 use Rattle.table_sound.proofs.is_creation.Reads as is_creation_contract
 use Rattle.table_sound.specs.contracts.sound_in as sound_in_contract
 
-is_creation_unique : Determined is_creation_contract.Learnt
-is_creation_unique κs a x y s u = unique
+is_creation-unique : Determined is_creation_contract.Learnt
+is_creation-unique κs a x y s u = unique
 
 -- what a caller of `sound_in` learns
 abbrev Looked : Table → (out : Bool) → Type 0
@@ -28,5 +28,5 @@ sound_in_states : {M : Type 1} {𝓤 : Ura M} (𝓛 : Logic 𝓤) (at_mem : Memo
     → (sound_in_contract.clauses 𝓛 at_mem run κs a).ensures tt out end ≡ fact 𝓤 (Looked a.0.now out)
 sound_in_states 𝓛 at_mem run κs a out end = refl
 
-sound_in_unique : (t : Table) (x y : Bool) → Looked t x → Looked t y → x ≡ y
-sound_in_unique t x y = unique
+sound_in-unique : (t : Table) (x y : Bool) → Looked t x → Looked t y → x ≡ y
+sound_in-unique t x y = unique

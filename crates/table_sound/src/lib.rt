@@ -1,4 +1,6 @@
 // Code 8: the whole table is looked at. A part of the store's must be formed, an unused one zero.
+#![tactic(auto)]
+
 ghost use Rattle.std.specs.Prelude.{◌-◌, ◌≡◌, ◌&&◌, not};
 ghost use Rattle.rules.specs.Creation.{is_creation, of_store, is_set_of};
 ghost use Rattle.rules.specs.Formed.{operation_formed, operation_at, queue_formed, attempt_formed, host_formed, chunk_formed, entry_formed, entry_at, waiting_formed, host_at, chunk_at, header_formed, sort_formed, message_formed, slot_formed, hosts_formed, chunks_formed, records_formed, places_formed, well_formed};
@@ -14,7 +16,7 @@ use rules::{
 };
 
 // The store's counts: all that its parts are held to.
-#[derive(Drop)]
+#[derive(Clone, Copy)]
 struct Counts {
     hosts: u64,
     chunks: u64,

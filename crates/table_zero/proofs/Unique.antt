@@ -15,8 +15,8 @@ use Rattle.table_zero.proofs.waiting.Reads as waiting_contract
 set-unique : Determined set_contract.Learnt
 set-unique κs a x y s u = unique
 
-creation_of_unique : Determined creation_of_contract.Learnt
-creation_of_unique κs a x y s u = unique
+creation_of-unique : Determined creation_of_contract.Learnt
+creation_of-unique κs a x y s u = unique
 
 creation-unique : Determined creation_contract.Learnt
 creation-unique κs a x y s u = unique
@@ -27,14 +27,14 @@ entry-unique κs a x y s u = unique
 waiting-unique : Determined waiting_contract.Learnt
 waiting-unique κs a x y s u = unique
 
-record_unique : Determined record_contract.Learnt
-record_unique κs a x y s u = unique
+record-unique : Determined record_contract.Learnt
+record-unique κs a x y s u = unique
 
 chunk-unique : Determined chunk_contract.Learnt
 chunk-unique κs a x y s u = unique
 
-operation_of_unique : Determined operation_of_contract.Learnt
-operation_of_unique κs a x y s u = unique
+operation_of-unique : Determined operation_of_contract.Learnt
+operation_of-unique κs a x y s u = unique
 
 operation-unique : Determined operation_contract.Learnt
 operation-unique κs a x y s u = unique

@@ -1,4 +1,6 @@
 // What zero is for each type: unused places hold it, and a created store begins with it.
+#![tactic(auto)]
+
 ghost use Rattle.std.specs.Prelude.{◌≡◌};
 ghost use Rattle.rules.specs.Built.{creation_of, operation_of};
 ghost use Rattle.rules.specs.Zero.{zero_creation, zero_set, zero_entry, zero_waiting, zero_record, zero_chunk, zero_operation, zero_attempt, zero_host};

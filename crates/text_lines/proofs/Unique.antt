@@ -5,14 +5,14 @@ use Rattle.text_lines.proofs.cut_line.Reads as cut_line_contract
 use Rattle.text_lines.proofs.no_text.Reads as no_text_contract
 use Rattle.text_lines.proofs.parse_text.Reads as parse_text_contract
 
-no_text_unique : Determined no_text_contract.Learnt
-no_text_unique κs a x y s u = unique
+no_text-unique : Determined no_text_contract.Learnt
+no_text-unique κs a x y s u = unique
 
-cut_line_unique : Determined cut_line_contract.Learnt
-cut_line_unique κs a x y s u = unique
+cut_line-unique : Determined cut_line_contract.Learnt
+cut_line-unique κs a x y s u = unique
 
-parse_text_unique : Determined parse_text_contract.Learnt
-parse_text_unique κs a x y s u = unique
+parse_text-unique : Determined parse_text_contract.Learnt
+parse_text-unique κs a x y s u = unique
 
-answer_text_unique : Determined answer_text_contract.Learnt
-answer_text_unique κs a x y s u = unique
+answer_text-unique : Determined answer_text_contract.Learnt
+answer_text-unique κs a x y s u = unique

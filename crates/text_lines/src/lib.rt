@@ -1,5 +1,7 @@
 // Lines cut out of the input, to numbers, and an answer to a line. On bytes alone: nothing is read or written here.
 // Document 01, "One session, whole".
+#![tactic(auto)]
+
 ghost use Rattle.std.specs.Prelude.{min, ◌≡◌, [], ◌∷◌, ◌++◌};
 ghost use Rattle.rules.specs.Words.{fold};
 ghost use Rattle.text_numbers.specs.Lines.{line_of};
@@ -16,14 +18,14 @@ const SPACE: u8 = 32;
 const NEWLINE: u8 = 10;
 
 // Up to 121 bytes, the unused places 0: a line of input as far as it tells anything, or the line of an answer.
-#[derive(Drop)]
+#[derive(Clone, Copy)]
 pub struct Text {
     pub bytes: [u8; ROOM],
     pub count: usize,
 }
 
 // What is cut out of a block of input: the line so far, whether its newline has come, and where the block goes on.
-#[derive(Drop)]
+#[derive(Clone, Copy)]
 pub struct Cut {
     pub text: Text,
     pub whole: bool,

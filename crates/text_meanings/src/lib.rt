@@ -1,5 +1,7 @@
 // What the numbers of a line mean: the event that it asks for, and the creation that the first two name.
 // Document 01, "One session, whole".
+#![tactic(auto)]
+
 ghost use Rattle.std.specs.Prelude.{◌≡◌};
 ghost use Rattle.rules.specs.Words.{each, every};
 ghost use Rattle.rules.specs.Zero.{zero_creation};
@@ -9,14 +11,14 @@ use rules::{Creation, Event, Set};
 use text_numbers::Line;
 
 // The event of a line; a bad one has none, that is zeros.
-#[derive(Drop)]
+#[derive(Clone, Copy)]
 pub struct Asked {
     pub good: bool,
     pub event: Event,
 }
 
 // The creation of the first two lines; bad ones have none, that is zeros.
-#[derive(Drop)]
+#[derive(Clone, Copy)]
 pub struct Named {
     pub good: bool,
     pub creation: Creation,

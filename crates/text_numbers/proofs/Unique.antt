@@ -2,5 +2,5 @@
 use Rattle.rules.proofs.Unique.{unique, Determined}
 use Rattle.text_numbers.proofs.parse.Reads as parse_contract
 
-parse_unique : Determined parse_contract.Learnt
-parse_unique κs a x y s u = unique
+parse-unique : Determined parse_contract.Learnt
+parse-unique κs a x y s u = unique

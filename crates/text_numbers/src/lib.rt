@@ -1,5 +1,7 @@
 // A line of input to numbers: what a good line says, and which line is bad. On bytes alone.
 // Document 01, "One session, whole".
+#![tactic(auto)]
+
 ghost use Rattle.std.specs.Prelude.{◌<◌, ◌≡◌};
 ghost use Rattle.text_numbers.specs.Lines.{bad_line, line_of};
 ghost use Rattle.text_numbers.specs.Steps.{between_words, bad_reading, new_reading, said_also, ended, continued, taken};
@@ -13,7 +15,7 @@ pub const NUMBERS: usize = rules::BLOCKS;
 const SPACE: u8 = 32;
 
 // What a line says: how many numbers, and the first 16 of them, the unused places 0. A bad line is all zero.
-#[derive(Drop)]
+#[derive(Clone, Copy)]
 pub struct Line {
     pub good: bool,
     pub count: u64,
@@ -21,7 +23,7 @@ pub struct Line {
 }
 
 // A line while it is read: the numbers so far, and the one that has begun, if one has.
-#[derive(Drop)]
+#[derive(Clone, Copy)]
 struct Reading {
     line: Line,
     begun: bool,
