@@ -1,5 +1,5 @@
 -- Document 01, "Events": for each event its refusals in their order, and its effect; the events by their numbers; the step
-use Rattle.std.specs.Prelude.{ℕ, Bool, not, ◌&&◌, List, [], get_or, eqb}
+use Rattle.std.specs.Prelude.{ℕ, Bool, not, ◌&&◌, List, [], get_or, eqb, if◌then◌else◌}
 use Rattle.rules.specs.Types.{Epoch, Set, Creation, Record, State, Chunk, Action, Operation, Host, Header, Message, Slot, Table, Arrived, Copy, Event, Operands, Outcome, Answer, Reply}
 use Rattle.rules.specs.declared.Operand.TheVariants.{Unknown as unknown, Unused as unused, Host as aHost, Chunk as aChunk, Block as aBlock, Place as aPlace, Clock as aClock, Now as aTime, Value as aValue}
 use Rattle.rules.specs.Built.{blank, copy_with, operation_of}
@@ -15,7 +15,7 @@ use Rattle.rules.specs.Operands.{◌∥◌∥◌, all_in_range}
 use Rattle.rules.specs.Settlement.{settled}
 use Rattle.rules.specs.Tables.{is_chunk, is_block, set_of, host_of, chunk_of, at, record_of, records_by, slot_of, with_epoch, with_chunks, with_records, with_places, with_host, with_chunk, with_record}
 use Rattle.rules.specs.Timestamps.{stamp, next}
-use Rattle.rules.specs.Words.{if◌then◌else◌, Numbered, ◌⇒◌⨾◌, under, each, every, some, numbers}
+use Rattle.rules.specs.Words.{Numbered, ◌⇒◌⨾◌, under, each, every, some, numbers}
 use Rattle.rules.specs.Zero.{◌among◌, no_record, no_chunk, no_copy}
 
 -- what a granted event gives: the new table and the outcome
