@@ -70,6 +70,7 @@ fn any_all_lost(k: Creation, chunks: [Chunk; rules::CHUNKS]) -> bool
 }
 
 // "15 epoch change: no chunk failed (2), then 7, then 6".
+#[tactic(auto, unfolding(rules::specs::Codes::code_of))]
 pub fn change_code(k: Creation, epoch: Epoch, chunks: [Chunk; rules::CHUNKS]) -> u64
     ensures { result ≡ code_of (epoch_refusals k epoch chunks) }
 {

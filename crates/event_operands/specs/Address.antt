@@ -25,8 +25,8 @@ sort_number Operand.Clock = 6
 sort_number Operand.Now = 7
 sort_number Operand.Value = 8
 
-infix 40 ◌isA◌
-abbrev pub ◌isA◌ : Operand → Operand → Bool
+infix 40 ◌is_a◌
+abbrev pub ◌is_a◌ : Operand → Operand → Bool
 o is_a sort = eqb (sort_number o) (sort_number sort)
 
 -- ---- the operand of a sort
