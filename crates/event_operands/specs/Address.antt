@@ -1,5 +1,5 @@
 -- Which place, host, chunk and block an event is about
-use Rattle.std.specs.Prelude.{ℕ, Bool, ◌||◌, eqb}
+use Rattle.std.specs.Prelude.{ℕ, Bool, ◌||◌, eqb, if◌then◌else◌}
 use Rattle.rules.specs.declared.Host.{Host}
 use Rattle.rules.specs.declared.Header.{Header}
 use Rattle.rules.specs.declared.Slot.{Slot}
@@ -10,7 +10,6 @@ use Rattle.rules.specs.Events.{kind_of}
 use Rattle.rules.specs.Hosts.{front}
 use Rattle.rules.specs.Timestamps.{never}
 use Rattle.rules.specs.Messages.{header_of, headed}
-use Rattle.rules.specs.Words.{if◌then◌else◌}
 
 -- ---- the sorts of operands, told apart by a number each
 

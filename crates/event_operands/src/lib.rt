@@ -1,10 +1,9 @@
 // An event's operands: are they in their ranges, how many has it, and which place, host, chunk and block is it about?
 #![tactic(auto)]
 
-ghost use Rattle.std.specs.Prelude.{◌≤◌, ◌≡◌, length};
+ghost use Rattle.std.specs.Prelude.{◌≤◌, ◌≡◌, length, if◌then◌else◌};
 ghost use Rattle.rules.specs.Events.{kind_of, ranges};
 ghost use Rattle.rules.specs.Operands.{in_range, is_own, own_of};
-ghost use Rattle.rules.specs.Words.{if◌then◌else◌};
 ghost use Rattle.event_operands.specs.Address.{sort_number, ◌is_a◌, has_a, the, address_of, place_at, host_at, chunk_at, block_at};
 
 use rules::{Creation, Event, Header, Host, Operand, Operands, Slot, Timestamp};

@@ -1,6 +1,5 @@
 -- The few words that the rules are written with
-use Rattle.std.specs.Prelude.{ℕ, zero, suc, Bool, true, false, ◌&&◌, ◌||◌, not, List, [], ◌∷◌, ◌++◌, get_or, take, replicate, eqb}
-pub use Rattle.std.specs.Prelude.{if◌then◌else◌}
+use Rattle.std.specs.Prelude.{ℕ, zero, suc, Bool, true, false, ◌&&◌, ◌||◌, not, List, [], ◌∷◌, ◌++◌, get_or, take, replicate, eqb, if◌then◌else◌}
 
 -- those of the list that are p, in their order
 unfoldable pub those : {A : Type 0} → (A → Bool) → List A → List A
