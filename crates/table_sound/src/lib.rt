@@ -1,5 +1,5 @@
 // Code 8: the whole table is looked at. A part of the store's must be formed, an unused one zero.
-#![tactic(auto)]
+#![tactic(auto, using(rules::proofs::Loops::every_begin, crate::proofs::Laws::every_more))]
 
 ghost use Rattle.std.specs.Prelude.{◌-◌, ◌≡◌, ◌&&◌, not, if◌then◌else◌};
 ghost use Rattle.rules.specs.Creation.{is_creation, of_store, is_set_of};
@@ -69,6 +69,7 @@ fn sets_formed(k: Creation) -> bool
 }
 
 // "1 to 8 hosts, 1 to 8 chunks, 1 to 16 blocks .. with the age limit (0 to 4,294,967,295)"
+#[tactic(auto, unfolding(rules::specs::Creation::is_creation))]
 pub fn is_creation(k: Creation) -> bool
     ensures { result ≡ is_creation k }
 {
