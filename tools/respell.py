@@ -112,6 +112,7 @@ def lent(text, path, root, clash, own):
 
 
 def turned(text, renamed, skip):
+    text = re.sub(r"◌([a-z]+[A-Z]\w*)◌", lambda m: "◌%s◌" % words(m.group(1)), text)
     return TOKEN.sub(lambda m: m.group(0) if m.group(0) in skip else renamed.get(m.group(0), m.group(0)), text)
 
 

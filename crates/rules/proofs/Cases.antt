@@ -1,4 +1,4 @@
--- Document 01, "Proved cases", P1 to P12: one table. "Unless Said, last read and last write are 0, value 0, no chunk lost"
+-- Document 01, "Proved cases", P1 to P12: one table. "Unless said, last read and last write are 0, value 0, no chunk lost"
 use Prim.Native.Nat.{ℕ}
 use mathlib.Core.Path.{◌≡◌, refl}
 use mathlib.Core.Bool.{Bool, true, false}
@@ -108,12 +108,12 @@ abbrev pub seen : Case → Seen
 seen k = k.look (step k.table k.event)
 
 infixr 2 settling◌and◌gives◌⨾◌ ◌arriving_at◌gives◌⨾◌ overdue_at◌gives◌⨾◌ starting_at◌gives◌⨾◌
--- P1 to P7: an epoch change with A and B as Said
+-- P1 to P7: an epoch change with A and B as said
 abbrev settling◌and◌gives◌⨾◌ : Side → Side → Seen → List Case → List Case
 settling a and b gives x ⨾ more =
     record { table = with_side (with_side store 0 a) 1 b; event = event 15 0 0 0; look = copies_in; expected = x } ∷ more
 
--- P8 to P10: the message is delivered to A with its copy as Said
+-- P8 to P10: the message is delivered to A with its copy as said
 abbrev ◌arriving_at◌gives◌⨾◌ : Message → Record → Seen → List Case → List Case
 m arriving_at r gives x ⨾ more =
     let t = with_side store 0 (normal r) in

@@ -1,4 +1,5 @@
 // The network's places of a lent table, read and written where they lie.
+// In `_in` and `put_` the array goes as a slice: then its length is known where there is no such number.
 #![tactic(auto)]
 
 ghost use Rattle.std.specs.Prelude.{◌+◌, ◌<◌, cond, not, ◌≡◌, get_or, set};
@@ -21,8 +22,9 @@ pub fn place_in(t: &Table, i: u64) -> Place
     ensures { result ≡ get_or t.now.places i zero_place }
 {
     let k = i as usize;
+    let places: &[Place] = &t.places;
     if k < rules::PLACES {
-        return t.places[k];
+        return places[k];
     }
     empty()
 }
@@ -32,8 +34,9 @@ fn put_place(t: &mut Table, i: u64, x: Place)
     ensures { t.new ≡ with_places t.old (set t.old.places i x) }
 {
     let at = i as usize;
+    let places: &mut [Place] = &mut t.places;
     if at < rules::PLACES {
-        t.places[at] = x;
+        places[at] = x;
     }
 }
 

@@ -34,6 +34,7 @@ pub struct Cut {
 
 // ---- bytes gathered: a line of input, the line of an answer
 
+#[tactic(auto, unfolding(crate::specs::Texts::text_of))]
 pub fn no_text() -> Text
     ensures { result ≡ text_of [] }
 {
@@ -44,6 +45,7 @@ pub fn no_text() -> Text
 }
 
 // One byte more, where there is room.
+#[tactic(auto, unfolding(crate::specs::Texts::followed))]
 fn push(t: Text, byte: u8) -> Text
     ensures { result ≡ followed t byte }
 {
@@ -64,6 +66,7 @@ fn least(a: usize, b: usize) -> usize
 }
 
 // The line goes on in a block of input, from a place on up to the newline; where none comes, the next block has more of it.
+#[tactic(auto, using(crate::proofs::Texts::cut_here, crate::proofs::Texts::cut_other, crate::proofs::Texts::cut_end))]
 pub fn cut_line(block: &[u8], at: usize, t: Text) -> Cut
     ensures { result ≡ cut_at block.now at t }
 {
@@ -99,6 +102,7 @@ pub fn parse_text(t: Text) -> Line
 }
 
 // The digits of n, the last one by its remainder.
+#[tactic(auto, using(crate::proofs::Texts::push_one, crate::proofs::Texts::push_more))]
 fn push_decimal(t: Text, n: u64) -> Text
     ensures { result ≡ fold followed t (decimal n) }
 {
@@ -118,6 +122,7 @@ fn push_number(t: Text, n: u64, after: u8) -> Text
 }
 
 // "Numbers are decimal, one space apart"
+#[tactic(auto, using(crate::proofs::Texts::five_line))]
 fn numbers_text(code: u64, kind: u64, host: u64, block: u64, value: u64) -> Text
     ensures { result ≡ text_of (line_with (code ∷ kind ∷ host ∷ block ∷ value ∷ [])) }
 {
@@ -129,6 +134,7 @@ fn numbers_text(code: u64, kind: u64, host: u64, block: u64, value: u64) -> Text
 }
 
 // "code, outcome, host, block, value"
+#[tactic(auto, unfolding(crate::specs::Texts::answer_line))]
 pub fn answer_text(code: u64, o: Outcome) -> Text
     ensures { result ≡ text_of (answer_line code o) }
 {

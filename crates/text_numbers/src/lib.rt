@@ -58,6 +58,7 @@ fn bad_reading() -> Reading
 }
 
 // Before the first byte.
+#[tactic(auto, unfolding(rules::specs::Words::each))]
 fn new_reading() -> Reading
     ensures { result ≡ new_reading }
 {
@@ -85,6 +86,7 @@ fn say_also(l: Line, n: u64) -> Line
 }
 
 // A space or the line's end: the word that has begun is a number more.
+#[tactic(auto, unfolding(crate::specs::Steps::ended))]
 fn end_word(r: Reading) -> Reading
     requires { r.line.count < 1000 }
     ensures { result ≡ ended r }
@@ -97,6 +99,7 @@ fn end_word(r: Reading) -> Reading
 }
 
 // A digit, as long as the number fits 64 bits.
+#[tactic(auto, unfolding(crate::specs::Steps::continued))]
 fn add_digit(r: Reading, d: u64) -> Reading
     requires { d < 10 }
     ensures { result ≡ continued r d }
@@ -123,6 +126,7 @@ fn wide(byte: u8) -> u64
 }
 
 // One byte of a line. A bad line stays bad.
+#[tactic(auto, unfolding(crate::specs::Steps::taken))]
 fn take_byte(r: Reading, byte: u8) -> Reading
     requires { r.line.count < 1000 }
     ensures { result ≡ taken r byte }
