@@ -1,5 +1,5 @@
 // A chunk of a lent table, read and written where it lies.
-// In `_in` and `put_` the array goes as a slice: then its length is known where there is no such number.
+// An array is named as a slice where it is asked for beyond its end: so its length is known.
 #![tactic(auto)]
 
 ghost use Rattle.std.specs.Prelude.{◌≡◌, get_or};

@@ -1,5 +1,5 @@
 // The network's places of a lent table, read and written where they lie.
-// In `_in` and `put_` the array goes as a slice: then its length is known where there is no such number.
+// An array is named as a slice where it is asked for beyond its end: so its length is known.
 #![tactic(auto)]
 
 ghost use Rattle.std.specs.Prelude.{◌+◌, ◌<◌, cond, not, ◌≡◌, get_or, set};
@@ -80,6 +80,7 @@ fn counted(free: u64, p: Place) -> u64
 pub fn free_in(t: &Table) -> u64
     ensures { result ≡ free_places t.now.places }
 {
+    let _places: &[Place] = &t.places;
     let mut free: u64 = 0;
     let mut i: u64 = 0;
     while i < rules::PLACES as u64 {
@@ -93,6 +94,7 @@ pub fn free_in(t: &Table) -> u64
 fn lowest_in(t: &Table) -> u64
     ensures { result ≡ place is_free t.now.places }
 {
+    let _places: &[Place] = &t.places;
     let mut at: u64 = 0;
     while is_taken(place_in(t, at)) {
         at = at + 1;
