@@ -1,13 +1,13 @@
 // Event 15, the epoch change, in its parts: its code, every chunk renewed.
 #![tactic(auto)]
 
-ghost use Rattle.std.specs.Prelude.{◌≡◌, ◌&&◌, get_or};
+ghost use Rattle.std.specs.Prelude.{◌≡◌, ◌&&◌, get_or, if◌then◌else◌};
 ghost use Rattle.rules.specs.Codes.{code_of};
 ghost use Rattle.rules.specs.Events.{anew, renewed, all_lost, epoch_refusals};
 ghost use Rattle.rules.specs.Kinds.{is_failed};
 ghost use Rattle.rules.specs.Limits.{chunk_limit, block_limit};
 ghost use Rattle.rules.specs.Tables.{is_block, set_of};
-ghost use Rattle.rules.specs.Words.{if◌then◌else◌, each, some, numbers};
+ghost use Rattle.rules.specs.Words.{each, some, numbers};
 ghost use Rattle.rules.specs.Zero.{no_chunk};
 
 use rules::{Chunk, Creation, Epoch, Set, State};

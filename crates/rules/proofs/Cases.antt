@@ -1,4 +1,5 @@
 -- Document 01, "Proved cases", P1 to P12: one table. "Unless said, last read and last write are 0, value 0, no chunk lost"
+use Rattle.std.specs.Prelude.{if◌then◌else◌}
 use Prim.Native.Nat.{ℕ}
 use mathlib.Core.Path.{◌≡◌, refl}
 use mathlib.Core.Bool.{Bool, true, false}
@@ -18,7 +19,7 @@ use Rattle.rules.specs.Network.{sent, free_places, how_many, sent_to_each, repli
 use Rattle.rules.specs.Settlement.{W, beside_w, agreed, committed, writes, commits, latest, written_with, settled_record, settled}
 use Rattle.rules.specs.Tables.{host_of, record_of, slot_of, with_host, with_chunk, with_record, with_places}
 use Rattle.rules.specs.Waiting.{holding, insert, inserted}
-use Rattle.rules.specs.Words.{if◌then◌else◌, those, each, joined, every, some, place, fold, from}
+use Rattle.rules.specs.Words.{those, each, joined, every, some, place, fold, from}
 use Rattle.rules.specs.Zero.{zero_set}
 
 -- ---- the store: one host, chunks A and B, one block on both, age limit 100
