@@ -1,5 +1,5 @@
 // One chunk by itself: it fails, recovers, takes and gives its lease.
-#![tactic(auto)]
+#![tactic(auto, unfolding(rules::specs::Codes::code_of))]
 
 ghost use Rattle.std.specs.Prelude.{◌≡◌, eqb};
 ghost use Rattle.rules.specs.Codes.{code_of, unless_refused};

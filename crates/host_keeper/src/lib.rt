@@ -30,6 +30,7 @@ pub struct Drawn {
 }
 
 // "clock not above the host's last drawn" (3); a number too large for a timestamp is outside its range (1).
+#[tactic(auto, unfolding(rules::specs::Codes::code_of))]
 fn draw_code(k: Keeper, clock: u64) -> u64
     ensures { result ≡ code_of (draw_refusals k clock) }
 {
@@ -46,6 +47,7 @@ fn draw_code(k: Keeper, clock: u64) -> u64
 }
 
 // A refused draw leaves the keeper as it was; a granted one remembers the clock.
+#[tactic(auto, unfolding(crate::specs::Keeper::drawn))]
 fn kept(k: Keeper, clock: u64) -> Keeper
     ensures { result ≡ (drawn k clock).keeper }
 {
@@ -60,6 +62,7 @@ fn kept(k: Keeper, clock: u64) -> Keeper
 }
 
 // A refused draw hands out its code; a granted one "clock x 8 + host number".
+#[tactic(auto, using(crate::proofs::Laws::draw_ranges), unfolding(crate::specs::Keeper::drawn))]
 fn handed_by(k: Keeper, clock: u64) -> Handed
     ensures { result ≡ handed k clock }
 {

@@ -20,6 +20,7 @@ fn is_empty(s: Slot) -> bool
 }
 
 // "4 deliver (place), 5 drop (place). Empty place: 2".
+#[tactic(auto, unfolding(rules::specs::Codes::code_of))]
 pub fn place_code(s: Slot) -> u64
     ensures { result ≡ code_of (place_refusals s) }
 {

@@ -1,6 +1,6 @@
 -- A part of what lies in memory, taken out and put back with another value: `Hole`. A field that is an array, an element of an array, and a hole within a hole.
 use mathlib.Core.Path.{◌≡◌, refl, sym, ◌∙◌, subst}
-use Prim.Native.Nat.{ℕ, ◌<◌, ◌≤◌, ◌+◌}
+use Prim.Native.Nat.{ℕ, ◌<◌, ◌≤◌}
 use mathlib.Core.Bool.{not}
 use native.Mathlib.Omega.{arith}
 use mathlib.Core.List.{List, [], ◌∷◌}
@@ -10,7 +10,7 @@ use seplogic.Ra.Ura.{Ura}
 use base.Logic.{SProp, ent, sep, wand, guard, guard_i, apply∗}
 use base.Fml.{Share, Fml}
 use types.Logic.{Logic, sem}
-use types.Kit.{‵, raw, ◌⊛◌, ◌$◌, ◌∵◌, !, qed, by, move, use1, use2, split, assume, frame, rewrite, fsplit, fjoin, feq_i, feq_l, done}
+use types.Kit.{‵, raw, ◌⊛◌, ◌$◌, ◌∵◌, !, qed, by, use1, use2, split, assume, frame, rewrite, fsplit, fjoin, feq_i, feq_l, done}
 use types.SemTy.{cells}
 use types.Share.{arr_parts}
 use denote.RattleType.{RattleType}

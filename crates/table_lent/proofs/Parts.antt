@@ -1,4 +1,4 @@
--- The parts of the table: where each lies, and how it is taken out and put back. walks/make writes this file.
+-- The parts of the table: where each lies, and how it is taken out and put back.
 use mathlib.Core.Path.{◌≡◌, refl, sym, ap, subst}
 use Prim.Native.Nat.{ℕ, ◌+◌, ◌≤◌, ◌<◌}
 use mathlib.Core.List.{List}
@@ -10,8 +10,7 @@ use types.Logic.{Logic, sem}
 use denote.Memory.{part_at}
 use denote.Array.{Array}
 use borrow.Table.Elements.{at}
-use borrow.Struct.Behind.{put_at}
-use borrow.Struct.Items.{cut-records}
+use borrow.Struct.Behind.{put_at_lem}
 use borrow.Struct.Inner.{Cut-record}
 use lib.Seq.{set-get_or, set_out}
 use Rattle.rules.specs.Tables.{with_epoch, with_hosts, with_chunks, with_records, with_places}
@@ -37,14 +36,14 @@ module _ {M : Type 1} {𝓤 : Ura M} (𝓛 : Logic 𝓤) (q : Share) where
   pub creation_hole : (h : Table) (b o : ℕ) → Hole 𝓛 q TableR.the_row CreationR.the_row h h h.creation h.creation b o (o + 0)
   creation_hole h b o =
       Cut-record 𝓛 q TableR.the_row CreationR.the_type 0 h h h.creation h.creation (b, o)
-      (put_at 𝓛 q TableR.the_type TableL.the_laws 0 0 refl refl (b, o) h h ((TableR.struct).as_values h) h.creation refl refl)
+      (put_at_lem 𝓛 q TableR.the_type TableL.the_loose 0 0 refl refl (b, o) h h ((TableR.struct).as_values h) h.creation refl refl)
 
 -- ---- epoch
 module _ {M : Type 1} {𝓤 : Ura M} (𝓛 : Logic 𝓤) (q : Share) where
   pub epoch_hole : (h : Table) (x : Epoch) (b o : ℕ) → Hole 𝓛 q TableR.the_row EpochR.the_row h (with_epoch h x) h.epoch x b o (o + 160)
   epoch_hole h x b o =
       Cut-record 𝓛 q TableR.the_row EpochR.the_type 160 h (with_epoch h x) h.epoch x (b, o)
-      (put_at 𝓛 q TableR.the_type TableL.the_laws 1 160 refl refl (b, o) h (with_epoch h x) ((TableR.struct).as_values h) x refl refl)
+      (put_at_lem 𝓛 q TableR.the_type TableL.the_loose 1 160 refl refl (b, o) h (with_epoch h x) ((TableR.struct).as_values h) x refl refl)
 
 -- ---- hosts
 abbrev pub hosts-at : ℕ → ℕ → ℕ
@@ -62,8 +61,7 @@ host_unset h k x l le = sym (ap (with_hosts h) (set_out h.hosts k x (subst (λ (
 module _ {M : Type 1} {𝓤 : Ura M} (𝓛 : Logic 𝓤) (q : Share) where
   hosts_hole : (h : Table) (xs : List Host) (b o : ℕ) → Hole 𝓛 q TableR.the_row (Array HostR.the_row 8) h (with_hosts h xs) h.hosts xs b o (o + 168)
   hosts_hole h xs b o =
-      cut-records 𝓛 q TableR.the_row HostR.the_type 8 168 h (with_hosts h xs) h.hosts xs (b, o)
-      (put_at 𝓛 q TableR.the_type TableL.the_laws 2 168 refl refl (b, o) h (with_hosts h xs) ((TableR.struct).as_values h) xs refl refl)
+      put_at_lem 𝓛 q TableR.the_type TableL.the_loose 2 168 refl refl (b, o) h (with_hosts h xs) ((TableR.struct).as_values h) xs refl refl
 
   pub host_hole : (h : Table) (k : ℕ) (x : Host) (b o : ℕ) → k < 8 → Hole 𝓛 q TableR.the_row HostR.the_row h (with_hosts h (set h.hosts k x)) (get_or h.hosts k zero_host) x b o (hosts-at o k)
   host_hole h k x b o lt =
@@ -89,8 +87,7 @@ chunk_unset h k x l le = sym (ap (with_chunks h) (set_out h.chunks k x (subst (�
 module _ {M : Type 1} {𝓤 : Ura M} (𝓛 : Logic 𝓤) (q : Share) where
   chunks_hole : (h : Table) (xs : List Chunk) (b o : ℕ) → Hole 𝓛 q TableR.the_row (Array ChunkR.the_row 8) h (with_chunks h xs) h.chunks xs b o (o + 2280)
   chunks_hole h xs b o =
-      cut-records 𝓛 q TableR.the_row ChunkR.the_type 8 2280 h (with_chunks h xs) h.chunks xs (b, o)
-      (put_at 𝓛 q TableR.the_type TableL.the_laws 3 2280 refl refl (b, o) h (with_chunks h xs) ((TableR.struct).as_values h) xs refl refl)
+      put_at_lem 𝓛 q TableR.the_type TableL.the_loose 3 2280 refl refl (b, o) h (with_chunks h xs) ((TableR.struct).as_values h) xs refl refl
 
   pub chunk_hole : (h : Table) (k : ℕ) (x : Chunk) (b o : ℕ) → k < 8 → Hole 𝓛 q TableR.the_row ChunkR.the_row h (with_chunks h (set h.chunks k x)) (get_or h.chunks k zero_chunk) x b o (chunks-at o k)
   chunk_hole h k x b o lt =
@@ -116,8 +113,7 @@ record_unset h k x l le = sym (ap (with_records h) (set_out h.records k x (subst
 module _ {M : Type 1} {𝓤 : Ura M} (𝓛 : Logic 𝓤) (q : Share) where
   records_hole : (h : Table) (xs : List Record) (b o : ℕ) → Hole 𝓛 q TableR.the_row (Array RecordR.the_row 128) h (with_records h xs) h.records xs b o (o + 2536)
   records_hole h xs b o =
-      cut-records 𝓛 q TableR.the_row RecordR.the_type 128 2536 h (with_records h xs) h.records xs (b, o)
-      (put_at 𝓛 q TableR.the_type TableL.the_laws 4 2536 refl refl (b, o) h (with_records h xs) ((TableR.struct).as_values h) xs refl refl)
+      put_at_lem 𝓛 q TableR.the_type TableL.the_loose 4 2536 refl refl (b, o) h (with_records h xs) ((TableR.struct).as_values h) xs refl refl
 
   pub record_hole : (h : Table) (k : ℕ) (x : Record) (b o : ℕ) → k < 128 → Hole 𝓛 q TableR.the_row RecordR.the_row h (with_records h (set h.records k x)) (get_or h.records k zero_record) x b o (records-at o k)
   record_hole h k x b o lt =
@@ -143,8 +139,7 @@ place_unset h k x l le = sym (ap (with_places h) (set_out h.places k x (subst (�
 module _ {M : Type 1} {𝓤 : Ura M} (𝓛 : Logic 𝓤) (q : Share) where
   places_hole : (h : Table) (xs : List Place) (b o : ℕ) → Hole 𝓛 q TableR.the_row (Array PlaceR.the_row 64) h (with_places h xs) h.places xs b o (o + 47592)
   places_hole h xs b o =
-      cut-records 𝓛 q TableR.the_row PlaceR.the_type 64 47592 h (with_places h xs) h.places xs (b, o)
-      (put_at 𝓛 q TableR.the_type TableL.the_laws 5 47592 refl refl (b, o) h (with_places h xs) ((TableR.struct).as_values h) xs refl refl)
+      put_at_lem 𝓛 q TableR.the_type TableL.the_loose 5 47592 refl refl (b, o) h (with_places h xs) ((TableR.struct).as_values h) xs refl refl
 
   pub place_hole : (h : Table) (k : ℕ) (x : Place) (b o : ℕ) → k < 64 → Hole 𝓛 q TableR.the_row PlaceR.the_row h (with_places h (set h.places k x)) (get_or h.places k zero_place) x b o (places-at o k)
   place_hole h k x b o lt =

@@ -1,2 +1,2 @@
-// What walks of functions over a lent table stand on (walks/README.md). It is all in proofs/.
+// A part of a lent table taken out and put back, and a table lent on: what a walk by hand of a function over it stands on. It is all in proofs/.
 #![tactic(auto)]
