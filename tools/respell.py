@@ -20,6 +20,9 @@ TOKEN = re.compile(r"[A-Za-zℕ][A-Za-z0-9_'≢≡≤ℕ]*(?:-[A-Za-z0-9_'≢≡
 USE = re.compile(r"^\s*(?:ghost )?use ([^\s{;]+?)(?:\.\{([^}]*)\})?(?: as \S+)?;?\s*$")
 # names of the library that stand behind a path
 LEAVE = {"suc-suc"}
+# names that share a line with others, or are given by `as`
+ALSO = {"writeK": "write_k", "readK": "read_k", "noW": "no_w", "noZ": "no_z"}
+ALSO |= {"a" + n: "a_" + n.lower() for n in "Host Chunk Block Place Clock Time Value".split()}
 # words of the library that lemma names are made of
 LIBRARY = set("length take drop set get get_or append cons reverse map replicate zero suc add sub mul eqb ltb leb not sum".split())
 
@@ -87,7 +90,7 @@ def table(root):
         for n in set(TOKEN.findall(re.sub(r"--.*", "", text))):
             if n not in renamed and n not in outside and n not in LEAVE and ("-" in n or n == "New-is") and not n.startswith("Rattle"):
                 renamed[n] = n.replace("-", "_") if n != "New-is" else "new_is"
-    renamed = {n: to for n, to in renamed.items() if n != to}
+    renamed = {n: to for n, to in (renamed | ALSO).items() if n != to}
     # where two would fall together, the definition has the name and the lemma `_lem`
     taken = {to for n, to in renamed.items() if "-" not in n} | {n for n in found if n not in renamed}
     renamed = {n: to + "_lem" if "-" in n and to in taken else to for n, to in renamed.items()}
@@ -112,6 +115,7 @@ def lent(text, path, root, clash, own):
 
 
 def turned(text, renamed, skip):
+    text = re.sub(r"◌([a-z]+[A-Z]\w*)◌", lambda m: "◌%s◌" % words(m.group(1)), text)
     return TOKEN.sub(lambda m: m.group(0) if m.group(0) in skip else renamed.get(m.group(0), m.group(0)), text)
 
 

@@ -1,10 +1,9 @@
 // One chunk by itself: it fails, recovers, takes and gives its lease.
 #![tactic(auto, unfolding(rules::specs::Codes::code_of))]
 
-ghost use Rattle.std.specs.Prelude.{◌≡◌, eqb};
+ghost use Rattle.std.specs.Prelude.{◌≡◌, eqb, if◌then◌else◌};
 ghost use Rattle.rules.specs.Codes.{code_of, unless_refused};
 ghost use Rattle.rules.specs.Chunks.{with_state, fail_refusals, failed, recover_refusals, recovered, take_lease_refusals, lease_taken, give_lease_refusals, lease_given};
-ghost use Rattle.rules.specs.Words.{if◌then◌else◌};
 
 use rules::{Chunk, State};
 

@@ -68,6 +68,7 @@ fn waits(c: Chunk, r: Record, header: Header, epoch: Epoch, kind: Kind) -> Arriv
 }
 
 // "Read or prewrite at a chunk, in this order": version mismatch, error, out of order, busy; else it waits.
+#[tactic(auto, unfolding(rules::specs::Chunks::arrived))]
 fn read_or_prewrite(
     blocks: u64,
     c: Chunk,
@@ -96,6 +97,7 @@ fn read_or_prewrite(
 }
 
 // "Commit and abort ignore the epoch"; "for a block outside, nothing changes".
+#[tactic(auto, unfolding(rules::specs::Chunks::decides))]
 fn commit_or_abort(blocks: u64, c: Chunk, r: Record, header: Header, commit: bool) -> Arrived
     ensures { result ≡ decides blocks c r header commit }
 {
@@ -111,6 +113,7 @@ fn commit_or_abort(blocks: u64, c: Chunk, r: Record, header: Header, commit: boo
 }
 
 // A message at a chunk that takes notice. (Replies go to hosts.)
+#[tactic(auto, unfolding(rules::specs::Chunks::at_chunk))]
 fn at_chunk(blocks: u64, c: Chunk, r: Record, m: Message) -> Arrived
     ensures { result ≡ at_chunk blocks c r (header_of m) (sort_of m) }
 {

@@ -1,11 +1,10 @@
 -- A chunk of a table fails: its records emptied one after the other. proofs/Laws.antt proves that this is the rules'
-use Rattle.std.specs.Prelude.{ℕ, get_or, set, eqb}
+use Rattle.std.specs.Prelude.{ℕ, get_or, set, eqb, if◌then◌else◌}
 use Rattle.rules.specs.declared.Table.{Table}
 use Rattle.rules.specs.Chunks.{fail_refusals, failed, emptied}
 use Rattle.rules.specs.Codes.{code_of}
 use Rattle.rules.specs.Events.{without_waiting}
 use Rattle.rules.specs.Tables.{chunk_of, with_chunk, with_records}
-use Rattle.rules.specs.Words.{if◌then◌else◌}
 use Rattle.rules.specs.Zero.{zero_record}
 use Rattle.table_records.specs.Numbers.{record_number}
 

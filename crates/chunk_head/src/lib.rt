@@ -39,6 +39,7 @@ fn is_undecided(k: Kind) -> bool
 // ---- run
 
 // "normal, head exists and isn't undecided (2); room if the head is a read (5)".
+#[tactic(auto, unfolding(rules::specs::Codes::code_of))]
 fn run_code(state: State, w: Waiting, free: u64) -> u64
     ensures { result ≡ code_of (run_refusals state w free) }
 {
@@ -122,6 +123,7 @@ fn run_committed(c: Chunk, r: Record, t: Timestamp, v: u64) -> Arrived
 }
 
 // "The head is removed; for an aborted one that is all". (An undecided head is refused.)
+#[tactic(auto, unfolding(rules::specs::Chunks::ran))]
 fn run_head(chunk: u64, block: u64, c: Chunk, r: Record) -> Arrived
     ensures { result ≡ ran chunk block c r }
 {
@@ -188,6 +190,7 @@ fn is_overdue(now: u64, t: Timestamp, age: u64) -> bool
 }
 
 // "normal, head undecided, and now minus the head's clock above the age limit, else 2".
+#[tactic(auto, unfolding(rules::specs::Codes::code_of))]
 fn overdue_code(state: State, w: Waiting, now: u64, age: u64) -> u64
     ensures { result ≡ code_of (overdue_refusals state w now age) }
 {

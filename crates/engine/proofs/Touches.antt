@@ -1,4 +1,4 @@
--- An event that touches one host, one chunk, one record and the network, on a well_formed_lem table: where they stand in the rules' words,
+-- An event that touches one host, one chunk, one record and the network, on a well-formed table: where they stand in the rules' words,
 -- and the table after it
 use Prim.Native.Nat.{ℕ}
 use mathlib.Core.List.{List}

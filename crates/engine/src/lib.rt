@@ -65,7 +65,7 @@ fn next_of(x: Epoch) -> Epoch
 
 // ---- the event, where the table lies
 
-// On a well_formed_lem table: ranges first, then the event. Failure and epoch change touch more than one record.
+// On a well-formed table: ranges first, then the event. Failure and epoch change touch more than one record.
 fn step_formed(t: &mut Table, e: Event) -> Reply
     requires { well_formed t.old ≡ true }
     ensures { (result ≡ reply_of (step t.old e)) × (t.new ≡ (step t.old e).table) }

@@ -19,7 +19,7 @@ use Rattle.rules.specs.Kinds.{is_failed}
 use Rattle.rules.specs.Limits.{chunk_limit, block_limit}
 use Rattle.rules.specs.Settlement.{settled}
 use Rattle.rules.specs.Tables.{is_block, set_of, at, records_by}
-use Rattle.rules.specs.Words.{each, every, numbers}
+use Rattle.rules.specs.Words.{every, numbers}
 use Rattle.rules.specs.Zero.{◌among◌, no_chunk, no_record, no_copy}
 use Rattle.rules.proofs.Lists.{grid-at, every-those}
 use Rattle.rules.proofs.Loops.{below_next, grid-length, grid_of, grid-same}

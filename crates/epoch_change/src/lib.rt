@@ -1,13 +1,13 @@
 // Event 15, the epoch change, in its parts: its code, every chunk renewed.
 #![tactic(auto)]
 
-ghost use Rattle.std.specs.Prelude.{◌≡◌, ◌&&◌, get_or};
+ghost use Rattle.std.specs.Prelude.{◌≡◌, ◌&&◌, get_or, if◌then◌else◌};
 ghost use Rattle.rules.specs.Codes.{code_of};
 ghost use Rattle.rules.specs.Events.{anew, renewed, all_lost, epoch_refusals};
 ghost use Rattle.rules.specs.Kinds.{is_failed};
 ghost use Rattle.rules.specs.Limits.{chunk_limit, block_limit};
 ghost use Rattle.rules.specs.Tables.{is_block, set_of};
-ghost use Rattle.rules.specs.Words.{if◌then◌else◌, each, some, numbers};
+ghost use Rattle.rules.specs.Words.{each, some, numbers};
 ghost use Rattle.rules.specs.Zero.{no_chunk};
 
 use rules::{Chunk, Creation, Epoch, Set, State};
@@ -70,6 +70,7 @@ fn any_all_lost(k: Creation, chunks: [Chunk; rules::CHUNKS]) -> bool
 }
 
 // "15 epoch change: no chunk failed (2), then 7, then 6".
+#[tactic(auto, unfolding(rules::specs::Codes::code_of))]
 pub fn change_code(k: Creation, epoch: Epoch, chunks: [Chunk; rules::CHUNKS]) -> u64
     ensures { result ≡ code_of (epoch_refusals k epoch chunks) }
 {

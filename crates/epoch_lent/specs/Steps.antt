@@ -1,5 +1,5 @@
 -- The blocks of a table settled one after the other. proofs/Laws.antt proves that this is the rules'
-use Rattle.std.specs.Prelude.{ℕ, List, get_or, set, eqb, ltb}
+use Rattle.std.specs.Prelude.{ℕ, List, get_or, set, eqb, ltb, if◌then◌else◌}
 use Rattle.rules.specs.declared.Creation.{Creation}
 use Rattle.rules.specs.declared.Record.{Record}
 use Rattle.rules.specs.declared.Chunk.{Chunk}
@@ -11,7 +11,7 @@ use Rattle.rules.specs.Events.{settled_in, renewed, epoch_refusals}
 use Rattle.rules.specs.Limits.{chunk_limit}
 use Rattle.rules.specs.Settlement.{settled}
 use Rattle.rules.specs.Tables.{set_of, with_records, with_chunk, with_chunks, with_epoch}
-use Rattle.rules.specs.Words.{if◌then◌else◌, each, fold, numbers}
+use Rattle.rules.specs.Words.{each, fold, numbers}
 use Rattle.rules.specs.Zero.{◌among◌, zero_chunk, zero_record, no_copy}
 use Rattle.table_records.specs.Numbers.{record_number}
 

@@ -1,12 +1,11 @@
 -- Settlement as the code goes about it, one copy or one entry after the other. proofs/Laws.antt proves that this is the rules'
-use Rattle.std.specs.Prelude.{Bool, ◌&&◌, ◌||◌, not, List}
+use Rattle.std.specs.Prelude.{Bool, ◌&&◌, ◌||◌, not, List, if◌then◌else◌}
 use Rattle.rules.specs.declared.Timestamp.{Timestamp}
 use Rattle.rules.specs.declared.Entry.{Entry}
 use Rattle.rules.specs.declared.Copy.{Copy}
 use Rattle.rules.specs.Kinds.{is_write}
 use Rattle.rules.specs.Settlement.{last_read, holds, holds_aborted, agreed, settled_record}
 use Rattle.rules.specs.Timestamps.{later, ◌above◌}
-use Rattle.rules.specs.Words.{if◌then◌else◌}
 use Rattle.epoch_settle.specs.declared.Common.{Common}
 
 -- what one copy says of t

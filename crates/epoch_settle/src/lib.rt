@@ -1,12 +1,12 @@
 // Settlement of one block: "Settling takes all copies of one block together".
 #![tactic(auto)]
 
-ghost use Rattle.std.specs.Prelude.{◌≡◌, ◌&&◌};
+ghost use Rattle.std.specs.Prelude.{◌≡◌, ◌&&◌, if◌then◌else◌};
 ghost use Rattle.rules.specs.Kinds.{value_of};
 ghost use Rattle.rules.specs.Settlement.{waiting, write_with, aborted_with, not_lost, agreed, settled};
 ghost use Rattle.rules.specs.Timestamps.{later};
 ghost use Rattle.rules.specs.Waiting.{in_order};
-ghost use Rattle.rules.specs.Words.{if◌then◌else◌, some, none, first, fold};
+ghost use Rattle.rules.specs.Words.{some, none, first, fold};
 ghost use Rattle.rules.specs.Zero.{zero_entry, no_copy};
 ghost use Rattle.epoch_settle.specs.Steps.{agrees, with_entry, common};
 

@@ -1,6 +1,6 @@
 -- One event that touches one host, one chunk, one record and the network, on any table: where they stand, what it leaves of them,
 -- and its answer. Beyond an array's end there is zero, and nothing is stored
-use Rattle.std.specs.Prelude.{ℕ, ◌||◌, eqb, ltb, get_or, set}
+use Rattle.std.specs.Prelude.{ℕ, ◌||◌, eqb, ltb, get_or, set, if◌then◌else◌}
 use Rattle.rules.specs.declared.Epoch.{Epoch}
 use Rattle.rules.specs.declared.Set.{Set}
 use Rattle.rules.specs.declared.Creation.{Creation}
@@ -17,7 +17,6 @@ use Rattle.rules.specs.Events.{done, refused}
 use Rattle.rules.specs.Limits.{block_limit, place_limit}
 use Rattle.rules.specs.Network.{free_places, removed}
 use Rattle.rules.specs.Tables.{set_of, slot_of, with_host, with_chunk, with_records, with_places}
-use Rattle.rules.specs.Words.{if◌then◌else◌}
 use Rattle.rules.specs.Zero.{zero_set, zero_record, zero_chunk, zero_host}
 use Rattle.network_places.specs.Sending.{sent_all}
 use Rattle.event_operands.specs.Address.{place_at, host_at, chunk_at, block_at}

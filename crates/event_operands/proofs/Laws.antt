@@ -13,7 +13,7 @@ use Rattle.rules.specs.Events.{EventKind, event_kinds, unknown_kind, kind_of, ra
 use Rattle.rules.specs.Operands.{in_range, is_own, own_of}
 use Rattle.rules.specs.Words.{those}
 use Rattle.rules.proofs.Lists.{Others, three, walk, under-other}
-use Rattle.event_operands.specs.Address.{sort_number, ◌isA◌, operands_of, the}
+use Rattle.event_operands.specs.Address.{sort_number, ◌is_a◌, operands_of, the}
 
 -- no event has another number
 pub no_kind : (kind : ℕ) → Others (Unit {0}) kind event_kinds → unknown_kind.operands ≡ (kind_of kind).operands

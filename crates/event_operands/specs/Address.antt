@@ -1,5 +1,5 @@
 -- Which place, host, chunk and block an event is about
-use Rattle.std.specs.Prelude.{ℕ, Bool, ◌||◌, eqb}
+use Rattle.std.specs.Prelude.{ℕ, Bool, ◌||◌, eqb, if◌then◌else◌}
 use Rattle.rules.specs.declared.Host.{Host}
 use Rattle.rules.specs.declared.Header.{Header}
 use Rattle.rules.specs.declared.Slot.{Slot}
@@ -10,7 +10,6 @@ use Rattle.rules.specs.Events.{kind_of}
 use Rattle.rules.specs.Hosts.{front}
 use Rattle.rules.specs.Timestamps.{never}
 use Rattle.rules.specs.Messages.{header_of, headed}
-use Rattle.rules.specs.Words.{if◌then◌else◌}
 
 -- ---- the sorts of operands, told apart by a number each
 
@@ -25,8 +24,8 @@ sort_number Operand.Clock = 6
 sort_number Operand.Now = 7
 sort_number Operand.Value = 8
 
-infix 40 ◌isA◌
-abbrev pub ◌isA◌ : Operand → Operand → Bool
+infix 40 ◌is_a◌
+abbrev pub ◌is_a◌ : Operand → Operand → Bool
 o is_a sort = eqb (sort_number o) (sort_number sort)
 
 -- ---- the operand of a sort

@@ -1,15 +1,15 @@
 // An event's operands: are they in their ranges, how many has it, and which place, host, chunk and block is it about?
 #![tactic(auto)]
 
-ghost use Rattle.std.specs.Prelude.{◌≤◌, ◌≡◌, length};
+ghost use Rattle.std.specs.Prelude.{◌≤◌, ◌≡◌, length, if◌then◌else◌};
 ghost use Rattle.rules.specs.Events.{kind_of, ranges};
 ghost use Rattle.rules.specs.Operands.{in_range, is_own, own_of};
-ghost use Rattle.rules.specs.Words.{if◌then◌else◌};
-ghost use Rattle.event_operands.specs.Address.{sort_number, ◌isA◌, has_a, the, address_of, place_at, host_at, chunk_at, block_at};
+ghost use Rattle.event_operands.specs.Address.{sort_number, ◌is_a◌, has_a, the, address_of, place_at, host_at, chunk_at, block_at};
 
 use rules::{Creation, Event, Header, Host, Operand, Operands, Slot, Timestamp};
 
 // What the operands of a kind are; no number is in the range of an unknown one's.
+#[tactic(auto, unfolding(rules::specs::Events::kind_of, rules::specs::Words::place))]
 fn operands_of(kind: u64) -> Operands
     ensures { result ≡ (kind_of kind).operands }
 {
@@ -53,6 +53,7 @@ fn fits(k: Creation, o: Operand, n: u64) -> bool
 }
 
 // "number outside its range, unknown kind, unused operand not 0".
+#[tactic(auto, unfolding(rules::specs::Events::ranges))]
 pub fn in_range(k: Creation, e: Event) -> bool
     ensures { result ≡ ranges k e }
 {

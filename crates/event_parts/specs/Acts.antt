@@ -1,6 +1,6 @@
 -- One event on the parts of the table that it touches. What it leaves to who holds the table: to store the parts, to remove the
 -- message of a place that is delivered or dropped, and to put the new messages into the network
-use Rattle.std.specs.Prelude.{ℕ, List, []}
+use Rattle.std.specs.Prelude.{ℕ, List, [], if◌then◌else◌}
 use Rattle.rules.specs.declared.Record.{Record}
 use Rattle.rules.specs.declared.Chunk.{Chunk}
 use Rattle.rules.specs.declared.Action.{Action}
@@ -15,7 +15,7 @@ use Rattle.rules.specs.Codes.{Row, code_of, unless_refused}
 use Rattle.rules.specs.Hosts.{intake_refusals, appended, hears, timeout_refusals, timed_out, working_refusals, refreshed, stopped}
 use Rattle.rules.specs.Messages.{sort_of, is_for_chunk}
 use Rattle.rules.specs.Network.{place_refusals}
-use Rattle.rules.specs.Words.{if◌then◌else◌, Numbered, ◌⇒◌⨾◌, under}
+use Rattle.rules.specs.Words.{Numbered, ◌⇒◌⨾◌, under}
 use Rattle.chunk_alone.specs.declared.Changed.{Changed}
 use Rattle.host_alone.specs.declared.Moved.{Moved}
 use Rattle.host_attempts.specs.declared.Sent.{Sent}

@@ -17,6 +17,7 @@ pub struct Moved {
 // ---- intake
 
 // "Stopped: 2. Full: 4".
+#[tactic(auto, unfolding(rules::specs::Codes::code_of))]
 fn intake_code(h: Host) -> u64
     ensures { result ≡ code_of (intake_refusals h) }
 {
@@ -30,6 +31,7 @@ fn intake_code(h: Host) -> u64
 }
 
 // "1 read (host, block); 2 write (host, block, value) .. Else appended".
+#[tactic(auto, unfolding(rules::specs::Hosts::appended))]
 pub fn intake(h: Host, o: Operation) -> Moved
     ensures { result ≡ record { code = code_of (intake_refusals h); host = unless_refused (intake_refusals h) h (appended h o) } }
 {
@@ -53,6 +55,7 @@ pub fn intake(h: Host, o: Operation) -> Moved
 // ---- timeout, refresh, stop
 
 // "needs working, something outstanding (2)".
+#[tactic(auto, unfolding(rules::specs::Codes::code_of))]
 fn timeout_code(h: Host) -> u64
     ensures { result ≡ code_of (timeout_refusals h) }
 {
@@ -89,6 +92,7 @@ pub fn time_out(h: Host) -> Moved
 }
 
 // "8 refresh (host): working (2)"; "10 stop (host), once".
+#[tactic(auto, unfolding(rules::specs::Codes::code_of))]
 fn working_code(h: Host) -> u64
     ensures { result ≡ code_of (working_refusals h) }
 {

@@ -1,5 +1,5 @@
 -- The start and the finish of an attempt, refusal and effect together
-use Rattle.std.specs.Prelude.{ℕ, not, List, eqb}
+use Rattle.std.specs.Prelude.{ℕ, not, List, eqb, if◌then◌else◌}
 use Rattle.rules.specs.declared.Set.{Set}
 use Rattle.rules.specs.declared.Host.{Host}
 use Rattle.rules.specs.declared.Outcome.{Outcome}
@@ -8,7 +8,7 @@ use Rattle.rules.specs.Codes.{Row, code_of, unless_refused}
 use Rattle.rules.specs.Hosts.{front, start_refusals, opening_to, opening, started, finish_refusals, closing_to, closing, finish_outcome, finished}
 use Rattle.rules.specs.Messages.{headed, asking}
 use Rattle.rules.specs.Network.{how_many}
-use Rattle.rules.specs.Words.{if◌then◌else◌, each}
+use Rattle.rules.specs.Words.{each}
 use Rattle.host_keeper.specs.declared.Drawn.{Drawn}
 use Rattle.host_keeper.specs.declared.Keeper.{Keeper}
 use Rattle.host_keeper.specs.Keeper.{drawn}

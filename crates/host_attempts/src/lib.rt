@@ -149,6 +149,7 @@ pub fn start(number: u64, clock: u64, copy: u64, holders: Set, h: Host, free: u6
 // ---- finish
 
 // "Needs working, a current operation, nothing outstanding (2); room for a write's messages (5)".
+#[tactic(auto, unfolding(rules::specs::Codes::code_of))]
 fn finish_code(h: Host, free: u64, to: Set) -> u64
     ensures { result ≡ code_of (finish_refusals h free (how_many to)) }
 {
@@ -213,6 +214,7 @@ fn failed_as(host: u64, o: Operation) -> Outcome
 }
 
 // "with restart the operation goes back to the front, otherwise it has failed".
+#[tactic(auto, unfolding(rules::specs::Hosts::finish_outcome))]
 fn finish_outcome(host: u64, h: Host) -> Outcome
     ensures { result ≡ finish_outcome host h }
 {
@@ -227,6 +229,7 @@ fn finish_outcome(host: u64, h: Host) -> Outcome
 }
 
 // "No current operation remains, and its fields become zero or false".
+#[tactic(auto, unfolding(rules::specs::Hosts::finished))]
 fn end(h: Host) -> Host
     ensures { result ≡ finished h }
 {

@@ -1,4 +1,5 @@
 -- What the crate's functions cite of the rules: a draw's code is 0, or not
+use Rattle.std.specs.Prelude.{if◌then◌else◌}
 use Prim.Native.Nat.{ℕ, ◌≤◌, ◌<◌}
 use mathlib.Core.Path.{◌≡◌, refl, sym, ◌∙◌}
 use mathlib.Core.Bool.{Bool, true, false}
@@ -7,7 +8,7 @@ use lib.Dec.{eqb, leb}
 use borrow.Author.Tests.{ltb-false, leb-false, lt-leb, le-ltb, ne_eqb}
 use Rattle.rules.specs.Codes.{code_of}
 use Rattle.rules.specs.Limits.{host_limit, greatest_clock}
-use Rattle.rules.specs.Words.{if◌then◌else◌, every}
+use Rattle.rules.specs.Words.{every}
 use Rattle.rules.proofs.Refusals.{granted_exactly}
 use Rattle.host_keeper.specs.declared.Drawn.{Drawn}
 use Rattle.host_keeper.specs.declared.Keeper.{Keeper}

@@ -1,9 +1,8 @@
 -- "For drawing, each host's clock keeper hands out a number and remembers it"
-use Rattle.std.specs.Prelude.{ℕ, List, eqb, ltb, leb}
+use Rattle.std.specs.Prelude.{ℕ, List, eqb, ltb, leb, if◌then◌else◌}
 use Rattle.rules.specs.Codes.{Row, ◌gives◌⨾◌, granted, code_of}
 use Rattle.rules.specs.Limits.{host_limit, greatest_clock}
 use Rattle.rules.specs.Timestamps.{stamp, never}
-use Rattle.rules.specs.Words.{if◌then◌else◌}
 use Rattle.host_keeper.specs.declared.Drawn.{Drawn}
 use Rattle.host_keeper.specs.declared.Handed.{Handed}
 use Rattle.host_keeper.specs.declared.Keeper.{Keeper}

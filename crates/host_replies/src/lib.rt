@@ -92,6 +92,7 @@ fn heard(h: Host, a: Attempt, m: Message) -> Host
 }
 
 // ".. and a stopped host take no notice"; a reply that does not count changes nothing.
+#[tactic(auto, unfolding(rules::specs::Hosts::at_host))]
 pub fn at_host(h: Host, m: Message) -> Host
     ensures { result ≡ hears h m }
 {

@@ -1,12 +1,12 @@
 -- The new messages of one event, at most one a chunk, and how they go to the network
-use Rattle.std.specs.Prelude.{ℕ, List, set, replicate}
+use Rattle.std.specs.Prelude.{ℕ, List, set, replicate, if◌then◌else◌}
 use Rattle.rules.specs.declared.Set.{Set}
 use Rattle.rules.specs.declared.Message.{Message}
 use Rattle.rules.specs.declared.Slot.{Slot}
 use Rattle.rules.specs.declared.Place.{Place}
 use Rattle.rules.specs.Limits.{chunk_limit}
 use Rattle.rules.specs.Network.{replied}
-use Rattle.rules.specs.Words.{if◌then◌else◌, each, fold, numbers}
+use Rattle.rules.specs.Words.{each, fold, numbers}
 use Rattle.rules.specs.Zero.{◌among◌, zero_place}
 
 -- "Its reply, if any": the first, and the only one

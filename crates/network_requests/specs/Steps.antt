@@ -1,5 +1,5 @@
 -- What a host asks of a chunk, for the crate's own functions
-use Rattle.std.specs.Prelude.{ℕ, Bool}
+use Rattle.std.specs.Prelude.{ℕ, Bool, if◌then◌else◌}
 use Rattle.rules.specs.declared.Timestamp.{Timestamp}
 use Rattle.rules.specs.declared.Epoch.{Epoch}
 use Rattle.rules.specs.declared.Message.{Message}
@@ -7,7 +7,6 @@ use Rattle.rules.specs.declared.Request.{Request}
 use Rattle.rules.specs.declared.Slot.{Slot}
 use Rattle.rules.specs.declared.Place.{Place}
 use Rattle.rules.specs.Messages.{headed, asking}
-use Rattle.rules.specs.Words.{if◌then◌else◌}
 
 abbrev pub request_to : Request → (host block : ℕ) → Timestamp → Epoch → (chunk : ℕ) → Message
 request_to q host block now epoch chunk = asking (headed host chunk block now) epoch q

@@ -7,7 +7,7 @@ use native.Mathlib.Omega.{arith}
 
 -- what was begun under a timestamp: nothing, a read or a write
 pub data Began : Type 0 where
-  idle readK writeK : Began
+  idle read_k write_k : Began
 
 -- a waiting write is undecided, committed or aborted
 pub data Mark : Type 0 where
@@ -70,7 +70,7 @@ pub record Last (B : Book) (t x : ℕ) : Type 0 where
 
 -- what waits as a write: an attempt of this era with its value, not below the last write, strictly above the last read
 pub record Waits (B : Book) (k : Cell) (t v : ℕ) : Type 0 where
-  pub IsW : B.kind t ≡ writeK
+  pub is_w : B.kind t ≡ write_k
   pub vals : B.value t ≡ v
   pub now : B.ae t ≡ B.era
   pub over_w : k.wr ≤ t
@@ -93,13 +93,13 @@ und≢abt e = subst IsLive e tt
 pub und≢cmt : und ≡ cmt → ⊥
 und≢cmt e = let z : ◌≡◌ {A = ℕ} 0 1 = cc in omega arith
 
-pub read_k≢write_k : readK ≡ writeK → ⊥
+pub read_k≢write_k : read_k ≡ write_k → ⊥
 read_k≢write_k e = let z : ◌≡◌ {A = ℕ} 0 1 = cc in omega arith
 
-pub idle≢read_k : idle ≡ readK → ⊥
+pub idle≢read_k : idle ≡ read_k → ⊥
 idle≢read_k e = let z : ◌≡◌ {A = ℕ} 0 1 = cc in omega arith
 
-pub idle≢write_k : idle ≡ writeK → ⊥
+pub idle≢write_k : idle ≡ write_k → ⊥
 idle≢write_k e = let z : ◌≡◌ {A = ℕ} 0 1 = cc in omega arith
 
 -- what holds of each copy
@@ -107,10 +107,10 @@ pub record CellOk (B : Book) (F : Flow) (c : ℕ) (k : Cell) : Type 0 where
   -- last write and value are 0 and 0, or a listed write with its value
   pub held : Wrote B k.wr k.val
   -- the last read is 0 or a read attempt's timestamp
-  pub read_top : (k.rd ≡ 0) ⊎ (B.kind k.rd ≡ readK)
+  pub read_top : (k.rd ≡ 0) ⊎ (B.kind k.rd ≡ read_k)
   pub waits : (t v : ℕ) (m : Mark) → k.w t v m → Waits B k t v
   -- what waits as a read is one
-  pub reads : (t : ℕ) → k.r t → B.kind t ≡ readK
+  pub reads : (t : ℕ) → k.r t → B.kind t ≡ read_k
   -- a committed entry is listed
   pub done : (t v : ℕ) → k.w t v cmt → B.L t
   -- an aborted entry is neither okay at its host nor listed
@@ -126,7 +126,7 @@ pub record CellOk (B : Book) (F : Flow) (c : ℕ) (k : Cell) : Type 0 where
 
 -- a prewrite has its attempt's value and epoch
 pub record Pre (B : Book) (t e v : ℕ) : Type 0 where
-  pub IsW : B.kind t ≡ writeK
+  pub is_w : B.kind t ≡ write_k
   pub vals : B.value t ≡ v
   pub known : B.ae t ≡ e
 
@@ -135,15 +135,15 @@ module _ (S : ℕ → Type 0) where
   pub record GlobOk (B : Book) (F : Flow) : Type 0 where
     -- whatever carries a timestamp is an attempt of its kind; nothing was begun under 0
     pub zero_k : B.kind 0 ≡ idle
-    pub list_k : (t : ℕ) → B.L t → B.kind t ≡ writeK
-    pub cur_k : (t : ℕ) → F.cur t → B.kind t ≡ writeK
+    pub list_k : (t : ℕ) → B.L t → B.kind t ≡ write_k
+    pub cur_k : (t : ℕ) → F.cur t → B.kind t ≡ write_k
     pub act_cur : (t : ℕ) → F.act t → F.cur t
-    pub ack_k : (t c : ℕ) → F.ack t c → B.kind t ≡ writeK
-    pub abt_k : (t : ℕ) → F.abtm t → B.kind t ≡ writeK
+    pub ack_k : (t c : ℕ) → F.ack t c → B.kind t ≡ write_k
+    pub abt_k : (t : ℕ) → F.abtm t → B.kind t ≡ write_k
     pub pre_k : (c t e v : ℕ) → F.pre c t e v → Pre B t e v
-    pub rdm_k : (c t : ℕ) → F.rdm c t → (B.kind t ≡ readK) × S c
+    pub rdm_k : (c t : ℕ) → F.rdm c t → (B.kind t ≡ read_k) × S c
     -- no attempt is of a later era
-    pub past : (t : ℕ) → B.kind t ≡ writeK → B.ae t ≤ B.era
+    pub past : (t : ℕ) → B.kind t ≡ write_k → B.ae t ≤ B.era
     -- a current write that is listed was listed by an epoch change
     pub own : (t : ℕ) → F.cur t → B.L t → B.ae t < B.era
     -- an aborted write is no host's, and if it is listed an epoch change did it
@@ -157,7 +157,7 @@ module _ (S : ℕ → Type 0) where
 
   -- a read t that got x: some copy's last read guards it, and x is the value of the last listed write below it
   pub record Seen (B : Book) (cell : ℕ → Cell) (t x : ℕ) : Type 0 where
-    pub IsR : B.kind t ≡ readK
+    pub is_r : B.kind t ≡ read_k
     pub guard : ℕ
     pub copy : S guard
     pub over : t ≤ (cell guard).rd

@@ -16,7 +16,6 @@ use Rattle.rules.specs.Kinds.{is_reading}
 use Rattle.rules.specs.Limits.{host_limit}
 use Rattle.rules.specs.Runs.{after, told, Begun, begun, no_attempt, last_of}
 use Rattle.rules.specs.Tables.{host_of}
-use Rattle.rules.specs.Timestamps.{◌is◌}
 use Rattle.rules.specs.Words.{fold}
 use Rattle.rules.proofs.Begun.{Finish, none_or_finish, Current, current_is, begun_more, agrees}
 use Rattle.rules.proofs.Formed.{host-place}

@@ -6,7 +6,7 @@ use mathlib.Core.Bool.{true, false, true≢false}
 use native.Mathlib.Omega.{arith}
 use Rattle.rules.proofs.Lists.{true_or_false}
 use Rattle.one_copy.proofs.Tests.{at, at_all, not-both}
-use Rattle.one_copy.proofs.Abs.{Mark, und, cmt, abt, readK, writeK, Cell, Book, Flow, Live, IsLive, EntryOk, cmt≢abt, idle≢write_k, read_k≢write_k, CellOk, GlobOk, Seen, Inv}
+use Rattle.one_copy.proofs.Abs.{Mark, und, cmt, abt, read_k, write_k, Cell, Book, Flow, Live, IsLive, EntryOk, cmt≢abt, idle≢write_k, read_k≢write_k, CellOk, GlobOk, Seen, Inv}
 
 module _ (S : ℕ → Type 0) where
   -- one cell moves, its last read does not fall: only that cell is to be looked at
@@ -18,7 +18,7 @@ module _ (S : ℕ → Type 0) where
     cells = at_all (λ j x. S j → CellOk B F j x) c k cell ok (λ j _. i.cells j);
     seen = λ t x h. let o : Seen S B cell t x = i.seen t x h in
         record {
-          IsR = o.IsR;
+          is_r = o.is_r;
           guard = o.guard;
           copy = o.copy;
           last = o.last;
@@ -29,7 +29,7 @@ module _ (S : ℕ → Type 0) where
 
   module _ (B : Book) (F : Flow) (c : ℕ) (k : Cell) (g : GlobOk S B F) (i : CellOk B F c k) where
     -- the last read is no write's timestamp
-    pub not-read : (t : ℕ) → B.kind t ≡ writeK → k.rd ≡ t → ⊥
+    pub not-read : (t : ℕ) → B.kind t ≡ write_k → k.rd ≡ t → ⊥
     not-read t h q = elim i.read_top [
       | inl e ↦ idle≢write_k (sym g.zero_k ∙ ap B.kind (sym e ∙ q) ∙ h)
       | inr e ↦ read_k≢write_k (sym e ∙ ap B.kind q ∙ h)
@@ -46,7 +46,7 @@ module _ (S : ℕ → Type 0) where
       held = inr (i.done t v h, (i.waits t v cmt h).vals);
       read_top = i.read_top;
       waits = λ u x m e. let o = i.waits u x m (sub u x m e) in record {
-        IsW = o.IsW;
+        is_w = o.is_w;
         vals = o.vals;
         now = o.now;
         over_r = o.over_r;
@@ -74,13 +74,13 @@ module _ (S : ℕ → Type 0) where
     pub requeue : (w' : ℕ → ℕ → Mark → Type 0) (r' : ℕ → Type 0)
         → ((u x : ℕ) (m : Mark) → w' u x m → EntryOk B F k u x m)
         → ((u : ℕ) → Live k u → ((x : ℕ) × (m : Mark) × w' u x m × IsLive m) ⊎ ((F.act u → ⊥) × (B.L u → ⊥)))
-        → ((u : ℕ) → r' u → B.kind u ≡ readK)
+        → ((u : ℕ) → r' u → B.kind u ≡ read_k)
         → CellOk B F c (record { wr = k.wr; rd = k.rd; val = k.val; lost = k.lost; w = w'; r = r' })
     requeue w' r' good keep rs = record {
       held = i.held;
       read_top = i.read_top;
       waits = λ u x m e. let o = (good u x m e).fits in record {
-        IsW = o.IsW;
+        is_w = o.is_w;
         vals = o.vals;
         now = o.now;
         over_r = o.over_r;

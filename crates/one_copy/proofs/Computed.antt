@@ -1,4 +1,5 @@
 -- Sessions by computation: their answers, their lists, and what one plain copy answers. The statement says something
+use Rattle.std.specs.Prelude.{if◌then◌else◌}
 use Prim.Native.Nat.{ℕ}
 use mathlib.Core.Path.{◌≡◌, refl, ap, ◌∙◌}
 use mathlib.Core.Bool.{true, not}
@@ -15,7 +16,7 @@ use Rattle.rules.specs.Network.{free_places, sent, how_many, sent_to_each, repli
 use Rattle.rules.specs.Runs.{Told, tell, told, nothing, last_of, is_none}
 use Rattle.rules.specs.Settlement.{W, beside_w, agreed, committed, writes, commits, latest, written_with, settled_record, settled}
 use Rattle.rules.specs.Waiting.{holding, insert, inserted, head_removed, first_with, mark, marked}
-use Rattle.rules.specs.Words.{if◌then◌else◌, those, each, joined, every, some, place, fold, from}
+use Rattle.rules.specs.Words.{those, each, joined, every, some, place, fold, from}
 use Rattle.rules.proofs.Keeps.{fresh-formed, step-formed}
 use Rattle.rules.proofs.Lists.{both}
 use Rattle.one_copy.specs.Listed as Listed

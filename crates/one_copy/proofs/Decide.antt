@@ -4,7 +4,7 @@ use mathlib.Core.Path.{◌≡◌, sym, ◌∙◌, ap}
 use mathlib.Core.Logic.{◌⊎◌, inl, inr}
 use native.Mathlib.Omega.{arith}
 use Rattle.one_copy.proofs.Tests.{at, at_same, at_other, eq_or_ne, le_or_lt, not-both}
-use Rattle.one_copy.proofs.Abs.{Began, abt, idle, readK, writeK, Cell, Book, Flow, Promise, Wrote, read_k≢write_k, idle≢read_k, idle≢write_k, CellOk, GlobOk, Seen, Inv}
+use Rattle.one_copy.proofs.Abs.{Began, abt, idle, read_k, write_k, Cell, Book, Flow, Promise, Wrote, read_k≢write_k, idle≢read_k, idle≢write_k, CellOk, GlobOk, Seen, Inv}
 use Rattle.one_copy.proofs.Flows.{reflow}
 
 -- t is listed
@@ -89,7 +89,7 @@ module _ (S : ℕ → Type 0) (B : Book) (F : Flow) (cell : ℕ → Cell) (i : I
       ack_k = g.ack_k;
       abt_k = g.abt_k;
       rdm_k = g.rdm_k;
-      pre_k = λ c u e v h. let p = g.pre_k c u e v h in record { IsW = p.IsW; vals = p.vals; known = p.known };
+      pre_k = λ c u e v h. let p = g.pre_k c u e v h in record { is_w = p.is_w; vals = p.vals; known = p.known };
       list_k = λ u. elim [ inl p ↦ g.list_k u p | inr q ↦ rw q (g.cur_k t (g.act_cur t a)) ];
       cur_k = λ u h. g.cur_k u h.0;
       act_cur = λ u h. (g.act_cur u h.0, h.1);
@@ -110,7 +110,7 @@ module _ (S : ℕ → Type 0) (B : Book) (F : Flow) (cell : ℕ → Cell) (i : I
       held = elim o.held [ inl p ↦ inl p | inr p ↦ inr (inl p.0, p.1) ];
       read_top = o.read_top;
       waits = λ u x b h. let z = o.waits u x b h in record {
-        IsW = z.IsW;
+        is_w = z.is_w;
         vals = z.vals;
         now = z.now;
         over_w = z.over_w;
@@ -148,7 +148,7 @@ module _ (S : ℕ → Type 0) (B : Book) (F : Flow) (cell : ℕ → Cell) (i : I
       promise = λ u b. o.promise u b.0;
     };
     seen = λ r x h. let o = i.seen r x h in let p = o.last in record {
-      IsR = o.IsR;
+      is_r = o.is_r;
       guard = o.guard;
       copy = o.copy;
       over = o.over;
@@ -207,10 +207,10 @@ module _ (S : ℕ → Type 0) (B : Book) (F : Flow) (cell : ℕ → Cell) (i : I
   module _ (t : ℕ) (K : Began) (v e : ℕ) (F' : Flow) (f : B.kind t ≡ idle) (nv : B.Void t → ⊥) (pos : t ≡ 0 → ⊥)
       (acts : (u : ℕ) → (u ≡ t → ⊥) → F'.act u → F.act u) (acks : (u c : ℕ) → F'.ack u c → F.ack u c) where
     -- no attempt has the new timestamp
-    is_w≢ : (u : ℕ) → B.kind u ≡ writeK → u ≡ t → ⊥
+    is_w≢ : (u : ℕ) → B.kind u ≡ write_k → u ≡ t → ⊥
     is_w≢ u h q = idle≢write_k (sym f ∙ ap B.kind (sym q) ∙ h)
 
-    is_r≢ : (u : ℕ) → B.kind u ≡ readK → u ≡ t → ⊥
+    is_r≢ : (u : ℕ) → B.kind u ≡ read_k → u ≡ t → ⊥
     is_r≢ u h q = idle≢read_k (sym f ∙ ap B.kind (sym q) ∙ h)
 
     -- what was begun before stays
@@ -224,10 +224,10 @@ module _ (S : ℕ → Type 0) (B : Book) (F : Flow) (cell : ℕ → Cell) (i : I
     same_e u n = at_other t e B.ae u n
 
     -- and so do its kind and what was written
-    keep_w : (u : ℕ) → B.kind u ≡ writeK → (begun B t K v e).kind u ≡ writeK
+    keep_w : (u : ℕ) → B.kind u ≡ write_k → (begun B t K v e).kind u ≡ write_k
     keep_w u h = same_k u (is_w≢ u h) ∙ h
 
-    keep_r : (u : ℕ) → B.kind u ≡ readK → (begun B t K v e).kind u ≡ readK
+    keep_r : (u : ℕ) → B.kind u ≡ read_k → (begun B t K v e).kind u ≡ read_k
     keep_r u h = same_k u (is_r≢ u h) ∙ h
 
     keep_wrote : (u x : ℕ) → Wrote B u x → Wrote (begun B t K v e) u x
@@ -238,11 +238,11 @@ module _ (S : ℕ → Type 0) (B : Book) (F : Flow) (cell : ℕ → Cell) (i : I
     begin_cells c m = let o = i.cells c m in let g = i.glob in record {
       held = keep_wrote (cell c).wr (cell c).val o.held;
       read_top = elim o.read_top [ inl p ↦ inl p | inr p ↦ inr (keep_r (cell c).rd p) ];
-      waits = λ u x b h. let z = o.waits u x b h in let n = is_w≢ u z.IsW in
-          record { IsW = keep_w u z.IsW; vals = same_v u n ∙ z.vals; now = same_e u n ∙ z.now; over_w = z.over_w; over_r = z.over_r };
+      waits = λ u x b h. let z = o.waits u x b h in let n = is_w≢ u z.is_w in
+          record { is_w = keep_w u z.is_w; vals = same_v u n ∙ z.vals; now = same_e u n ∙ z.now; over_w = z.over_w; over_r = z.over_r };
       reads = λ u h. keep_r u (o.reads u h);
       done = o.done;
-      dead = λ u x h. (λ a. (o.dead u x h).0 (acts u (is_w≢ u (o.waits u x abt h).IsW) a), (o.dead u x h).1);
+      dead = λ u x h. (λ a. (o.dead u x h).0 (acts u (is_w≢ u (o.waits u x abt h).is_w) a), (o.dead u x h).1);
       live = o.live;
       gone = o.gone;
       empty = o.empty;
@@ -252,7 +252,7 @@ module _ (S : ℕ → Type 0) (B : Book) (F : Flow) (cell : ℕ → Cell) (i : I
     -- no answer changes
     pub begin_seen : (r x : ℕ) → F.seen r x → Seen S (begun B t K v e) cell r x
     begin_seen r x h = let o = i.seen r x h in let p = o.last in record {
-      IsR = keep_r r o.IsR;
+      is_r = keep_r r o.is_r;
       guard = o.guard;
       copy = o.copy;
       over = o.over;
@@ -260,7 +260,7 @@ module _ (S : ℕ → Type 0) (B : Book) (F : Flow) (cell : ℕ → Cell) (i : I
     }
 
     -- the parts of the globals that a read's start and a write's start share
-    pub begin_glob : (begun B t K v e).kind t ≡ K → (K ≡ writeK → e ≤ B.era) → GlobOk S (begun B t K v e) F
+    pub begin_glob : (begun B t K v e).kind t ≡ K → (K ≡ write_k → e ≤ B.era) → GlobOk S (begun B t K v e) F
     begin_glob hit le = let g = i.glob in record {
       zero_k = same_k 0 (λ q. pos (sym q)) ∙ g.zero_k;
       list_k = λ u h. keep_w u (g.list_k u h);
@@ -268,8 +268,8 @@ module _ (S : ℕ → Type 0) (B : Book) (F : Flow) (cell : ℕ → Cell) (i : I
       act_cur = g.act_cur;
       ack_k = λ u c h. keep_w u (g.ack_k u c h);
       abt_k = λ u h. keep_w u (g.abt_k u h);
-      pre_k = λ c u e' x h. let p = g.pre_k c u e' x h in let n = is_w≢ u p.IsW in
-          record { IsW = keep_w u p.IsW; vals = same_v u n ∙ p.vals; known = same_e u n ∙ p.known };
+      pre_k = λ c u e' x h. let p = g.pre_k c u e' x h in let n = is_w≢ u p.is_w in
+          record { is_w = keep_w u p.is_w; vals = same_v u n ∙ p.vals; known = same_e u n ∙ p.known };
       rdm_k = λ c u h. (keep_r u (g.rdm_k c u h).0, (g.rdm_k c u h).1);
       past = λ u h. elim (eq_or_ne u t) [
         | inl q ↦ (let z = le (sym hit ∙ ap (begun B t K v e).kind (sym q) ∙ h) in rw (q, at_same t e B.ae) z)
@@ -283,8 +283,8 @@ module _ (S : ℕ → Type 0) (B : Book) (F : Flow) (cell : ℕ → Cell) (i : I
     }
 
   -- a read starts at a copy
-  pub start_read : (t c v e : ℕ) → S c → B.kind t ≡ idle → (B.Void t → ⊥) → (t ≡ 0 → ⊥) → Inv S (begun B t readK v e) (reading F t c) cell
-  start_read t c v e m f nv pos = let g = begin_glob t readK v e F f nv pos (λ u _ a. a) (λ u c a. a) (at_same t readK B.kind)
+  pub start_read : (t c v e : ℕ) → S c → B.kind t ≡ idle → (B.Void t → ⊥) → (t ≡ 0 → ⊥) → Inv S (begun B t read_k v e) (reading F t c) cell
+  start_read t c v e m f nv pos = let g = begin_glob t read_k v e F f nv pos (λ u _ a. a) (λ u c a. a) (at_same t read_k B.kind)
       (λ q. absurd (read_k≢write_k q)) in record {
         glob = record {
           zero_k = g.zero_k;
@@ -300,20 +300,20 @@ module _ (S : ℕ → Type 0) (B : Book) (F : Flow) (cell : ℕ → Cell) (i : I
           told = g.told;
           old = g.old;
           stale = g.stale;
-          rdm_k = λ d u. elim [ inl h ↦ g.rdm_k d u h | inr q ↦ (rw q.0 (at_same t readK B.kind), rw q.1 m) ];
+          rdm_k = λ d u. elim [ inl h ↦ g.rdm_k d u h | inr q ↦ (rw q.0 (at_same t read_k B.kind), rw q.1 m) ];
         };
         home = i.home;
-        cells = begin_cells t readK v e (reading F t c) f nv pos (λ u _ a. a) (λ u c a. a);
-        seen = begin_seen t readK v e F f nv pos (λ u _ a. a) (λ u c a. a);
+        cells = begin_cells t read_k v e (reading F t c) f nv pos (λ u _ a. a) (λ u c a. a);
+        seen = begin_seen t read_k v e F f nv pos (λ u _ a. a) (λ u c a. a);
       }
 
   -- a write starts
   pub start_write : (t v e : ℕ) → B.kind t ≡ idle → (B.Void t → ⊥) → (t ≡ 0 → ⊥) → e ≤ B.era → (s : ℕ) → S s
-      → Inv S (begun B t writeK v e) (writing F t v e) cell
+      → Inv S (begun B t write_k v e) (writing F t v e) cell
   start_write t v e f nv pos le s sm =
-      let g = begin_glob t writeK v e F f nv pos (λ u _ a. a) (λ u c a. a) (at_same t writeK B.kind) (λ _. le) in
+      let g = begin_glob t write_k v e F f nv pos (λ u _ a. a) (λ u c a. a) (at_same t write_k B.kind) (λ _. le) in
       let drop : (u : ℕ) → (u ≡ t → ⊥) → F.act u ⊎ (u ≡ t) → F.act u = λ u n. elim [ inl a ↦ a | inr q ↦ absurd (n q) ] in
-      let noW : B.kind t ≡ writeK → ⊥ = λ q. idle≢write_k (sym f ∙ q) in
+      let no_w : B.kind t ≡ write_k → ⊥ = λ q. idle≢write_k (sym f ∙ q) in
       record {
         glob = record {
           zero_k = g.zero_k;
@@ -324,21 +324,21 @@ module _ (S : ℕ → Type 0) (B : Book) (F : Flow) (cell : ℕ → Cell) (i : I
           rdm_k = g.rdm_k;
           told = g.told;
           stale = g.stale;
-          cur_k = λ u. elim [ inl h ↦ g.cur_k u h | inr q ↦ rw q (at_same t writeK B.kind) ];
+          cur_k = λ u. elim [ inl h ↦ g.cur_k u h | inr q ↦ rw q (at_same t write_k B.kind) ];
           act_cur = λ u. elim [ inl h ↦ inl (g.act_cur u h) | inr q ↦ inr q ];
           pre_k = λ c u e' x. elim [
             | inl h ↦ g.pre_k c u e' x h
             | inr q ↦ record {
-              IsW = rw q.0 (at_same t writeK B.kind);
+              is_w = rw q.0 (at_same t write_k B.kind);
               vals = rw (q.0, q.2) (at_same t v B.value);
               known = rw (q.0, q.1) (at_same t e B.ae);
             }
           ];
-          own = λ u. elim [ inl h ↦ g.own u h | inr q ↦ λ p. absurd (noW (i.glob.list_k t (rw q at p))) ];
-          dead = λ u h. (elim [ inl a ↦ (g.dead u h).0 a | inr q ↦ noW (rw q at (i.glob.abt_k u h)) ], (g.dead u h).1);
-          old = λ u. elim [ inl a ↦ g.old u a | inr q ↦ λ _ all. absurd (noW (rw q at (i.glob.ack_k u s (all s sm)))) ];
+          own = λ u. elim [ inl h ↦ g.own u h | inr q ↦ λ p. absurd (no_w (i.glob.list_k t (rw q at p))) ];
+          dead = λ u h. (elim [ inl a ↦ (g.dead u h).0 a | inr q ↦ no_w (rw q at (i.glob.abt_k u h)) ], (g.dead u h).1);
+          old = λ u. elim [ inl a ↦ g.old u a | inr q ↦ λ _ all. absurd (no_w (rw q at (i.glob.ack_k u s (all s sm)))) ];
         };
         home = i.home;
-        cells = begin_cells t writeK v e (writing F t v e) f nv pos drop (λ u c a. a);
-        seen = begin_seen t writeK v e F f nv pos (λ u _ a. a) (λ u c a. a);
+        cells = begin_cells t write_k v e (writing F t v e) f nv pos drop (λ u c a. a);
+        seen = begin_seen t write_k v e F f nv pos (λ u _ a. a) (λ u c a. a);
       }

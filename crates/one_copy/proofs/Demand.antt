@@ -51,10 +51,10 @@ is_last_lem : (value : ℕ → ℕ) (L : ℕ → Type 0) (l : List Write) (top x
     → ((u : ℕ) → Any (IsTs u) l → u ≤ top) → (L top → Any (IsTs top) l) → ((u v : ℕ) → Any (IsIt u v) l → value u ≡ v)
     → (Any (IsTs 0) l → ⊥)
     → (top ≡ (last l).timestamp.0) × (x ≡ (last l).value)
-is_last_lem value L l top x w most here vals noZ = elim (top_is key z l) [
+is_last_lem value L l top x w most here vals no_z = elim (top_is key z l) [
   | inl e ↦ elim w [
     | inl p ↦ (p.0 ∙ sym (ap key e), p.1 ∙ sym (ap (λ (y : Write). y.value) e))
-    | inr p ↦ absurd (noZ (subst (λ u. Any (IsTs u) l) (omega (arith, top-all key z l top (here p.0), ap key e)) (here p.0)))
+    | inr p ↦ absurd (no_z (subst (λ u. Any (IsTs u) l) (omega (arith, top-all key z l top (here p.0), ap key e)) (here p.0)))
   ]
   | inr e ↦ (
       let found = any_map (λ y. y ≡ last l) (IsIt (last l).timestamp.0 (last l).value)
@@ -62,7 +62,7 @@ is_last_lem value L l top x w most here vals noZ = elim (top_is key z l) [
       let there = of_it (last l).timestamp.0 (last l).value l found in
       let m = most (last l).timestamp.0 there in
       elim w [
-        | inl p ↦ absurd (noZ (subst (λ u. Any (IsTs u) l) (omega (arith, p.0)) there))
+        | inl p ↦ absurd (no_z (subst (λ u. Any (IsTs u) l) (omega (arith, p.0)) there))
         | inr p ↦ (let d : top ≡ (last l).timestamp.0 = omega (arith, top-all key z l top (here p.0)) in
             (d, sym p.1 ∙ ap value d ∙ vals (last l).timestamp.0 (last l).value found))
       ])
@@ -120,9 +120,9 @@ module _ (k : Creation) (b : ℕ) (lb : is_block k b ≡ true) where
     from-begun : (u v : ℕ) → Any (IsIt u v) all → Any (λ x. is_attempt b (write (record { 0 = u }) v) x ≡ true) (begun (told (fresh k) fs))
     from-begun u v z =
         let P : ℕ → Begun → Type 0 = λ v x. is_attempt b (write (record { 0 = u }) v) x ≡ true in
-        let IsW = r.whole.good.inv.glob.list_k u (of_it u v H.listed (from u v z)) in
+        let is_w = r.whole.good.inv.glob.list_k u (of_it u v H.listed (from u v z)) in
         subst (λ (v : ℕ). Any (P v) (begun (told (fresh k) fs))) (valued u v z)
-        (tried-begun k fs b u (H.value u) (elim (r.began u IsW) [ inl y ↦ absurd (idle≢write_k y.0) | inr y ↦ y ]))
+        (tried-begun k fs b u (H.value u) (elim (r.began u is_w) [ inl y ↦ absurd (idle≢write_k y.0) | inr y ↦ y ]))
 
     -- none is listed under 0
     no_zero : Any (IsTs 0) all → ⊥

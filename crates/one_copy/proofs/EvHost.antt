@@ -27,7 +27,7 @@ use Rattle.rules.proofs.Lists.{walk, each_number}
 use Rattle.rules.proofs.Refusals.{granted_exactly}
 use Rattle.rules.proofs.Relies.{finish_current}
 use Rattle.one_copy.proofs.Tests.{at, eq_or_ne, not-both}
-use Rattle.one_copy.proofs.Abs.{readK, writeK, read_k≢write_k}
+use Rattle.one_copy.proofs.Abs.{read_k, write_k, read_k≢write_k}
 use Rattle.one_copy.proofs.Net.{sent-each}
 use Rattle.one_copy.proofs.View.{Hist, part_of, Seat, seat_of, seats_of, written, HasW, NetLe, net_less, net_foreign, far_message, CInv, Quiet, quiet}
 use Rattle.one_copy.proofs.Hosts.{begins, lists, answers, start_other, begin_write, begin_read, end-commit, end-abort, end-other, end_read}
@@ -188,8 +188,8 @@ module _ (b : ℕ) (h : Hist) (t : Table) (f : Formed t) (s : Shape t) (lb : is_
         → ((front x).block ≡ b) ⊎ ((front x).block ≡ b → ⊥)
         → Next b h t [] Outcome.None (after a)
     start_as lt (Action.Write v) ea ok (inl eb) = record {
-      hist = begins h (stamp clock j).0 writeK y.value x.epoch.0;
-      good = good-host b (begins h (stamp clock j).0 writeK y.value x.epoch.0) t s j
+      hist = begins h (stamp clock j).0 write_k y.value x.epoch.0;
+      good = good-host b (begins h (stamp clock j).0 write_k y.value x.epoch.0) t s j
           (started x (stamp clock j) clock (holders_of t.creation x)) n small
           (begin_write S (inside t f b lb) b h t.epoch.0 (seats_of t) (part_of t b) t.places i j clock small lt y refl refl
           (i.known j) n x.epoch
@@ -218,8 +218,8 @@ module _ (b : ℕ) (h : Hist) (t : Table) (f : Formed t) (s : Shape t) (lb : is_
         here : host_of (with_host t j now) j ≡ now
         here = get_or-set_same t.hosts j now no_host (omega (arith, small, s.hosts))
 
-        new : (u : ℕ) (z : Bool) → eqb u (stamp clock j).0 ≡ z → cond z writeK (h.kind u) ≡ writeK
-            → ((h.kind u ≡ writeK) × (cond z y.value (h.value u) ≡ h.value u)) ⊎ Trying b (after (Action.Write v)) u (cond z y.value (h.value u))
+        new : (u : ℕ) (z : Bool) → eqb u (stamp clock j).0 ≡ z → cond z write_k (h.kind u) ≡ write_k
+            → ((h.kind u ≡ write_k) × (cond z y.value (h.value u) ≡ h.value u)) ⊎ Trying b (after (Action.Write v)) u (cond z y.value (h.value u))
         new u true e q = inr (record {
           host = j;
           place = small;
@@ -235,8 +235,8 @@ module _ (b : ℕ) (h : Hist) (t : Table) (f : Formed t) (s : Shape t) (lb : is_
         n : List Place
         n = sent_to_each t.places (holders_of t.creation x) m
     start_as lt Action.Read ea ok (inl eb) = record {
-      hist = begins h (stamp clock j).0 readK 0 x.epoch.0;
-      good = good-host b (begins h (stamp clock j).0 readK 0 x.epoch.0) t s j (started x (stamp clock j) clock (only copy)) n small
+      hist = begins h (stamp clock j).0 read_k 0 x.epoch.0;
+      good = good-host b (begins h (stamp clock j).0 read_k 0 x.epoch.0) t s j (started x (stamp clock j) clock (only copy)) n small
           (begin_read S (inside t f b lb) b h t.epoch.0 (seats_of t) (part_of t b) t.places i j clock small lt y refl refl
           (i.known j) n copy x.epoch 0
           (λ P z. elim (sent-each P m (only copy) t.places z) [
@@ -252,8 +252,8 @@ module _ (b : ℕ) (h : Hist) (t : Table) (f : Formed t) (s : Shape t) (lb : is_
       began = λ u. old u (eqb u (stamp clock j).0);
     }
       where
-        old : (u : ℕ) (z : Bool) → cond z readK (h.kind u) ≡ writeK
-            → ((h.kind u ≡ writeK) × (cond z 0 (h.value u) ≡ h.value u)) ⊎ Trying b (after Action.Read) u (cond z 0 (h.value u))
+        old : (u : ℕ) (z : Bool) → cond z read_k (h.kind u) ≡ write_k
+            → ((h.kind u ≡ write_k) × (cond z 0 (h.value u) ≡ h.value u)) ⊎ Trying b (after Action.Read) u (cond z 0 (h.value u))
         old u true q = absurd (read_k≢write_k q)
         old u false q = inl (q, refl)
 

@@ -5,7 +5,7 @@ use mathlib.Core.Logic.{◌⊎◌, inl, inr}
 use mathlib.Core.Bool.{false}
 use native.Mathlib.Omega.{arith}
 use Rattle.one_copy.proofs.Tests.{at, at_all, at_same, not-both}
-use Rattle.one_copy.proofs.Abs.{Mark, und, readK, writeK, Cell, Book, Flow, Promise, Last, EntryOk, Pre, und≢cmt, und≢abt, read_k≢write_k, idle≢read_k, CellOk, GlobOk, Inv}
+use Rattle.one_copy.proofs.Abs.{Mark, und, read_k, write_k, Cell, Book, Flow, Promise, Last, EntryOk, Pre, und≢cmt, und≢abt, read_k≢write_k, idle≢read_k, CellOk, GlobOk, Inv}
 use Rattle.one_copy.proofs.Cells.{requeue, was, not-read}
 
 pub record Sub (F' F : Flow) : Type 0 where
@@ -121,7 +121,7 @@ module _ (S : ℕ → Type 0) (B : Book) (F : Flow) (cell : ℕ → Cell) (i : I
       own = g.own;
       dead = g.dead;
       told = g.told;
-      ack_k = λ u d. elim [ inl q ↦ g.ack_k u d q | inr q ↦ rw q.0 p.IsW ];
+      ack_k = λ u d. elim [ inl q ↦ g.ack_k u d q | inr q ↦ rw q.0 p.is_w ];
       old = λ u a o all. g.old u a o
           (λ d m. elim (all d m) [
             | inl q ↦ q
@@ -133,7 +133,7 @@ module _ (S : ℕ → Type 0) (B : Book) (F : Flow) (cell : ℕ → Cell) (i : I
         (λ j n m. reflow B F (acked F t c) j (cell j) (i.cells j m) (λ t a. a)
         (λ t a. elim [ inl q ↦ (i.cells j m).promise t a q | inr q ↦ absurd (n q.1) ]));
     seen = λ u x q. let o = i.seen u x q in record {
-      IsR = o.IsR;
+      is_r = o.is_r;
       guard = o.guard;
       copy = o.copy;
       last = o.last;
@@ -150,10 +150,10 @@ module _ (S : ℕ → Type 0) (B : Book) (F : Flow) (cell : ℕ → Cell) (i : I
 
       hit : S c → CellOk B (acked F t c) c (queued (cell c) t v)
       hit m = let o = i.cells c m in
-          let n : (cell c).rd ≡ t → ⊥ = λ q. not-read S B F c (cell c) g o t p.IsW q in
+          let n : (cell c).rd ≡ t → ⊥ = λ q. not-read S B F c (cell c) g o t p.is_w q in
           let new : (u x : ℕ) (a : Mark) → (u ≡ t) × (x ≡ v) × (a ≡ und) → EntryOk B F (cell c) u x a = λ u x a q. record {
             fits = record {
-              IsW = rw q.0 p.IsW;
+              is_w = rw q.0 p.is_w;
               vals = rw (q.0, q.1) p.vals;
               now = rw q.0 (p.known ∙ now);
               over_w =
@@ -198,7 +198,7 @@ module _ (S : ℕ → Type 0) (B : Book) (F : Flow) (cell : ℕ → Cell) (i : I
         (λ j n m. reflow B F (answered F t (cell c).val) j (cell j) (i.cells j m) (λ t a. a) (i.cells j m).promise);
     seen = λ u x. elim [
       | inl q ↦ let p = i.seen u x q in record {
-        IsR = p.IsR;
+        is_r = p.is_r;
         guard = p.guard;
         copy = p.copy;
         last = p.last;
@@ -207,7 +207,7 @@ module _ (S : ℕ → Type 0) (B : Book) (F : Flow) (cell : ℕ → Cell) (i : I
             p.over;
       }
       | inr q ↦ record {
-        IsR = rw q.0 IsR;
+        is_r = rw q.0 is_r;
         guard = c;
         copy = m;
         over =
@@ -226,22 +226,22 @@ module _ (S : ℕ → Type 0) (B : Book) (F : Flow) (cell : ℕ → Cell) (i : I
       o : CellOk B F c (cell c)
       o = i.cells c m
 
-      IsR : B.kind t ≡ readK
-      IsR = o.reads t h
+      is_r : B.kind t ≡ read_k
+      is_r = o.reads t h
 
       -- a write is not under the read's timestamp
-      other : (u : ℕ) → B.kind u ≡ writeK → u ≡ t → ⊥
-      other u e q = read_k≢write_k (sym IsR ∙ ap B.kind (sym q) ∙ e)
+      other : (u : ℕ) → B.kind u ≡ write_k → u ≡ t → ⊥
+      other u e q = read_k≢write_k (sym is_r ∙ ap B.kind (sym q) ∙ e)
 
       under : (u x : ℕ) (a : Mark) → (cell c).w u x a → rd' < u
-      under u x a q = let z = other u (o.waits u x a q).IsW in let y = front u x a q in let w = (o.waits u x a q).over_r in
+      under u x a q = let z = other u (o.waits u x a q).is_w in let y = front u x a q in let w = (o.waits u x a q).over_r in
           elim pick [ inl e ↦ omega arith | inr e ↦ omega arith ]
 
       last : Last B t (cell c).val
       last = record {
         top = (cell c).wr;
         below = elim o.held [
-          | inl e ↦ (let z : t ≡ 0 → ⊥ = λ q. idle≢read_k (sym g.zero_k ∙ ap B.kind (sym q) ∙ IsR) in omega (arith, e.0))
+          | inl e ↦ (let z : t ≡ 0 → ⊥ = λ q. idle≢read_k (sym g.zero_k ∙ ap B.kind (sym q) ∙ is_r) in omega (arith, e.0))
           | inr e ↦ (let z = other (cell c).wr (g.list_k (cell c).wr e.0) in omega arith)
         ];
         wrote = o.held;
@@ -251,9 +251,9 @@ module _ (S : ℕ → Type 0) (B : Book) (F : Flow) (cell : ℕ → Cell) (i : I
       hit : CellOk B (answered F t (cell c).val) c (read_at (cell c) rd' r')
       hit = record {
         held = o.held;
-        read_top = elim pick [ inl q ↦ inr (rw q IsR) | inr q ↦ rw q o.read_top ];
+        read_top = elim pick [ inl q ↦ inr (rw q is_r) | inr q ↦ rw q o.read_top ];
         waits = λ u x a q. let z = o.waits u x a q in record {
-          IsW = z.IsW;
+          is_w = z.is_w;
           vals = z.vals;
           now = z.now;
           over_w = z.over_w;

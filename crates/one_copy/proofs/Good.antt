@@ -20,7 +20,7 @@ use Rattle.rules.specs.Zero.{◌among◌, is_empty, no_host, no_chunk, no_record
 use Rattle.rules.proofs.Formed.{Formed, creation-facts, chunk-place, block-place, of_store_lem}
 use Rattle.rules.proofs.Lists.{both, some_number, grid-at}
 use Rattle.one_copy.proofs.Tests.{at, at_map, at_same, at_other, at_with, eq_or_ne, le_or_lt}
-use Rattle.one_copy.proofs.Abs.{writeK}
+use Rattle.one_copy.proofs.Abs.{write_k}
 use Rattle.one_copy.proofs.Lists.{Any, get_d_set}
 use Rattle.one_copy.proofs.Shapes.{Shape, records-beyond, beyond}
 use Rattle.one_copy.proofs.View.{Hist, Part, part_with, part_of, Seat, seat_of, seats_of, IsIt, HasW, CInv}
@@ -135,7 +135,7 @@ pub record Next (b : ℕ) (h : Hist) (t : Table) (ws : List Write) (o : Outcome)
   pub kept : (u v : ℕ) → Any (IsIt u v) h.reads → Any (IsIt u v) hist.reads
   pub done : (j v : ℕ) → o ≡ Outcome.ReadDone j b v → Any (IsIt (host_of t j).attempt.timestamp.0 v) hist.reads
   -- a write that is begun now is a host's
-  pub began : (u : ℕ) → hist.kind u ≡ writeK → ((h.kind u ≡ writeK) × (hist.value u ≡ h.value u)) ⊎ Trying b t' u (hist.value u)
+  pub began : (u : ℕ) → hist.kind u ≡ write_k → ((h.kind u ≡ write_k) × (hist.value u ≡ h.value u)) ⊎ Trying b t' u (hist.value u)
 
 -- no outcome is a read done
 pub none_done : (j b v : ℕ) → Outcome.None ≡ Outcome.ReadDone j b v → ⊥

@@ -10,7 +10,7 @@ use Rattle.rules.specs.Events.{step}
 use Rattle.rules.specs.Runs.{after}
 use Rattle.rules.specs.Tables.{is_block}
 use Rattle.rules.proofs.Begun.{after-append}
-use Rattle.one_copy.proofs.Abs.{writeK}
+use Rattle.one_copy.proofs.Abs.{write_k}
 use Rattle.one_copy.proofs.Lists.{Any, any_append, any_left, any_right}
 use Rattle.one_copy.proofs.View.{Hist, IsIt}
 use Rattle.one_copy.proofs.Good.{Trying}
@@ -36,7 +36,7 @@ pub record Run (b : ℕ) (h : Hist) (t : Table) (es : List Event) (hist : Hist) 
   pub to : (u v : ℕ) → Any (IsIt u v) hist.listed → Any (IsIt u v) h.listed ⊎ Any (IsIt u v) (committed b t es)
   pub from : (u v : ℕ) → Any (IsIt u v) h.listed ⊎ Any (IsIt u v) (committed b t es) → Any (IsIt u v) hist.listed
   pub kept : (u v : ℕ) → Any (IsIt u v) h.reads → Any (IsIt u v) hist.reads
-  pub began : (u : ℕ) → hist.kind u ≡ writeK → ((h.kind u ≡ writeK) × (hist.value u ≡ h.value u)) ⊎ Tried b t es u (hist.value u)
+  pub began : (u : ℕ) → hist.kind u ≡ write_k → ((h.kind u ≡ write_k) × (hist.value u ≡ h.value u)) ⊎ Tried b t es u (hist.value u)
   pub creation : (after t es).creation ≡ t.creation
 
 module _ (b : ℕ) where

@@ -13,7 +13,7 @@ use Rattle.rules.specs.Timestamps.{stamp}
 use Rattle.rules.specs.Zero.{◌among◌, is_empty}
 use Rattle.rules.proofs.Formed.{empty-none}
 use Rattle.one_copy.proofs.Tests.{at, at_all, at_same, at_other, at_split, eq_or_ne, not-both}
-use Rattle.one_copy.proofs.Abs.{Began, idle, readK, writeK, idle≢write_k}
+use Rattle.one_copy.proofs.Abs.{Began, idle, read_k, write_k, idle≢write_k}
 use Rattle.one_copy.proofs.Flows.{shrink}
 use Rattle.one_copy.proofs.Decide.{writing, reading, committed, aborted, start_write, start_read, commit, abort}
 use Rattle.one_copy.proofs.Decide as Decide
@@ -141,7 +141,7 @@ module _ (S : ℕ → Type 0) (inside : (c : ℕ) → S c → c < chunk_limit) (
       pub begin_write : (n' : List Place) (e : Epoch) → ((P : Message → Type 0) → Sent n' P → Sent n P
           ⊎ ((d : ℕ) × P (asking (headed j d b (stamp k j)) e (Request.Prewrite y.value))))
           → e.0 ≤ ep → y.write ≡ true → y.block ≡ b → ((c : ℕ) → S c → c among y.out ≡ true) → (s : ℕ) → S s
-          → CInv S b (begins h (stamp k j).0 writeK y.value e.0) ep (at j y hs) ps n'
+          → CInv S b (begins h (stamp k j).0 write_k y.value e.0) ep (at j y hs) ps n'
       begin_write n' e adds le yw yb yo s sm = record {
         inv = shrink S (book h' ep) (writing (flow S b h hs n) (stamp k j).0 y.value e.0) (λ c. cell_of (ps c))
             (start_write S (book h ep) (flow S b h hs n) (λ c. cell_of (ps c)) i.inv (stamp k j).0 y.value e.0 unused
@@ -189,7 +189,7 @@ module _ (S : ℕ → Type 0) (inside : (c : ℕ) → S c → c < chunk_limit) (
             });
         vals = λ t v q. at_other (stamp k j).0 y.value h.value t
             (λ z. idle≢write_k (sym unused ∙ ap h.kind (sym z) ∙ i.inv.glob.list_k t (of_it t v h.listed q))) ∙ i.vals t v q;
-        drawn = draws writeK y.value e.0;
+        drawn = draws write_k y.value e.0;
         stamps = stamps_to;
         mine = at_all (λ a x. (t : ℕ) → HasW b x t → h'.value t ≡ x.value) j y hs
             (λ t z. rw (sym z.stamp ∙ yt) (at_same (stamp k j).0 y.value h.value))
@@ -200,13 +200,13 @@ module _ (S : ℕ → Type 0) (inside : (c : ℕ) → S c → c < chunk_limit) (
       }
         where
           h' : Hist
-          h' = begins h (stamp k j).0 writeK y.value e.0
+          h' = begins h (stamp k j).0 write_k y.value e.0
 
       -- a read of block b starts at a copy
       pub begin_read : (n' : List Place) (c : ℕ) (e : Epoch) (v : ℕ) → ((P : Message → Type 0) → Sent n' P → Sent n P
           ⊎ P (asking (headed j c b (stamp k j)) e Request.Read))
           → y.write ≡ false → c among y.out ≡ true → S c
-          → CInv S b (begins h (stamp k j).0 readK v e.0) ep (at j y hs) ps n'
+          → CInv S b (begins h (stamp k j).0 read_k v e.0) ep (at j y hs) ps n'
       begin_read n' c e v adds yw yo sm = record {
         inv = shrink S (book h' ep) (reading (flow S b h hs n) (stamp k j).0 c) (λ c. cell_of (ps c))
             (start_read S (book h ep) (flow S b h hs n) (λ c. cell_of (ps c)) i.inv (stamp k j).0 c v e.0 sm unused (λ z. z) nonzero)
@@ -250,7 +250,7 @@ module _ (S : ℕ → Type 0) (inside : (c : ℕ) → S c → c < chunk_limit) (
             });
         vals = λ t u q. at_other (stamp k j).0 v h.value t (λ z. idle≢write_k
             (sym unused ∙ ap h.kind (sym z) ∙ i.inv.glob.list_k t (of_it t u h.listed q))) ∙ i.vals t u q;
-        drawn = draws readK v e.0;
+        drawn = draws read_k v e.0;
         stamps = stamps_to;
         mine = at_all (λ a x. (t : ℕ) → HasW b x t → h'.value t ≡ x.value) j y hs
             (λ t z. absurd (not-both y.write z.write yw))
@@ -261,7 +261,7 @@ module _ (S : ℕ → Type 0) (inside : (c : ℕ) → S c → c < chunk_limit) (
       }
         where
           h' : Hist
-          h' = begins h (stamp k j).0 readK v e.0
+          h' = begins h (stamp k j).0 read_k v e.0
 
   -- the end of an attempt: the host is left with none
   module _ (j : ℕ) (y : Seat) (yt : y.ts ≡ 0) (yc : y.clock ≡ (hs j).clock) (yk : y.known ≤ ep) where

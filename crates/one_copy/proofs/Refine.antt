@@ -25,7 +25,7 @@ same-cell B F c k w r d l q p ew er ed el to from rs i = rw (ew, er, ed, el) (re
   held = i.held;
   read_top = i.read_top;
   waits = λ t v m h. let o = i.waits t v m (to t v m h) in record {
-    IsW = o.IsW;
+    is_w = o.is_w;
     vals = o.vals;
     now = o.now;
     over_r = o.over_r;
@@ -49,7 +49,7 @@ recell S B F cell cell' i s hm = record {
   cells = λ c m. let e = s c m in let k = cell' c in same-cell B F c (cell c) k.wr k.rd k.val k.lost k.w k.r e.wr
       e.rd e.val e.lost e.to e.from e.r (i.cells c m);
   seen = λ t x h. let o = i.seen t x h in record {
-    IsR = o.IsR;
+    is_r = o.is_r;
     guard = o.guard;
     copy = o.copy;
     last = o.last;
@@ -73,7 +73,7 @@ relist S B F cell L' i to from = let g = i.glob in let more : (t : ℕ) → B.L 
         rdm_k = g.rdm_k;
         cur_k = g.cur_k;
         act_cur = g.act_cur;
-        pre_k = λ c u e v h. let p = g.pre_k c u e v h in record { IsW = p.IsW; vals = p.vals; known = p.known };
+        pre_k = λ c u e v h. let p = g.pre_k c u e v h in record { is_w = p.is_w; vals = p.vals; known = p.known };
         list_k = λ t h. g.list_k t (to t h);
         own = λ t h p. g.own t h (to t p);
         dead = λ t h. ((g.dead t h).0, λ p. (g.dead t h).1 (to t p));
@@ -88,7 +88,7 @@ relist S B F cell L' i to from = let g = i.glob in let more : (t : ℕ) → B.L 
         empty = o.empty;
         promise = o.promise;
         waits = λ u x b h. let z = o.waits u x b h in record {
-          IsW = z.IsW;
+          is_w = z.is_w;
           vals = z.vals;
           now = z.now;
           over_w = z.over_w;
@@ -101,7 +101,7 @@ relist S B F cell L' i to from = let g = i.glob in let more : (t : ℕ) → B.L 
         gone = λ l t p. o.gone l t (to t p);
       };
       seen = λ t x h. let o = i.seen t x h in let p = o.last in record {
-        IsR = o.IsR;
+        is_r = o.is_r;
         guard = o.guard;
         copy = o.copy;
         over = o.over;

@@ -6,7 +6,7 @@ use mathlib.Core.Bool.{true, false, true≢false}
 use native.Mathlib.Omega.{arith}
 use Rattle.rules.proofs.Lists.{true_or_false}
 use Rattle.one_copy.proofs.Tests.{le_or_lt, not-both}
-use Rattle.one_copy.proofs.Abs.{Mark, abt, writeK, Cell, Book, Flow, Promise, Wrote, idle≢write_k, GlobOk, Inv}
+use Rattle.one_copy.proofs.Abs.{Mark, abt, write_k, Cell, Book, Flow, Promise, Wrote, idle≢write_k, GlobOk, Inv}
 use Rattle.one_copy.proofs.Decide.{agreed}
 
 -- what makes a write timestamp above W committed by an epoch change
@@ -89,9 +89,9 @@ module _ (S : ℕ → Type 0) (B : Book) (F : Flow) (cell : ℕ → Cell) (i : I
       g = i.glob
 
   -- what is chosen is a write attempt
-  chosen_w : (t : ℕ) → Chosen S cell W t → B.kind t ≡ writeK
+  chosen_w : (t : ℕ) → Chosen S cell W t → B.kind t ≡ write_k
   chosen_w t h = let z = h.holds s.alive s.alive_in s.alive_is in
-      ((i.cells s.alive s.alive_in).waits t z.0 z.1 z.2).IsW
+      ((i.cells s.alive s.alive_in).waits t z.0 z.1 z.2).is_w
 
   -- no read has passed a chosen write
   unpassed : (t : ℕ) → Chosen S cell W t → (c : ℕ) → S c → (cell c).rd < t
@@ -129,7 +129,7 @@ module _ (S : ℕ → Type 0) (B : Book) (F : Flow) (cell : ℕ → Cell) (i : I
       rdm_k = g.rdm_k;
       cur_k = g.cur_k;
       act_cur = g.act_cur;
-      pre_k = λ c u e v h. let p = g.pre_k c u e v h in record { IsW = p.IsW; vals = p.vals; known = p.known };
+      pre_k = λ c u e v h. let p = g.pre_k c u e v h in record { is_w = p.is_w; vals = p.vals; known = p.known };
       list_k = lk;
       past = λ t h. (let z = g.past t h in omega arith);
       own = λ t _ p. (let z = g.past t (lk t p) in omega arith);
@@ -151,7 +151,7 @@ module _ (S : ℕ → Type 0) (B : Book) (F : Flow) (cell : ℕ → Cell) (i : I
       promise = λ u a b e. absurd (let z = g.past u (g.cur_k u (g.act_cur u a)) in omega arith);
     };
     seen = λ r x h. let o = i.seen r x h in let p = o.last in record {
-      IsR = o.IsR;
+      is_r = o.is_r;
       guard = o.guard;
       copy = o.copy;
       over = (let z = s.top_m o.guard o.copy in let y = o.over in omega arith);
@@ -174,5 +174,5 @@ module _ (S : ℕ → Type 0) (B : Book) (F : Flow) (cell : ℕ → Cell) (i : I
       more : (t : ℕ) → B.L t ⊎ B.Void t → (B.L t ⊎ Chosen S cell W t) ⊎ B.Void t
       more t = elim [ inl p ↦ inl (inl p) | inr p ↦ inr p ]
 
-      lk : (t : ℕ) → B.L t ⊎ Chosen S cell W t → B.kind t ≡ writeK
+      lk : (t : ℕ) → B.L t ⊎ Chosen S cell W t → B.kind t ≡ write_k
       lk t = elim [ inl p ↦ g.list_k t p | inr p ↦ chosen_w t p ]

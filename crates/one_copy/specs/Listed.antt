@@ -1,5 +1,5 @@
 -- A block's list: the writes that were committed, by timestamp
-use Rattle.std.specs.Prelude.{ℕ, Bool, true, false, not, ◌&&◌, List, [], ◌∷◌, ◌++◌, eqb}
+use Rattle.std.specs.Prelude.{ℕ, Bool, true, false, not, ◌&&◌, List, [], ◌∷◌, ◌++◌, eqb, if◌then◌else◌}
 use Rattle.one_copy.specs.Types.{Timestamp, Record, Action, Host, Table, Event, Answer}
 use Rattle.rules.specs.Events.{copies_of, step}
 use Rattle.rules.specs.Hosts.{front}
@@ -7,7 +7,7 @@ use Rattle.rules.specs.Runs.{Begun}
 use Rattle.rules.specs.Settlement.{commits, written_with}
 use Rattle.rules.specs.Tables.{host_of}
 use Rattle.rules.specs.Timestamps.{never, ◌is◌, ◌above◌, ◌below◌}
-use Rattle.rules.specs.Words.{if◌then◌else◌, those, each, every, fold}
+use Rattle.rules.specs.Words.{those, each, every, fold}
 
 -- ---- an entry
 

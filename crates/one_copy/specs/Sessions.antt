@@ -1,5 +1,5 @@
 -- Sessions in which a wrong store, or a wrong statement, would show: what is seen of each, and what must be
-use Rattle.std.specs.Prelude.{ℕ, ◌%◌, true, false, not, List, [], ◌∷◌, ◌++◌, replicate, eqb}
+use Rattle.std.specs.Prelude.{ℕ, ◌%◌, true, false, not, List, [], ◌∷◌, ◌++◌, replicate, eqb, if◌then◌else◌}
 use Rattle.one_copy.specs.Types.{Set, Creation, Event, Outcome}
 use Rattle.one_copy.specs.Listed.{Write, listed, last_before}
 use Rattle.rules.specs.Built.{creation_of}
@@ -7,7 +7,7 @@ use Rattle.rules.specs.Creation.{fresh}
 use Rattle.rules.specs.Limits.{host_limit}
 use Rattle.rules.specs.Runs.{Told, told, Ledger, nothing, noted, last_of, is_none}
 use Rattle.rules.specs.Timestamps.{clock_of}
-use Rattle.rules.specs.Words.{if◌then◌else◌, those, each}
+use Rattle.rules.specs.Words.{those, each}
 use Rattle.rules.specs.Zero.{zero_set}
 
 -- ---- what is seen of a session: of all events, and of one block

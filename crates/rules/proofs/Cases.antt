@@ -1,4 +1,5 @@
--- Document 01, "Proved cases", P1 to P12: one table. "Unless Said, last read and last write are 0, value 0, no chunk lost"
+-- Document 01, "Proved cases", P1 to P12: one table. "Unless said, last read and last write are 0, value 0, no chunk lost"
+use Rattle.std.specs.Prelude.{if◌then◌else◌}
 use Prim.Native.Nat.{ℕ}
 use mathlib.Core.Path.{◌≡◌, refl}
 use mathlib.Core.Bool.{Bool, true, false}
@@ -18,7 +19,7 @@ use Rattle.rules.specs.Network.{sent, free_places, how_many, sent_to_each, repli
 use Rattle.rules.specs.Settlement.{W, beside_w, agreed, committed, writes, commits, latest, written_with, settled_record, settled}
 use Rattle.rules.specs.Tables.{host_of, record_of, slot_of, with_host, with_chunk, with_record, with_places}
 use Rattle.rules.specs.Waiting.{holding, insert, inserted}
-use Rattle.rules.specs.Words.{if◌then◌else◌, those, each, joined, every, some, place, fold, from}
+use Rattle.rules.specs.Words.{those, each, joined, every, some, place, fold, from}
 use Rattle.rules.specs.Zero.{zero_set}
 
 -- ---- the store: one host, chunks A and B, one block on both, age limit 100
@@ -108,12 +109,12 @@ abbrev pub seen : Case → Seen
 seen k = k.look (step k.table k.event)
 
 infixr 2 settling◌and◌gives◌⨾◌ ◌arriving_at◌gives◌⨾◌ overdue_at◌gives◌⨾◌ starting_at◌gives◌⨾◌
--- P1 to P7: an epoch change with A and B as Said
+-- P1 to P7: an epoch change with A and B as said
 abbrev settling◌and◌gives◌⨾◌ : Side → Side → Seen → List Case → List Case
 settling a and b gives x ⨾ more =
     record { table = with_side (with_side store 0 a) 1 b; event = event 15 0 0 0; look = copies_in; expected = x } ∷ more
 
--- P8 to P10: the message is delivered to A with its copy as Said
+-- P8 to P10: the message is delivered to A with its copy as said
 abbrev ◌arriving_at◌gives◌⨾◌ : Message → Record → Seen → List Case → List Case
 m arriving_at r gives x ⨾ more =
     let t = with_side store 0 (normal r) in

@@ -53,7 +53,7 @@ module _ (t : Table) (e : Event) where
   unfolding step
   step-granted h = rw h refl
 
-  -- what a granted event's rows say: a well_formed_lem table, operands in range, and none of its own refusals
+  -- what a granted event's rows say: a well-formed table, operands in range, and none of its own refusals
   pub rows-granted : code_of (rows t e) ≡ 0 → (well_formed t ≡ true) × (ranges t.creation e ≡ true) × (code_of (rule_of t e).refusals ≡ 0)
   unfolding rows code_of
   rows-granted = go (well_formed t) (ranges t.creation e)
@@ -102,7 +102,7 @@ module _ (t : Table) (e : Event) where
       pub granted-own : code_of (rule_of t e).refusals ≡ 0 → done (rule_of t e).effect ≡ step t e
       granted-own h = sym (step-granted (own ∙ h))
 
-    -- a well_formed_lem table is answered with 7 at most
+    -- a well-formed table is answered with 7 at most
     pub step-most : (step t e).code ≤ 7
     unfolding rows code_of
     step-most = rw (step-code, ok) (go (ranges t.creation e))

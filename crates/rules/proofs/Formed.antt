@@ -1,4 +1,4 @@
--- What a well_formed_lem table says, fact by fact, and the way back
+-- What a well-formed table says, fact by fact, and the way back
 use Prim.Native.Nat.{ℕ, zero, suc, ◌-◌, ◌≤◌, ◌<◌}
 use mathlib.Core.Path.{◌≡◌, refl, sym, ap, ◌∙◌}
 use mathlib.Core.Bool.{Bool, true, false, cond, not, ◌&&◌, ◌||◌, true≢false}
@@ -405,7 +405,7 @@ module _ (t : Table) where
       let places : places_formed k t.places ≡ true = every-numbers _ place_limit f.places in
       rw (f.creation, f.epoch, hosts, chunks, records, places) refl
 
--- ---- the parts of a well_formed_lem table
+-- ---- the parts of a well-formed table
 
 module _ (t : Table) (f : Formed t) where
   -- a host of the store's is formed

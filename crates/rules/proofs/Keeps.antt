@@ -97,7 +97,7 @@ step-formed t e h =
     well_formed_lem (rule_of t e).effect.table (kind-keeps t e.kind e.a e.b e.c (formed t h) own.1 own.2))
     (λ _. h)
 
--- a well_formed_lem table stays well formed
+-- a well-formed table stays well formed
 after-formed : (t : Table) (es : List Event) → well_formed t ≡ true → well_formed (after t es) ≡ true
 unfolding after
 after-formed t [] h = h

@@ -1,4 +1,4 @@
--- A formed part put into a well_formed_lem table keeps it well formed
+-- A formed part put into a well-formed table keeps it well formed
 use Prim.Native.Nat.{ℕ, ◌<◌}
 use mathlib.Core.Path.{◌≡◌, refl, ◌∙◌}
 use mathlib.Core.Logic.{◌⊎◌, inl, inr}

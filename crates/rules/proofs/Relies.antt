@@ -44,7 +44,7 @@ module _ (h : Host) where
     start_room = ltb-false free messages ((granted_exactly (start_refusals h clock copy holders free messages) refl).0 e 6 (omega arith))
 
   module _ (free messages : ℕ) (e : code_of (finish_refusals h free messages) ≡ 0) where
-    -- there is a current operation; a well_formed_lem host has it at the front
+    -- there is a current operation; a well-formed host has it at the front
     pub finish_current : has_current h ≡ true
     unfolding every
     finish_current = not-false (has_current h) ((granted_exactly (finish_refusals h free messages) refl).0 e 1 (omega arith))

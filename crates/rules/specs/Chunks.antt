@@ -1,5 +1,5 @@
 -- One chunk: what is refused it, what a message does at it, what becomes of it
-use Rattle.std.specs.Prelude.{ℕ, Bool, true, false, not, ◌&&◌, ◌||◌, List, set, eqb, ltb, leb, pos, ◌-ℤ◌}
+use Rattle.std.specs.Prelude.{ℕ, Bool, true, false, not, ◌&&◌, ◌||◌, List, set, eqb, ltb, leb, pos, ◌-ℤ◌, if◌then◌else◌}
 use Rattle.std.specs.Int.Signed.{lt_z}
 use Rattle.rules.specs.Types.{Timestamp, Epoch, Kind, Entry, Waiting, Record, State, Chunk, Header, Message, Request, Refusal, Sort, Slot, Arrived}
 use Rattle.rules.specs.Built.{entry_with, no_blocks}
@@ -9,7 +9,6 @@ use Rattle.rules.specs.Limits.{waiting_limit}
 use Rattle.rules.specs.Messages.{headed, header_of, sort_of, message_of}
 use Rattle.rules.specs.Timestamps.{clock_of, ◌below◌, ◌same◌, later}
 use Rattle.rules.specs.Waiting.{head, inserted, head_removed, marked}
-use Rattle.rules.specs.Words.{if◌then◌else◌}
 use Rattle.rules.specs.Zero.{zero_waiting}
 
 -- ---- a chunk and a record with one field changed

@@ -1,7 +1,6 @@
 -- Document 01, "Codes": refusals as ordered rows, and what an outcome is in numbers
-use Rattle.std.specs.Prelude.{ℕ, Bool, List, [], ◌∷◌, eqb}
+use Rattle.std.specs.Prelude.{ℕ, Bool, List, [], ◌∷◌, eqb, if◌then◌else◌}
 use Rattle.rules.specs.Types.{Outcome}
-use Rattle.rules.specs.Words.{if◌then◌else◌}
 
 -- ---- refusals: an ordered list of situations, each with its code
 

@@ -1,12 +1,12 @@
 -- Document 01, "What the store holds": creation and the fresh table
-use Rattle.std.specs.Prelude.{ℕ, ◌*◌, Bool, true, not, ◌&&◌, ◌||◌, List, replicate, eqb}
+use Rattle.std.specs.Prelude.{ℕ, ◌*◌, Bool, true, not, ◌&&◌, ◌||◌, List, replicate, eqb, if◌then◌else◌}
 use Rattle.rules.specs.Types.{Epoch, Set, Creation, State, Chunk, Host, Table, Created}
 use Rattle.rules.specs.Built.{blank}
 use Rattle.rules.specs.Codes.{Row, ◌gives◌⨾◌, granted, code_of}
 use Rattle.rules.specs.Hosts.{with_working}
 use Rattle.rules.specs.Limits.{host_limit, chunk_limit, block_limit, place_limit, greatest_clock, up_to, one_to}
 use Rattle.rules.specs.Tables.{is_host, is_chunk, is_block, set_of}
-use Rattle.rules.specs.Words.{if◌then◌else◌, every, each, numbers}
+use Rattle.rules.specs.Words.{every, each, numbers}
 use Rattle.rules.specs.Zero.{◌among◌, is_empty, zero_record, zero_host, zero_chunk, zero_place, zero_table}
 
 -- every chunk in the set is one of the store's

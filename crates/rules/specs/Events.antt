@@ -1,7 +1,7 @@
 -- Document 01, "Events": for each event its refusals in their order, and its effect; the events by their numbers; the step
-use Rattle.std.specs.Prelude.{ℕ, Bool, not, ◌&&◌, List, [], get_or, eqb}
+use Rattle.std.specs.Prelude.{ℕ, Bool, not, ◌&&◌, List, [], get_or, eqb, if◌then◌else◌}
 use Rattle.rules.specs.Types.{Epoch, Set, Creation, Record, State, Chunk, Action, Operation, Host, Header, Message, Slot, Table, Arrived, Copy, Event, Operands, Outcome, Answer, Reply}
-use Rattle.rules.specs.declared.Operand.TheVariants.{Unknown as unknown, Unused as unused, Host as aHost, Chunk as aChunk, Block as aBlock, Place as aPlace, Clock as aClock, Now as aTime, Value as aValue}
+use Rattle.rules.specs.declared.Operand.TheVariants.{Unknown as unknown, Unused as unused, Host as a_host, Chunk as a_chunk, Block as a_block, Place as a_place, Clock as a_clock, Now as a_time, Value as a_value}
 use Rattle.rules.specs.Built.{blank, copy_with, operation_of}
 use Rattle.rules.specs.Chunks.{run_refusals, ran, fail_refusals, failed, emptied, recover_refusals, recovered, take_lease_refusals, lease_taken, give_lease_refusals, lease_given, overdue_refusals, overdue, arrives}
 use Rattle.rules.specs.Codes.{Row, ◌gives◌⨾◌, granted, code_of}
@@ -15,7 +15,7 @@ use Rattle.rules.specs.Operands.{◌∥◌∥◌, all_in_range}
 use Rattle.rules.specs.Settlement.{settled}
 use Rattle.rules.specs.Tables.{is_chunk, is_block, set_of, host_of, chunk_of, at, record_of, records_by, slot_of, with_epoch, with_chunks, with_records, with_places, with_host, with_chunk, with_record}
 use Rattle.rules.specs.Timestamps.{stamp, next}
-use Rattle.rules.specs.Words.{if◌then◌else◌, Numbered, ◌⇒◌⨾◌, under, each, every, some, numbers}
+use Rattle.rules.specs.Words.{Numbered, ◌⇒◌⨾◌, under, each, every, some, numbers}
 use Rattle.rules.specs.Zero.{◌among◌, no_record, no_chunk, no_copy}
 
 -- what a granted event gives: the new table and the outcome
@@ -252,22 +252,22 @@ operands does rule = record { operands = operands; rule = rule }
 
 abbrev pub event_kinds : List (Numbered EventKind)
 event_kinds =
-    1 ⇒ aHost ∥ aBlock ∥ unused does read_rule ⨾  -- "read (host, block)"
-    2 ⇒ aHost ∥ aBlock ∥ aValue does write_rule ⨾  -- "write (host, block, value)"
-    3 ⇒ aHost ∥ aClock ∥ aChunk does start_rule ⨾  -- "start (host, clock from 1, copy)": "the copy is a chunk's number"
-    4 ⇒ aPlace ∥ unused ∥ unused does deliver_rule ⨾  -- "deliver (place)"
-    5 ⇒ aPlace ∥ unused ∥ unused does drop_rule ⨾  -- "drop (place)"
-    6 ⇒ aHost ∥ unused ∥ unused does finish_rule ⨾  -- "finish (host)"
-    7 ⇒ aHost ∥ unused ∥ unused does timeout_rule ⨾  -- "timeout (host)"
-    8 ⇒ aHost ∥ unused ∥ unused does refresh_rule ⨾  -- "refresh (host)"
-    9 ⇒ aChunk ∥ aBlock ∥ unused does run_rule ⨾  -- "run (chunk, block)"
-    10 ⇒ aHost ∥ unused ∥ unused does stop_rule ⨾  -- "stop (host)"
-    11 ⇒ aChunk ∥ unused ∥ unused does fail_rule ⨾  -- "fail (chunk)"
-    12 ⇒ aChunk ∥ unused ∥ unused does recover_rule ⨾  -- "recover"
-    13 ⇒ aChunk ∥ unused ∥ unused does take_lease_rule ⨾  -- "take lease"
-    14 ⇒ aChunk ∥ unused ∥ unused does give_lease_rule ⨾  -- "give lease"
+    1 ⇒ a_host ∥ a_block ∥ unused does read_rule ⨾  -- "read (host, block)"
+    2 ⇒ a_host ∥ a_block ∥ a_value does write_rule ⨾  -- "write (host, block, value)"
+    3 ⇒ a_host ∥ a_clock ∥ a_chunk does start_rule ⨾  -- "start (host, clock from 1, copy)": "the copy is a chunk's number"
+    4 ⇒ a_place ∥ unused ∥ unused does deliver_rule ⨾  -- "deliver (place)"
+    5 ⇒ a_place ∥ unused ∥ unused does drop_rule ⨾  -- "drop (place)"
+    6 ⇒ a_host ∥ unused ∥ unused does finish_rule ⨾  -- "finish (host)"
+    7 ⇒ a_host ∥ unused ∥ unused does timeout_rule ⨾  -- "timeout (host)"
+    8 ⇒ a_host ∥ unused ∥ unused does refresh_rule ⨾  -- "refresh (host)"
+    9 ⇒ a_chunk ∥ a_block ∥ unused does run_rule ⨾  -- "run (chunk, block)"
+    10 ⇒ a_host ∥ unused ∥ unused does stop_rule ⨾  -- "stop (host)"
+    11 ⇒ a_chunk ∥ unused ∥ unused does fail_rule ⨾  -- "fail (chunk)"
+    12 ⇒ a_chunk ∥ unused ∥ unused does recover_rule ⨾  -- "recover"
+    13 ⇒ a_chunk ∥ unused ∥ unused does take_lease_rule ⨾  -- "take lease"
+    14 ⇒ a_chunk ∥ unused ∥ unused does give_lease_rule ⨾  -- "give lease"
     15 ⇒ unused ∥ unused ∥ unused does epoch_rule ⨾  -- "epoch change"
-    16 ⇒ aChunk ∥ aBlock ∥ aTime does overdue_rule ⨾  -- "overdue (chunk, block, now 0 to 4,294,967,295)"
+    16 ⇒ a_chunk ∥ a_block ∥ a_time does overdue_rule ⨾  -- "overdue (chunk, block, now 0 to 4,294,967,295)"
     []
 
 -- no number is in range for an "unknown kind"

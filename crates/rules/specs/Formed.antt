@@ -1,13 +1,13 @@
 -- Document 01: "A table is well formed when every number is within the ranges above, counts are within limits, waiting entries are
 -- in ascending timestamp order (equal allowed), all chunks have one epoch, the store's, and unused places are zero"
-use Rattle.std.specs.Prelude.{ℕ, ◌-◌, Bool, true, false, not, ◌&&◌, ◌||◌, List, get_or, ltb, leb}
+use Rattle.std.specs.Prelude.{ℕ, ◌-◌, Bool, true, false, not, ◌&&◌, ◌||◌, List, get_or, ltb, leb, if◌then◌else◌}
 use Rattle.rules.specs.Types.{Epoch, Creation, Entry, Waiting, Record, Chunk, Operation, Queue, Attempt, Host, Header, Message, Sort, Slot, Table, Place}
 use Rattle.rules.specs.Creation.{is_creation, of_store}
 use Rattle.rules.specs.Limits.{host_limit, chunk_limit, block_limit, operation_limit, waiting_limit, place_limit, greatest_clock, up_to}
 use Rattle.rules.specs.Messages.{header_of, sort_of}
 use Rattle.rules.specs.Tables.{is_host, is_chunk, is_block, slot_of, at}
 use Rattle.rules.specs.Timestamps.{◌above◌, ◌same◌, never, is_timestamp, is_epoch}
-use Rattle.rules.specs.Words.{if◌then◌else◌, every, numbers}
+use Rattle.rules.specs.Words.{every, numbers}
 use Rattle.rules.specs.Zero.{zero_entry, is_zero_entry, is_zero_record, is_zero_chunk, zero_operation, is_zero_operation, is_zero_attempt, is_zero_host, no_host, no_chunk, no_record}
 
 -- of a message's own numbers the epoch has a range: "the first four also the epoch the host knows"

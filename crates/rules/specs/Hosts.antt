@@ -1,12 +1,12 @@
 -- One host: what is refused it, what a reply does at it, what becomes of it
-use Rattle.std.specs.Prelude.{ℕ, Bool, true, false, not, ◌&&◌, List, [], ◌∷◌, ◌++◌, get_or, set, take, drop, length, eqb, ltb, leb}
+use Rattle.std.specs.Prelude.{ℕ, Bool, true, false, not, ◌&&◌, List, [], ◌∷◌, ◌++◌, get_or, set, take, drop, length, eqb, ltb, leb, if◌then◌else◌}
 use Rattle.rules.specs.Types.{Timestamp, Epoch, Set, Action, Operation, Queue, Attempt, Host, Message, Request, Refusal, Sort, Outcome}
 use Rattle.rules.specs.Codes.{Row, ◌gives◌⨾◌, granted}
 use Rattle.rules.specs.Kinds.{is_reading}
 use Rattle.rules.specs.Limits.{chunk_limit, operation_limit}
 use Rattle.rules.specs.Messages.{header_of, sort_of}
 use Rattle.rules.specs.Timestamps.{never, ◌is◌, ◌above◌}
-use Rattle.rules.specs.Words.{if◌then◌else◌, each, numbers, filled}
+use Rattle.rules.specs.Words.{each, numbers, filled}
 use Rattle.rules.specs.Zero.{◌among◌, is_empty, zero_set, zero_operation, zero_attempt}
 
 -- ---- a host and an attempt with one field changed

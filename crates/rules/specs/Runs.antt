@@ -1,12 +1,12 @@
 -- A run, and what was begun in it: told by the events and their answers alone
-use Rattle.std.specs.Prelude.{ℕ, ◌+◌, ◌≡◌, Bool, true, false, not, ◌&&◌, List, [], ◌∷◌, ◌++◌, get_or, drop, eqb}
+use Rattle.std.specs.Prelude.{ℕ, ◌+◌, ◌≡◌, Bool, true, false, not, ◌&&◌, List, [], ◌∷◌, ◌++◌, get_or, drop, eqb, if◌then◌else◌}
 use Rattle.rules.specs.Types.{Timestamp, Action, Operation, Host, Table, Event, Outcome, Answer}
 use Rattle.rules.specs.Built.{operation_of}
 use Rattle.rules.specs.Events.{step}
 use Rattle.rules.specs.Hosts.{queue_of}
 use Rattle.rules.specs.Kinds.{is_reading}
 use Rattle.rules.specs.Timestamps.{stamp, never, ◌is◌, ◌above◌}
-use Rattle.rules.specs.Words.{if◌then◌else◌, each, none, fold}
+use Rattle.rules.specs.Words.{each, none, fold}
 use Rattle.rules.specs.Zero.{zero_operation}
 
 -- ---- a run: any list of events, refused ones too, one after the other

@@ -1,12 +1,12 @@
 -- Document 01, "Epoch change": "Settling takes all copies of one block together"
-use Rattle.std.specs.Prelude.{ℕ, Bool, ◌&&◌, not, List}
+use Rattle.std.specs.Prelude.{ℕ, Bool, ◌&&◌, not, List, if◌then◌else◌}
 use Rattle.rules.specs.Types.{Timestamp, Entry, Record, Copy}
 use Rattle.rules.specs.Built.{copy_with}
 use Rattle.rules.specs.Chunks.{emptied}
 use Rattle.rules.specs.Kinds.{is_write, is_aborted, value_of}
 use Rattle.rules.specs.Timestamps.{◌is◌, ◌above◌, greatest}
 use Rattle.rules.specs.Waiting.{in_order}
-use Rattle.rules.specs.Words.{if◌then◌else◌, those, each, joined, every, some, none, first}
+use Rattle.rules.specs.Words.{those, each, joined, every, some, none, first}
 use Rattle.rules.specs.Zero.{zero_entry, zero_waiting, no_copy}
 
 -- ---- one copy

@@ -1,8 +1,8 @@
 -- Timestamps and epochs: only like values are compared
-use Rattle.std.specs.Prelude.{ℕ, ◌+◌, ◌*◌, ◌/◌, Bool, List, eqb, ltb}
+use Rattle.std.specs.Prelude.{ℕ, ◌+◌, ◌*◌, ◌/◌, Bool, List, eqb, ltb, if◌then◌else◌}
 use Rattle.rules.specs.Types.{Timestamp, Epoch}
 use Rattle.rules.specs.Limits.{up_to, greatest_clock, clock_factor, greatest_timestamp}
-use Rattle.rules.specs.Words.{if◌then◌else◌, fold}
+use Rattle.rules.specs.Words.{fold}
 
 -- "A timestamp is clock x 8 + host number"
 abbrev pub stamp : (clock host : ℕ) → Timestamp

@@ -1,10 +1,10 @@
 -- The waiting list of a block in a chunk
-use Rattle.std.specs.Prelude.{ℕ, Bool, List, [], ◌∷◌, get_or, set, take, drop, length}
+use Rattle.std.specs.Prelude.{ℕ, Bool, List, [], ◌∷◌, get_or, set, take, drop, length, if◌then◌else◌}
 use Rattle.rules.specs.Types.{Timestamp, Kind, Entry, Waiting}
 use Rattle.rules.specs.Built.{entry_with}
 use Rattle.rules.specs.Limits.{waiting_limit}
 use Rattle.rules.specs.Timestamps.{◌is◌, ◌below◌}
-use Rattle.rules.specs.Words.{if◌then◌else◌, place, filled}
+use Rattle.rules.specs.Words.{place, filled}
 use Rattle.rules.specs.Zero.{zero_entry}
 
 -- ---- the list: its entries in waiting order, and the list that has given entries

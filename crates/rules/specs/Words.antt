@@ -1,9 +1,5 @@
 -- The few words that the rules are written with
-use Rattle.std.specs.Prelude.{ℕ, zero, suc, Bool, true, false, cond, ◌&&◌, ◌||◌, not, List, [], ◌∷◌, ◌++◌, get_or, take, replicate, eqb}
-
-infixr 5 if◌then◌else◌
-abbrev pub if◌then◌else◌ : {A : Type 0} → Bool → A → A → A
-if b then x else y = cond b x y
+use Rattle.std.specs.Prelude.{ℕ, zero, suc, Bool, true, false, ◌&&◌, ◌||◌, not, List, [], ◌∷◌, ◌++◌, get_or, take, replicate, eqb, if◌then◌else◌}
 
 -- those of the list that are p, in their order
 unfoldable pub those : {A : Type 0} → (A → Bool) → List A → List A

@@ -96,7 +96,7 @@ zero_table = record {
   places = replicate place_limit zero_place;
 }
 
--- ---- beyond an array's end: zero, with arrays of no places. No rule looks there on a well_formed_lem table
+-- ---- beyond an array's end: zero, with arrays of no places. No rule looks there on a well-formed table
 
 abbrev pub no_set : Set
 no_set = record { chunks = [] }

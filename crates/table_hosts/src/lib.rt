@@ -1,4 +1,5 @@
 // A host of a lent table, read and written where it lies.
+// An array is named as a slice where it is asked for beyond its end: so its length is known.
 #![tactic(auto)]
 
 ghost use Rattle.std.specs.Prelude.{◌≡◌, get_or};
@@ -12,8 +13,9 @@ pub fn host_in(t: &Table, i: u64) -> Host
     ensures { result ≡ get_or t.now.hosts i zero_host }
 {
     let k = i as usize;
+    let hosts: &[Host] = &t.hosts;
     if k < rules::HOSTS {
-        return t.hosts[k];
+        return hosts[k];
     }
     table_zero::host()
 }
@@ -23,7 +25,8 @@ pub fn put_host(t: &mut Table, i: u64, x: Host)
     ensures { t.new ≡ with_host t.old i x }
 {
     let at = i as usize;
+    let hosts: &mut [Host] = &mut t.hosts;
     if at < rules::HOSTS {
-        t.hosts[at] = x;
+        hosts[at] = x;
     }
 }

@@ -1,7 +1,7 @@
--- Laws that the walks of the loops and of `send_in` cite
+-- Laws that the proofs of the loops and of `send_in` cite
 use Prim.Native.Nat.{ℕ, ◌+◌, ◌-◌, ◌≤◌, ◌<◌, ◌^◌}
-use mathlib.Core.Path.{◌≡◌, refl, sym, ap, subst, ◌∙◌}
-use mathlib.Core.Bool.{Bool, true, false, cond, not, true≢false}
+use mathlib.Core.Path.{◌≡◌, refl, ap, subst, ◌∙◌}
+use mathlib.Core.Bool.{Bool, true, false, cond, not}
 use mathlib.Core.List.{List, ◌∷◌}
 use native.Mathlib.Decide.{dec_le}
 use native.Mathlib.Omega.{arith}

@@ -1,4 +1,5 @@
 // The network's places of a lent table, read and written where they lie.
+// An array is named as a slice where it is asked for beyond its end: so its length is known.
 #![tactic(auto)]
 
 ghost use Rattle.std.specs.Prelude.{◌+◌, ◌<◌, cond, not, ◌≡◌, get_or, set};
@@ -21,8 +22,9 @@ pub fn place_in(t: &Table, i: u64) -> Place
     ensures { result ≡ get_or t.now.places i zero_place }
 {
     let k = i as usize;
+    let places: &[Place] = &t.places;
     if k < rules::PLACES {
-        return t.places[k];
+        return places[k];
     }
     empty()
 }
@@ -32,8 +34,9 @@ fn put_place(t: &mut Table, i: u64, x: Place)
     ensures { t.new ≡ with_places t.old (set t.old.places i x) }
 {
     let at = i as usize;
+    let places: &mut [Place] = &mut t.places;
     if at < rules::PLACES {
-        t.places[at] = x;
+        places[at] = x;
     }
 }
 
@@ -77,6 +80,7 @@ fn counted(free: u64, p: Place) -> u64
 pub fn free_in(t: &Table) -> u64
     ensures { result ≡ free_places t.now.places }
 {
+    let _places: &[Place] = &t.places;
     let mut free: u64 = 0;
     let mut i: u64 = 0;
     while i < rules::PLACES as u64 {
@@ -90,6 +94,7 @@ pub fn free_in(t: &Table) -> u64
 fn lowest_in(t: &Table) -> u64
     ensures { result ≡ place is_free t.now.places }
 {
+    let _places: &[Place] = &t.places;
     let mut at: u64 = 0;
     while is_taken(place_in(t, at)) {
         at = at + 1;

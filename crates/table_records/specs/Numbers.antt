@@ -1,8 +1,7 @@
 -- The numbers of records
-use Rattle.std.specs.Prelude.{ℕ, ◌*◌, ◌&&◌, ltb}
+use Rattle.std.specs.Prelude.{ℕ, ◌*◌, ◌&&◌, ltb, if◌then◌else◌}
 use Rattle.rules.specs.Limits.{chunk_limit, block_limit}
 use Rattle.rules.specs.Tables.{at}
-use Rattle.rules.specs.Words.{if◌then◌else◌}
 
 -- where chunk c has block b among the records; where there is no such chunk or block, the number beyond the last
 abbrev pub record_number : (chunk block : ℕ) → ℕ

@@ -1,4 +1,5 @@
 // A chunk's record of a block of a lent table, read and written where it lies.
+// An array is named as a slice where it is asked for beyond its end: so its length is known.
 #![tactic(auto)]
 
 ghost use Rattle.std.specs.Prelude.{◌≡◌, get_or, set};
@@ -24,8 +25,9 @@ pub fn record_in(t: &Table, i: u64) -> Record
     ensures { result ≡ get_or t.now.records i zero_record }
 {
     let k = i as usize;
+    let records: &[Record] = &t.records;
     if k < rules::RECORDS {
-        return t.records[k];
+        return records[k];
     }
     table_zero::record()
 }
@@ -35,7 +37,8 @@ pub fn put_record(t: &mut Table, i: u64, x: Record)
     ensures { t.new ≡ with_records t.old (set t.old.records i x) }
 {
     let at = i as usize;
+    let records: &mut [Record] = &mut t.records;
     if at < rules::RECORDS {
-        t.records[at] = x;
+        records[at] = x;
     }
 }

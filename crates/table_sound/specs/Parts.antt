@@ -1,5 +1,5 @@
 -- What the functions on parts of the table are given
-use Rattle.std.specs.Prelude.{ℕ, ◌/◌, ◌%◌, Bool, false, not, ◌&&◌, ◌||◌, List, [], eqb, ltb, get_or}
+use Rattle.std.specs.Prelude.{ℕ, ◌/◌, ◌%◌, Bool, false, not, ◌&&◌, ◌||◌, List, [], eqb, ltb, get_or, if◌then◌else◌}
 use Rattle.rules.specs.declared.Chunk.{Chunk}
 use Rattle.rules.specs.declared.Creation.{Creation}
 use Rattle.rules.specs.declared.Epoch.{Epoch}
@@ -12,7 +12,7 @@ use Rattle.rules.specs.Formed.{waiting_formed, host_at, chunk_at, record_at, slo
 use Rattle.rules.specs.Limits.{block_limit, waiting_limit}
 use Rattle.rules.specs.Tables.{is_chunk, is_block, slot_of}
 use Rattle.rules.specs.Timestamps.{never, ◌is◌, is_timestamp, is_epoch}
-use Rattle.rules.specs.Words.{if◌then◌else◌, every, numbers}
+use Rattle.rules.specs.Words.{every, numbers}
 use Rattle.rules.specs.Zero.{zero_entry, is_zero_entry, no_host, no_chunk, no_record}
 use Rattle.table_sound.specs.declared.Counts.{Counts}
 

@@ -1,12 +1,12 @@
 // Code 8: the whole table is looked at. A part of the store's must be formed, an unused one zero.
 #![tactic(auto)]
 
-ghost use Rattle.std.specs.Prelude.{◌-◌, ◌≡◌, ◌&&◌, not};
+ghost use Rattle.std.specs.Prelude.{◌-◌, ◌≡◌, ◌&&◌, not, if◌then◌else◌};
 ghost use Rattle.rules.specs.Creation.{is_creation, of_store, is_set_of};
 ghost use Rattle.rules.specs.Formed.{operation_formed, operation_at, queue_formed, attempt_formed, host_formed, chunk_formed, entry_formed, entry_at, waiting_formed, host_at, chunk_at, header_formed, sort_formed, message_formed, slot_formed, hosts_formed, chunks_formed, records_formed, places_formed, well_formed};
 ghost use Rattle.rules.specs.Limits.{block_limit, operation_limit, waiting_limit};
 ghost use Rattle.rules.specs.Timestamps.{◌above◌};
-ghost use Rattle.rules.specs.Words.{if◌then◌else◌, every, numbers};
+ghost use Rattle.rules.specs.Words.{every, numbers};
 ghost use Rattle.rules.specs.Zero.{is_empty, is_zero_entry, is_zero_chunk, is_zero_operation, is_zero_attempt, is_zero_host};
 ghost use Rattle.table_sound.specs.Parts.{counted, counts_of, all_formed, of_blocks, unused_entries, numbers_formed, is_of_store, is_quiet, quiet_at, busy_at, record_in_place};
 

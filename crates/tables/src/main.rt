@@ -1,4 +1,4 @@
-// Tables handed in, one for each clause of document 01's sentence on well_formed_lem tables and one on each limit just inside and just
+// Tables handed in, one for each clause of document 01's sentence on well-formed tables and one on each limit just inside and just
 // outside. Each is asked event 8 (refresh of host 0). A line has the part, the case and the answer's code: 0 inside, 8 outside.
 #![tactic(auto)]
 

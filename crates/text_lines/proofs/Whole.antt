@@ -43,7 +43,7 @@ text_bytes l =
     ∙ ap (take (length (take text_limit l))) (sym (take-append-drop text_limit l))
     ∙ take-append_seam (take text_limit l) (drop text_limit l)
 
--- so a line that was gathered says what it Said, however long it was
+-- so a line that was gathered says what it said, however long it was
 pub line_gathered : (l : List ℕ) → line_of (bytes_of (fold followed (text_of []) l)) ≡ line_of l
 line_gathered l = ap (λ (t : Text). line_of (bytes_of t)) (text_more [] l) ∙ ap line_of (text_bytes l) ∙ line_cut l
 

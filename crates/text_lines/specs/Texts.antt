@@ -1,8 +1,8 @@
 -- Document 01, "One session, whole": the line of an answer, and a line that is gathered byte by byte
-use Rattle.std.specs.Prelude.{ℕ, zero, suc, ◌+◌, ◌/◌, ◌%◌, Bool, List, [], ◌∷◌, ◌++◌, length, set, take, drop, eqb, ltb}
+use Rattle.std.specs.Prelude.{ℕ, zero, suc, ◌+◌, ◌/◌, ◌%◌, Bool, List, [], ◌∷◌, ◌++◌, length, set, take, drop, eqb, ltb, if◌then◌else◌}
 use Rattle.rules.specs.declared.Outcome.{Outcome}
 use Rattle.rules.specs.Codes.{numbers_of}
-use Rattle.rules.specs.Words.{if◌then◌else◌, each, place, fold, filled}
+use Rattle.rules.specs.Words.{each, place, fold, filled}
 use Rattle.text_numbers.specs.Lines.{space, newline, line_limit}
 use Rattle.text_lines.specs.declared.Text.{Text}
 use Rattle.text_lines.specs.declared.Cut.{Cut}

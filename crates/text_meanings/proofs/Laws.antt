@@ -1,9 +1,11 @@
 -- The tests of an event's line and of the first two lines
-use Prim.Native.Nat.{ℕ, ◌+◌, ◌≤◌}
+use Prim.Native.Nat.{ℕ, ◌+◌, ◌≤◌, ◌<◌}
 use mathlib.Core.Path.{◌≡◌, refl}
 use mathlib.Core.Bool.{Bool, true, false, ◌&&◌}
 use mathlib.Core.List.{List, [], ◌∷◌}
 use lib.Dec.{eqb}
+use lib.ListN.{length, get_or, drop}
+use borrow.Author.Tests.{lt-ltb, le-ltb}
 use Rattle.rules.specs.declared.Creation.{Creation}
 use Rattle.rules.specs.declared.Set.{Set}
 use Rattle.rules.specs.Built.{creation_of}
@@ -12,6 +14,7 @@ use Rattle.rules.specs.Operands.{is_own}
 use Rattle.rules.specs.Words.{each, every}
 use Rattle.rules.specs.Zero.{zero_creation}
 use Rattle.rules.proofs.Lists.{those_short}
+use Rattle.rules.proofs.Loops.{every_here, every-other, every-end}
 use Rattle.text_numbers.specs.declared.Line.{Line}
 use Rattle.text_meanings.specs.Meanings.{number_at, own_count, no_event, asked_by, is_sum, set_with, named_by}
 
@@ -33,6 +36,16 @@ module _ (l : Line) (n : ℕ) (are : n ≡ own_count (number_at l 0)) where
   asked_bad h = rw (rw are at h) refl
 
 -- ---- the first two lines
+
+module _ (ns : List ℕ) (i : ℕ) where
+  pub sums_end : i < length ns → 256 ≤ get_or ns i 0 → every is_sum (drop i ns) ≡ false
+  sums_end below h = every_here is_sum 0 ns i below (le-ltb _ _ h)
+
+  pub sums_more : i < length ns → get_or ns i 0 < 256 → every is_sum (drop i ns) ≡ every is_sum (drop (i + 1) ns)
+  sums_more below h = every-other is_sum 0 ns i below (lt-ltb _ _ h)
+
+  pub sums_all : length ns ≤ i → every is_sum (drop i ns) ≡ true
+  sums_all = every-end is_sum 0 ns i
 
 module _ (first second : Line) (sums : Bool) (are : sums ≡ every is_sum second.numbers) where
   pub named_good : first.good && eqb first.count 4 && second.good && eqb second.count (number_at first 2) && sums ≡ true

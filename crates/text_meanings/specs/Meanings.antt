@@ -1,12 +1,12 @@
 -- Document 01, "One session, whole": the event that a line asks for, and the creation that the first two lines name
-use Rattle.std.specs.Prelude.{ℕ, ◌+◌, ◌/◌, ◌%◌, ◌^◌, Bool, true, false, ◌&&◌, length, get_or, eqb, ltb}
+use Rattle.std.specs.Prelude.{ℕ, ◌+◌, ◌/◌, ◌%◌, ◌^◌, Bool, true, false, ◌&&◌, length, get_or, eqb, ltb, if◌then◌else◌}
 use Rattle.rules.specs.declared.Set.{Set}
 use Rattle.rules.specs.declared.Event.{Event}
 use Rattle.rules.specs.Built.{creation_of}
 use Rattle.rules.specs.Events.{kind_of}
 use Rattle.rules.specs.Limits.{chunk_limit}
 use Rattle.rules.specs.Operands.{own_of}
-use Rattle.rules.specs.Words.{if◌then◌else◌, each, every, numbers}
+use Rattle.rules.specs.Words.{each, every, numbers}
 use Rattle.rules.specs.Zero.{zero_creation}
 use Rattle.text_numbers.specs.declared.Line.{Line}
 use Rattle.text_meanings.specs.declared.Asked.{Asked}

@@ -25,6 +25,7 @@ pub struct Named {
 }
 
 // "an event a line, its number and then only its own operands"
+#[tactic(auto, using(crate::proofs::Laws::own_few), unfolding(crate::specs::Meanings::asked_by))]
 pub fn event_of(l: Line) -> Asked
     ensures { result ≡ asked_by l }
 {
@@ -54,6 +55,7 @@ pub fn event_of(l: Line) -> Asked
 }
 
 // No number names a chunk above 7.
+#[tactic(auto, using(crate::proofs::Laws::sums_end, crate::proofs::Laws::sums_more, crate::proofs::Laws::sums_all))]
 fn all_sums(ns: [u64; text_numbers::NUMBERS]) -> bool
     ensures { result ≡ every is_sum ns }
 {
@@ -68,6 +70,7 @@ fn all_sums(ns: [u64; text_numbers::NUMBERS]) -> bool
 }
 
 // The chunks c whose 2 to the power c is in the sum.
+#[tactic(auto, unfolding(rules::specs::Words::each, rules::specs::Words::from))]
 fn set_of(n: u64) -> Set
     ensures { result ≡ set_with n }
 {
@@ -101,6 +104,7 @@ fn sets_of(ns: [u64; text_numbers::NUMBERS]) -> [Set; rules::BLOCKS]
 }
 
 // "a line of hosts, chunks, blocks, age limit; a line with one number a block"
+#[tactic(auto, unfolding(crate::specs::Meanings::named_by))]
 pub fn creation_of(first: Line, second: Line) -> Named
     ensures { result ≡ named_by first second }
 {

@@ -1,7 +1,7 @@
 -- Document 01, "One session, whole": a line of input, and the numbers that it says
-use Rattle.std.specs.Prelude.{ℕ, ◌+◌, ◌*◌, ◌-◌, ◌^◌, Bool, true, false, ◌&&◌, List, [], ◌∷◌, ◌++◌, length, replicate, eqb, leb, ltb}
+use Rattle.std.specs.Prelude.{ℕ, ◌+◌, ◌*◌, ◌-◌, ◌^◌, Bool, true, false, ◌&&◌, List, [], ◌∷◌, ◌++◌, length, replicate, eqb, leb, ltb, if◌then◌else◌}
 use Rattle.rules.specs.Limits.{block_limit}
-use Rattle.rules.specs.Words.{if◌then◌else◌, each, every, fold, filled}
+use Rattle.rules.specs.Words.{each, every, fold, filled}
 use Rattle.text_numbers.specs.declared.Line.{Line}
 
 -- ---- bytes

@@ -1,6 +1,5 @@
 -- A line is read byte by byte: what one byte changes. The promises of private functions cite these
-use Rattle.std.specs.Prelude.{ℕ, ◌+◌, ◌*◌, ◌-◌, ◌^◌, true, false, [], set, eqb, ltb}
-use Rattle.rules.specs.Words.{if◌then◌else◌}
+use Rattle.std.specs.Prelude.{ℕ, ◌+◌, ◌*◌, ◌-◌, ◌^◌, true, false, [], set, eqb, ltb, if◌then◌else◌}
 use Rattle.text_numbers.specs.declared.Line.{Line}
 use Rattle.text_numbers.specs.declared.Reading.{Reading}
 use Rattle.text_numbers.specs.Lines.{space, is_digit, bad_line, saying}
