@@ -172,6 +172,7 @@ fn deliver(blocks: u64, h: Host, c: Chunk, r: Record, s: Slot) -> Delivered
 // ---- the events
 
 // The event's refusals and effect. A kind that is not done on parts is out of range.
+#[tactic(auto, unfolding(crate::specs::Acts::acted, rules::specs::Words::place))]
 pub fn act(e: Event, p: Parts) -> Acted
     ensures { result ≡ acted e p }
 {
