@@ -71,6 +71,7 @@ fn here_by(e: Event, s: Slot, host: u64, h: Host) -> Here
     }
 }
 
+#[tactic(auto, unfolding(crate::specs::Touches::here_in))]
 fn here_in(t: &Table, e: Event) -> Here
     ensures { result ≡ here_in t.now e }
 {
@@ -130,6 +131,7 @@ fn parts_by(
     }
 }
 
+#[tactic(auto, unfolding(crate::specs::Touches::parts_in))]
 fn left_in(t: &Table, e: Event, x: Here) -> Acted
     ensures { result ≡ acted e (parts_in t.now x) }
 {
@@ -176,6 +178,7 @@ fn message(a: Acted, k: u64) -> Slot
 }
 
 // The parts, and the network without the message that is delivered or dropped.
+#[tactic(auto, unfolding(crate::specs::Touches::keeping))]
 fn keep_in(t: &mut Table, x: Here, a: Acted)
     ensures { t.new ≡ keeping t.old x a }
 {
