@@ -3,14 +3,19 @@
 // writes, and that it is safe and ends. Memory does not grow with the input: of a line that is too long no more is kept than shows it.
 #![tactic(auto)]
 
-ghost use Rattle.std.specs.Prelude.{◌+◌, ◌≤◌, ◌≡◌, length};
+ghost use Rattle.std.specs.Prelude.{◌+◌, ◌≤◌, ◌≡◌, IfOk, OnErr, length};
 ghost use Rattle.std.proofs.Math.Seq.{paste};
 ghost use Rattle.text_lines.specs.Texts.{text_limit};
 ghost use Rattle.driver.specs.Answers.{answer_to};
 
 use rules::{Answer, Outcome, Table};
+use std::io;
+use std::io::{Read, Write};
 use text_lines::Text;
 use text_meanings::Asked;
+
+// Bytes of input that are read, and of output that are gathered, at a time.
+const BLOCK: usize = 65536;
 
 // The bytes of the block of input that are not looked at yet.
 #[derive(Clone, Copy)]
@@ -27,12 +32,11 @@ struct Next {
     unread: Unread,
 }
 
-// "reads standard input": the next block, of 0 bytes at the end of the input or where it cannot be read.
-fn read_block(block: &mut [u8]) -> usize
-    ensures { result ≤ length block.new }
+// "reads standard input": the next block, of 0 bytes at the end of the input.
+fn read_block(input: &mut impl Read, block: &mut [u8]) -> io::Result<usize>
+    ensures { IfOk result (λ end. end ≤ length block.new) }
 {
-    let got = libc::read(libc::STDIN_FILENO, block);
-    io::count(got, block)
+    input.read(block)
 }
 
 // At the end of the input: the last line may lack its newline.
@@ -48,9 +52,9 @@ fn last_line(text: Text) -> Next
 
 // A line may go over several blocks. Nothing says that the input ends, and a proved loop does: it counts its turns down, from a
 // number that no run uses up.
-fn next_line(block: &mut [u8], unread: Unread) -> Next
+fn next_line(input: &mut impl Read, block: &mut [u8], unread: Unread) -> io::Result<Next>
     requires { unread.end ≤ length block.old }
-    ensures { result.unread.end ≤ length block.new }
+    ensures { IfOk result (λ next. next.unread.end ≤ length block.new) }
 {
     let mut text = text_lines::no_text();
     let mut at = unread.at;
@@ -60,24 +64,24 @@ fn next_line(block: &mut [u8], unread: Unread) -> Next
         let c = text_lines::cut_line(&block[..end], at, text);
         let t = c.text;
         if c.whole {
-            return Next {
+            return Ok(Next {
                 found: true,
                 text: t,
                 unread: Unread {
                     at: c.next,
                     end: end,
                 },
-            };
+            });
         }
         text = t;
         at = 0;
-        end = read_block(block);
+        end = read_block(input, block)?;
         if end == 0 {
-            return last_line(text);
+            return Ok(last_line(text));
         }
         turns = turns - 1;
     }
-    last_line(text)
+    Ok(last_line(text))
 }
 
 // "A bad event line .. writes `1 0 0 0 0` and is passed over"
@@ -96,15 +100,15 @@ fn answer_to(t: Table, asked: Asked) -> Answer
 }
 
 // Room for one line more in the output that is gathered: where it lacks, what is there is written.
-fn room(out: &[u8], used: usize) -> usize
+fn room(output: &mut impl Write, out: &[u8], used: usize) -> io::Result<usize>
     requires { (used ≤ length out.now) × (text_limit ≤ length out.now) }
-    ensures { result + text_limit ≤ length out.now }
+    ensures { IfOk result (λ at. at + text_limit ≤ length out.now) }
 {
     if text_lines::ROOM <= out.len() - used {
-        return used;
+        return Ok(used);
     }
-    io::write_all(libc::STDOUT_FILENO, &out[..used]);
-    0
+    output.write_all(&out[..used])?;
+    Ok(0)
 }
 
 // The line goes behind the output that is gathered.
@@ -122,16 +126,30 @@ fn put(out: &mut [u8], used: usize, t: Text) -> usize
 }
 
 // "It writes a line an event". How much output is gathered then.
-fn answer(out: &mut [u8], used: usize, code: u64, o: Outcome) -> usize
+fn answer(
+    output: &mut impl Write,
+    out: &mut [u8],
+    used: usize,
+    code: u64,
+    o: Outcome,
+) -> io::Result<usize>
     requires { (used ≤ length out.old) × (text_limit ≤ length out.old) }
-    ensures { result ≤ length out.new }
+    ensures ok { IfOk result (λ used. used ≤ length out.new) }
+    ensures err { OnErr result (out.new ≡ out.old) }
 {
-    let at = room(out, used);
-    put(out, at, text_lines::answer_text(code, o))
+    let at = room(output, out, used)?;
+    Ok(put(out, at, text_lines::answer_text(code, o)))
 }
 
-// "an event a line": each is answered, in its order.
-fn run(table: Table, unread: Unread, block: &mut [u8], out: &mut [u8])
+// "an event a line": each is answered, in its order. Where the input can't be read any further, what is gathered is written first.
+fn run(
+    input: &mut impl Read,
+    output: &mut impl Write,
+    table: Table,
+    unread: Unread,
+    block: &mut [u8],
+    out: &mut [u8],
+) -> io::Result<()>
     requires { (unread.end ≤ length block.old) × (text_limit ≤ length out.old) }
 {
     let mut t = table;
@@ -139,51 +157,57 @@ fn run(table: Table, unread: Unread, block: &mut [u8], out: &mut [u8])
     let mut used: usize = 0;
     let mut turns = u64::MAX;
     while turns > 0 {
-        let line = next_line(block, u);
+        let line = match next_line(input, block, u) {
+            Ok(line) => line,
+            Err(e) => {
+                output.write_all(&out[..used])?;
+                return Err(e);
+            }
+        };
         if !line.found {
             break;
         }
         let text = line.text;
         let a = answer_to(t, text_meanings::event_of(text_lines::parse_text(text)));
         let o = a.outcome;
-        used = answer(out, used, a.code, o);
+        used = answer(output, out, used, a.code, o)?;
         let next = a.table;
         t = next;
         let behind = line.unread;
         u = behind;
         turns = turns - 1;
     }
-    io::write_all(libc::STDOUT_FILENO, &out[..used]);
+    output.write_all(&out[..used])
 }
 
 // "bad first lines, or a refused creation, write that once and end"
-fn refuse() {
+fn refuse(output: &mut impl Write) -> io::Result<()> {
     let t = text_lines::answer_text(1, Outcome::None);
     let bytes = t.bytes;
     let n = t.count;
-    io::write_all(libc::STDOUT_FILENO, &bytes[..n]);
+    output.write_all(&bytes[..n])
 }
 
-fn main() {
-    let mut block = io::large_buffer();
-    let first = next_line(&mut block, Unread { at: 0, end: 0 });
+fn main(rt: HostRuntime) -> io::Result<()> {
+    let mut input = rt.stdin();
+    let mut output = rt.stdout();
+    let mut block = [0; BLOCK];
+    let first = next_line(&mut input, &mut block, Unread { at: 0, end: 0 })?;
     let behind = first.unread;
-    let second = next_line(&mut block, behind);
+    let second = next_line(&mut input, &mut block, behind)?;
     let l1 = first.text;
     let l2 = second.text;
     let named = text_meanings::creation_of(text_lines::parse_text(l1), text_lines::parse_text(l2));
     if !named.good {
-        refuse();
-        return;
+        return refuse(&mut output);
     }
     let k = named.creation;
     let created = engine::create(k);
     if created.code != rules::DONE {
-        refuse();
-        return;
+        return refuse(&mut output);
     }
     let table = created.table;
     let unread = second.unread;
-    let mut out = io::large_buffer();
-    run(table, unread, &mut block, &mut out);
+    let mut out = [0; BLOCK];
+    run(&mut input, &mut output, table, unread, &mut block, &mut out)
 }

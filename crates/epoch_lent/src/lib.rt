@@ -1,6 +1,6 @@
 // Event 15, the epoch change, of a lent table where it lies: the copies of a block are gathered, settled by value and stored back,
-// block by block; then the chunks begin anew. The functions that have the table only call, so that their proofs can be generated
-// (walks/); what they call is by value.
+// block by block; then the chunks begin anew. The functions that have the table only call; what they call is by value. An array
+// whose length matters is named as a slice: so it is known.
 #![tactic(auto)]
 
 ghost use Rattle.std.specs.Prelude.{◌≡◌, not, [], ◌∷◌, eqb};
@@ -124,6 +124,7 @@ fn settle_block_in(t: &mut Table, b: u64)
 fn settle_in(t: &mut Table)
     ensures { t.new ≡ with_records t.old (settled_in t.old.creation t.old.chunks t.old.records) }
 {
+    let _records: &[Record] = &t.records;
     let mut b: u64 = 0;
     while b < rules::BLOCKS as u64 {
         settle_block_in(&mut *t, b);
@@ -189,6 +190,7 @@ fn is_refused(code: u64) -> bool
 fn chunks_in(t: &Table) -> Chunks
     ensures { result ≡ record { chunks = t.now.chunks } }
 {
+    let _chunks: &[Chunk] = &t.chunks;
     let c0 = table_chunks::chunk_in(t, 0);
     let c1 = table_chunks::chunk_in(t, 1);
     let c2 = table_chunks::chunk_in(t, 2);

@@ -3,6 +3,7 @@
 #![tactic(auto)]
 
 use rules::{Creation, Event, Outcome, Set};
+use std::io;
 
 const EVENTS: usize = 18;
 
@@ -58,25 +59,21 @@ fn session() -> [Event; EVENTS] {
 }
 
 // The code, and what has come of an operation.
-fn say(code: u64, outcome: Outcome) {
-    io::print_decimal(1, code);
+fn say(rt: &impl Print, code: u64, outcome: Outcome) -> io::Result<()> {
+    rt.print(code)?;
     match outcome {
-        Outcome::None => io::write_all(1, b"\n"),
-        Outcome::ReadDone { host, block, value } => {
-            io::write_all(1, b" read done ");
-            io::print_decimal(1, value);
-            io::write_all(1, b"\n")
-        }
-        Outcome::WriteDone { host, block } => io::write_all(1, b" write done\n"),
-        Outcome::ReadFailed { host, block } => io::write_all(1, b" read failed\n"),
-        Outcome::WriteFailed { host, block } => io::write_all(1, b" write failed\n"),
-    };
+        Outcome::None => rt.println(""),
+        Outcome::ReadDone { host, block, value } => println!(rt; " read done {value}"),
+        Outcome::WriteDone { host, block } => rt.println(" write done"),
+        Outcome::ReadFailed { host, block } => rt.println(" read failed"),
+        Outcome::WriteFailed { host, block } => rt.println(" write failed"),
+    }
 }
 
-fn main() {
+fn main(rt: HostRuntime) -> io::Result<()> {
     let made = engine::create(mirrored());
     if made.code != 0 {
-        return;
+        return Ok(());
     }
     let mut table = made.table;
     let events = session();
@@ -84,9 +81,10 @@ fn main() {
     while i < EVENTS {
         let answer = engine::step(table, events[i]);
         let outcome = answer.outcome;
-        say(answer.code, outcome);
+        say(&rt, answer.code, outcome)?;
         let next = answer.table;
         table = next;
         i = i + 1;
     }
+    Ok(())
 }

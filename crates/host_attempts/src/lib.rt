@@ -111,6 +111,7 @@ fn begin(h: Host, d: Drawn, to: Set) -> Host
 
 // "3 start (host, clock from 1, copy)": what it needs (2), the copy (1), the clock (3), which the host's keeper hands out or
 // refuses, and room (5). What the keeper remembers is stored only when the start is granted.
+#[tactic(auto, unfolding(crate::specs::Moves::starts, rules::specs::Words::each, rules::specs::Codes::code_of))]
 pub fn start(number: u64, clock: u64, copy: u64, holders: Set, h: Host, free: u64) -> Sent
     ensures { result ≡ starts number clock copy holders h free }
 {
@@ -246,6 +247,7 @@ fn end(h: Host) -> Host
 }
 
 // "6 finish (host)".
+#[tactic(auto, unfolding(crate::specs::Moves::finishes, rules::specs::Codes::code_of))]
 pub fn finish(number: u64, holders: Set, h: Host, free: u64) -> Sent
     ensures { result ≡ finishes number holders h free }
 {

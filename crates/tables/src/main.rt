@@ -8,6 +8,7 @@ use rules::{
     Action, Attempt, Chunk, Creation, Entry, Epoch, Event, Header, Host, Kind, Message, Operation,
     Place, Queue, Record, Refusal, Request, Set, Slot, Sort, State, Table, Timestamp, Waiting,
 };
+use std::io;
 
 // The greatest timestamp, and the greatest clock and epoch.
 const TIMESTAMP: u64 = 34359738367;
@@ -467,27 +468,24 @@ fn case(part: u64, n: u64) -> Table {
     }
 }
 
-fn name(part: u64) -> bool {
+fn name(rt: &impl Print, part: u64) -> io::Result<()> {
     match part {
-        0 => io::write_all(1, b"host "),
-        1 => io::write_all(1, b"spare host "),
-        2 => io::write_all(1, b"chunk "),
-        3 => io::write_all(1, b"spare chunk "),
-        4 => io::write_all(1, b"record "),
-        5 => io::write_all(1, b"spare block's record "),
-        6 => io::write_all(1, b"spare chunk's record "),
-        7 => io::write_all(1, b"message "),
-        8 => io::write_all(1, b"creation "),
-        _ => io::write_all(1, b"epoch "),
+        0 => rt.write_all(b"host "),
+        1 => rt.write_all(b"spare host "),
+        2 => rt.write_all(b"chunk "),
+        3 => rt.write_all(b"spare chunk "),
+        4 => rt.write_all(b"record "),
+        5 => rt.write_all(b"spare block's record "),
+        6 => rt.write_all(b"spare chunk's record "),
+        7 => rt.write_all(b"message "),
+        8 => rt.write_all(b"creation "),
+        _ => rt.write_all(b"epoch "),
     }
 }
 
-fn line(part: u64, n: u64, code: u64) {
-    name(part);
-    io::print_decimal(1, n);
-    io::write_all(1, b" ");
-    io::print_decimal(1, code);
-    io::write_all(1, b"\n");
+fn line(rt: &impl Print, part: u64, n: u64, code: u64) -> io::Result<()> {
+    name(rt, part)?;
+    println!(rt; "{n} {code}")
 }
 
 fn code_of(t: Table) -> u64 {
@@ -504,23 +502,24 @@ fn code_of(t: Table) -> u64 {
 }
 
 // So many cases of a part.
-fn lines(part: u64, count: u64) {
+fn lines(rt: &impl Print, part: u64, count: u64) -> io::Result<()> {
     let mut n: u64 = 0;
     while n < count {
-        line(part, n, code_of(case(part, n)));
+        line(rt, part, n, code_of(case(part, n)))?;
         n = n + 1;
     }
+    Ok(())
 }
 
-fn main() {
-    lines(0, 20);
-    lines(1, 7);
-    lines(2, 6);
-    lines(3, 5);
-    lines(4, 18);
-    lines(5, 6);
-    lines(6, 6);
-    lines(7, 11);
-    lines(8, 15);
-    lines(9, 3);
+fn main(rt: HostRuntime) -> io::Result<()> {
+    lines(&rt, 0, 20)?;
+    lines(&rt, 1, 7)?;
+    lines(&rt, 2, 6)?;
+    lines(&rt, 3, 5)?;
+    lines(&rt, 4, 18)?;
+    lines(&rt, 5, 6)?;
+    lines(&rt, 6, 6)?;
+    lines(&rt, 7, 11)?;
+    lines(&rt, 8, 15)?;
+    lines(&rt, 9, 3)
 }
