@@ -34,7 +34,7 @@ struct Next {
 
 // "reads standard input": the next block, of 0 bytes at the end of the input. Where it cannot be read, any bytes may be left in it.
 fn read_block(input: &mut impl Read, block: &mut [u8]) -> io::Result<usize>
-    ensures { IfOk result (λ end. end ≤ length block.new) }
+    ensures { IfOk result (λ n. n ≤ length block.new) }
 {
     input.read(block)
 }
@@ -136,7 +136,7 @@ fn answer(
     o: Outcome,
 ) -> io::Result<usize>
     requires { (used ≤ length out.old) × (text_limit ≤ length out.old) }
-    ensures ok { IfOk result (λ used. used ≤ length out.new) }
+    ensures ok { IfOk result (λ n. n ≤ length out.new) }
     ensures err { OnErr result (out.new ≡ out.old) }
 {
     let at = room(output, out, used)?;
