@@ -47,9 +47,11 @@ fn empty_block_in(t: &mut Table, chunk: u64, b: u64)
     table_records::put_record(&mut *t, i, none);
 }
 
+// The records are named as a slice: so it is known how many they are.
 fn empty_in(t: &mut Table, chunk: u64)
     ensures { t.new ≡ with_records t.old (without_waiting t.old.records chunk) }
 {
+    let _records: &[Record] = &t.records;
     let mut b: u64 = 0;
     while b < rules::BLOCKS as u64 {
         empty_block_in(&mut *t, chunk, b);

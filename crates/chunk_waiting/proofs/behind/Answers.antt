@@ -8,7 +8,7 @@ use Rattle.chunk_waiting.proofs.behind.Goals as goal
 
 pub loop-p-preserved : goal.loop-p-preserved
 loop-p-preserved c =
-    omega (arith, search_on (overtakes c.args.e) c.args.w c.loop-p.p (omega arith) (le-ltb _ _ c.if-e-x.false))
+    omega (arith, search_on (overtakes c.args.e) c.args.w c.loop-p.p (omega arith) (le-ltb _ _ (omega arith)))
 
 pub returns-after-loop-p : goal.returns-after-loop-p
 returns-after-loop-p c =
@@ -16,4 +16,4 @@ returns-after-loop-p c =
 
 pub returns-then-e-x : goal.returns-then-e-x
 returns-then-e-x c =
-    omega (arith, search_ends (overtakes c.args.e) c.args.w c.loop-p.p (omega arith) (lt-ltb _ _ c.if-e-x.true))
+    omega (arith, search_ends (overtakes c.args.e) c.args.w c.loop-p.p (omega arith) (lt-ltb _ _ (omega arith)))
