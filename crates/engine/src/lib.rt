@@ -9,7 +9,9 @@ ghost use Rattle.rules.specs.Formed.{well_formed};
 ghost use Rattle.rules.specs.Timestamps.{next};
 ghost use Rattle.engine.specs.Answers.{quiet_reply, answer_of};
 
-use rules::{Answer, Created, Creation, Epoch, Event, Outcome, Reply, Table};
+use rules::{
+    Answer, Chunk, Created, Creation, Epoch, Event, Host, Outcome, Place, Record, Reply, Table,
+};
 
 // "Any other creation is refused with code 1 and gives no store".
 pub fn create(k: Creation) -> Created
@@ -66,6 +68,7 @@ fn next_of(x: Epoch) -> Epoch
 // ---- the event, where the table lies
 
 // On a well-formed table: ranges first, then the event. Failure and epoch change touch more than one record.
+// An event on parts asks how long the arrays are, so they are named as slices: their lengths are known there.
 fn step_formed(t: &mut Table, e: Event) -> Reply
     requires { well_formed t.old ≡ true }
     ensures { (result ≡ reply_of (step t.old e)) × (t.new ≡ (step t.old e).table) }
@@ -80,6 +83,10 @@ fn step_formed(t: &mut Table, e: Event) -> Reply
         let next = next_of(table_numbers::epoch_in(t));
         return quiet(epoch_lent::change_in(t, next));
     }
+    let _hosts: &[Host] = &t.hosts;
+    let _chunks: &[Chunk] = &t.chunks;
+    let _records: &[Record] = &t.records;
+    let _places: &[Place] = &t.places;
     event_lent::act_in(t, e)
 }
 
