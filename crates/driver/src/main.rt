@@ -32,11 +32,14 @@ struct Next {
     unread: Unread,
 }
 
-// "reads standard input": the next block, of 0 bytes at the end of the input. Where it cannot be read, any bytes may be left in it.
-fn read_block(input: &mut impl Read, block: &mut [u8]) -> io::Result<usize>
-    ensures { IfOk result (λ n. n ≤ length block.new) }
+// "reads standard input": the next block, of 0 bytes at the end of the input or where it cannot be read.
+fn read_block(input: &mut impl Read, block: &mut [u8]) -> usize
+    ensures { result ≤ length block.new }
 {
-    input.read(block)
+    match input.read(block) {
+        Ok(end) => end,
+        Err(_) => 0,
+    }
 }
 
 // At the end of the input: the last line may lack its newline.
@@ -51,10 +54,10 @@ fn last_line(text: Text) -> Next
 }
 
 // A line may go over several blocks. Nothing says that the input ends, and a proved loop does: it counts its turns down, from a
-// number that no run uses up. Where the input cannot be read, there is no line, also where one has begun.
-fn next_line(input: &mut impl Read, block: &mut [u8], unread: Unread) -> io::Result<Next>
+// number that no run uses up.
+fn next_line(input: &mut impl Read, block: &mut [u8], unread: Unread) -> Next
     requires { unread.end ≤ length block.old }
-    ensures { IfOk result (λ next. next.unread.end ≤ length block.new) }
+    ensures { result.unread.end ≤ length block.new }
 {
     let mut text = text_lines::no_text();
     let mut at = unread.at;
@@ -64,24 +67,24 @@ fn next_line(input: &mut impl Read, block: &mut [u8], unread: Unread) -> io::Res
         let c = text_lines::cut_line(&block[..end], at, text);
         let t = c.text;
         if c.whole {
-            return Ok(Next {
+            return Next {
                 found: true,
                 text: t,
                 unread: Unread {
                     at: c.next,
                     end: end,
                 },
-            });
+            };
         }
         text = t;
         at = 0;
-        end = read_block(input, block)?;
+        end = read_block(input, block);
         if end == 0 {
-            return Ok(last_line(text));
+            return last_line(text);
         }
         turns = turns - 1;
     }
-    Ok(last_line(text))
+    last_line(text)
 }
 
 // "A bad event line .. writes `1 0 0 0 0` and is passed over"
@@ -143,7 +146,7 @@ fn answer(
     Ok(put(out, at, text_lines::answer_text(code, o)))
 }
 
-// "an event a line": each is answered, in its order. Where the input cannot be read any further, the events before that are answered.
+// "an event a line": each is answered, in its order.
 fn run(
     input: &mut impl Read,
     output: &mut impl Write,
@@ -159,13 +162,7 @@ fn run(
     let mut used: usize = 0;
     let mut turns = u64::MAX;
     while turns > 0 {
-        let line = match next_line(input, block, u) {
-            Ok(line) => line,
-            Err(e) => {
-                output.write_all(&out[..used])?;
-                return Err(e);
-            }
-        };
+        let line = next_line(input, block, u);
         if !line.found {
             break;
         }
@@ -195,9 +192,9 @@ fn main(rt: HostRuntime) -> io::Result<()> {
     let mut input = rt.stdin();
     let mut output = rt.stdout();
     let mut block = [0; BLOCK];
-    let first = next_line(&mut input, &mut block, Unread { at: 0, end: 0 })?;
+    let first = next_line(&mut input, &mut block, Unread { at: 0, end: 0 });
     let behind = first.unread;
-    let second = next_line(&mut input, &mut block, behind)?;
+    let second = next_line(&mut input, &mut block, behind);
     let l1 = first.text;
     let l2 = second.text;
     let named = text_meanings::creation_of(text_lines::parse_text(l1), text_lines::parse_text(l2));
