@@ -1,7 +1,7 @@
-//! Links the archive that `rt staticlib replay` writes, and in `copies` the functions that count.
+//! Links the archive that `rt lib replay` writes, and in `copies` the functions that count.
 
 fn main() {
-    let folder = format!("{}/../target/staticlib", env!("CARGO_MANIFEST_DIR"));
+    let folder = format!("{}/../crates/replay/out", env!("CARGO_MANIFEST_DIR"));
     println!("cargo:rustc-link-search=native={folder}");
     println!("cargo:rustc-link-lib=static=replay");
     println!("cargo:rerun-if-changed={folder}/libreplay.a");

@@ -32,7 +32,7 @@ struct Next {
     unread: Unread,
 }
 
-// "reads standard input": the next block, of 0 bytes at the end of the input.
+// "reads standard input": the next block, of 0 bytes at the end of the input. Where it cannot be read, any bytes may be left in it.
 fn read_block(input: &mut impl Read, block: &mut [u8]) -> io::Result<usize>
     ensures { IfOk result (λ end. end ≤ length block.new) }
 {
@@ -51,7 +51,7 @@ fn last_line(text: Text) -> Next
 }
 
 // A line may go over several blocks. Nothing says that the input ends, and a proved loop does: it counts its turns down, from a
-// number that no run uses up.
+// number that no run uses up. Where the input cannot be read, there is no line, also where one has begun.
 fn next_line(input: &mut impl Read, block: &mut [u8], unread: Unread) -> io::Result<Next>
     requires { unread.end ≤ length block.old }
     ensures { IfOk result (λ next. next.unread.end ≤ length block.new) }
@@ -99,7 +99,7 @@ fn answer_to(t: Table, asked: Asked) -> Answer
     }
 }
 
-// Room for one line more in the output that is gathered: where it lacks, what is there is written.
+// Room for one line more in the output that is gathered: where it lacks, what is there is written. An error leaves it gathered.
 fn room(output: &mut impl Write, out: &[u8], used: usize) -> io::Result<usize>
     requires { (used ≤ length out.now) × (text_limit ≤ length out.now) }
     ensures { IfOk result (λ at. at + text_limit ≤ length out.now) }
@@ -112,6 +112,7 @@ fn room(output: &mut impl Write, out: &[u8], used: usize) -> io::Result<usize>
 }
 
 // The line goes behind the output that is gathered.
+#[tactic(auto, using(std::proofs::lemmas::List::Edits::paste_more))]
 fn put(out: &mut [u8], used: usize, t: Text) -> usize
     requires { (used + text_limit ≤ length out.old) × (t.count ≤ text_limit) }
     ensures { (out.new ≡ paste out.old used t.bytes t.count) × (result ≡ used + t.count) }
@@ -125,7 +126,8 @@ fn put(out: &mut [u8], used: usize, t: Text) -> usize
     used + n
 }
 
-// "It writes a line an event". How much output is gathered then.
+// "It writes a line an event". How much output is gathered then. An error leaves what was gathered before, and no line of this event.
+#[tactic(auto, using(text_lines::proofs::Texts::text_fits))]
 fn answer(
     output: &mut impl Write,
     out: &mut [u8],
@@ -141,7 +143,7 @@ fn answer(
     Ok(put(out, at, text_lines::answer_text(code, o)))
 }
 
-// "an event a line": each is answered, in its order. Where the input can't be read any further, what is gathered is written first.
+// "an event a line": each is answered, in its order. Where the input cannot be read any further, the events before that are answered.
 fn run(
     input: &mut impl Read,
     output: &mut impl Write,
@@ -181,6 +183,7 @@ fn run(
 }
 
 // "bad first lines, or a refused creation, write that once and end"
+#[tactic(auto, using(text_lines::proofs::Texts::text_fits))]
 fn refuse(output: &mut impl Write) -> io::Result<()> {
     let t = text_lines::answer_text(1, Outcome::None);
     let bytes = t.bytes;

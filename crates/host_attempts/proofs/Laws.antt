@@ -99,9 +99,9 @@ module _ (number clock copy : ℕ) (holders : Set) (h : Host) (free : ℕ) where
         pub start_undrawn : (d.code ≡ 0 → ⊥) → refused d.code h ≡ starts number clock copy holders h free
         start_undrawn k = rw d_is (start_refused drew.code (rw d_is at k) (past-copy drew.code (refused-here _ _ _ (rw (ne_eqb drew.code 0 (rw d_is at k)) refl))))
 
-        module _ (granted_clock : d.code ≡ 0) (to : Set) (to_is : to ≡ opening_to o.action copy holders) (full : Bool) (Full_is : full ≡ ltb free (how_many to)) where
+        module _ (granted_clock : d.code ≡ 0) (to : Set) (to_is : to ≡ opening_to o.action copy holders) (full : Bool) (full_is : full ≡ ltb free (how_many to)) where
           full-here : full ≡ crowded
-          full-here = rw (Full_is, to_is, o_is) refl
+          full-here = rw (full_is, to_is, o_is) refl
 
           past_draw : (n : ℕ) → n ≡ code_of (drop 3 due) → n ≡ code_of due
           past_draw n e = past-copy n (refused-later _ _ _ n (rw (rw d_is at granted_clock) refl) e)

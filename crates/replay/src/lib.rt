@@ -16,6 +16,7 @@ const TOP: u64 = 72057594037927936;
 const TABLE_BYTES: u64 = 51688;
 
 // One number more in the checksum: a few machine instructions, and no sum overflows.
+#[tactic(auto, unfolding(crate::specs::Replay::mixed))]
 fn mix(sum: u64, x: u64) -> u64
     ensures { result ≡ mixed sum x }
 {
@@ -29,6 +30,7 @@ fn mix_numbers(sum: u64, code: u64, kind: u64, host: u64, block: u64, value: u64
 }
 
 // "code, outcome, host, block, value"
+#[tactic(auto, unfolding(crate::specs::Replay::mixed_with))]
 fn mix_answer(sum: u64, code: u64, o: Outcome) -> u64
     ensures { result ≡ mixed_with sum code o }
 {
@@ -68,6 +70,7 @@ fn event_at(events: &[u64], i: usize) -> Event
 }
 
 // The events one after another, each on the table that the one before it left.
+#[tactic(auto, using(crate::proofs::Laws::four_fit, crate::proofs::Laws::table_more, crate::proofs::Laws::sum_more), unfolding(crate::specs::Replay::table_after, crate::specs::Replay::sum_after))]
 fn run(table: Table, events: &[u64]) -> u64
     ensures { result ≡ sum_after table events.now (length events.now / 4) }
 {
@@ -87,6 +90,7 @@ fn run(table: Table, events: &[u64]) -> u64
 }
 
 // As `run`, on a table that stays where it lies and is lent for each event.
+#[tactic(auto, using(crate::proofs::Laws::four_fit, crate::proofs::Laws::table_more, crate::proofs::Laws::sum_more), unfolding(crate::specs::Replay::table_after, crate::specs::Replay::sum_after))]
 fn run_in(table: Table, events: &[u64]) -> u64
     ensures { result ≡ sum_after table events.now (length events.now / 4) }
 {
@@ -104,6 +108,7 @@ fn run_in(table: Table, events: &[u64]) -> u64
 }
 
 // The store that a session's first two lines name; a table of zeros where they name none.
+#[tactic(auto, unfolding(crate::specs::Replay::store_of))]
 fn store_of(first: &[u8], second: &[u8]) -> Table
     ensures { result ≡ store_of first.now second.now }
 {
@@ -114,6 +119,7 @@ fn store_of(first: &[u8], second: &[u8]) -> Table
 }
 
 // The events on the store that a session's first two lines name.
+#[tactic(auto, unfolding(crate::specs::Replay::replayed))]
 #[unsafe(no_mangle)]
 pub extern "C" fn kerzubian_replay(first: &[u8], second: &[u8], events: &[u64]) -> u64
     ensures { result ≡ replayed first.now second.now events.now }
@@ -122,6 +128,7 @@ pub extern "C" fn kerzubian_replay(first: &[u8], second: &[u8], events: &[u64]) 
 }
 
 // The same, each event where the table lies.
+#[tactic(auto, unfolding(crate::specs::Replay::replayed))]
 #[unsafe(no_mangle)]
 pub extern "C" fn kerzubian_replay_in(first: &[u8], second: &[u8], events: &[u64]) -> u64
     ensures { result ≡ replayed first.now second.now events.now }
