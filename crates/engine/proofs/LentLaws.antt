@@ -1,4 +1,4 @@
--- What the walks of engine cite: what each way of an event answers and leaves is the rules' step
+-- What the proofs of engine cite: what each way of an event answers and leaves is the rules' step
 use Prim.Native.Nat.{ℕ, zero, suc, ◌<◌}
 use mathlib.Core.Path.{◌≡◌, refl, sym, ap, ◌∙◌}
 use mathlib.Core.Bool.{Bool, true, false, cond, not}

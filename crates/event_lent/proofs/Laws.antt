@@ -1,4 +1,4 @@
--- What the walks of event_lent cite: what was gathered, stored and answered, call after call, is the definitions'
+-- What the proofs of event_lent cite: what was gathered, stored and answered, call after call, is the definitions'
 use Prim.Native.Nat.{ℕ, ◌<◌, ◌+◌}
 use mathlib.Core.Path.{◌≡◌, refl, sym, ap, ◌∙◌}
 use mathlib.Core.Bool.{Bool, true, false, cond, not}
