@@ -1,4 +1,4 @@
-//! Links the archive that `rt lib replay` writes, and in `copies` the functions that count.
+//! Links the archive that `rt lib` writes in crates/replay, and in `copies` the functions that count.
 
 fn main() {
     let folder = format!("{}/../crates/replay/out", env!("CARGO_MANIFEST_DIR"));

@@ -76,7 +76,7 @@ pub fn second_program(session: &Session, numbers: &[u64]) -> u64 {
     })
 }
 
-/// As `mixedWith` of crates/replay.
+/// As `mixed_with` of crates/replay.
 fn mix_answer(sum: u64, answer: Answer) -> u64 {
     let Answer {
         code,
