@@ -6,7 +6,7 @@ ghost use Rattle.rules.specs.Chunks.{answering, refusing, silent, is_out_of_orde
 ghost use Rattle.rules.specs.Messages.{header_of, sort_of};
 
 use rules::{
-    Arrived, Chunk, Entry, Epoch, Header, Kind, Message, Record, Refusal, Slot, Sort, Timestamp,
+    Arrived, Chunk, Entry, Epoch, Header, Kind, Message, Record, Refusal, Message, Sort, Timestamp,
 };
 
 // The chunk and its record, with a reply.
@@ -17,7 +17,7 @@ fn answering(c: Chunk, r: Record, header: Header, sort: Sort) -> Arrived
     Arrived {
         chunk: c,
         held: r,
-        reply: Slot::Full(m),
+        reply: Some(m),
     }
 }
 
@@ -35,7 +35,7 @@ fn silent(c: Chunk, r: Record) -> Arrived
     Arrived {
         chunk: c,
         held: r,
-        reply: Slot::Empty,
+        reply: None,
     }
 }
 

@@ -11,7 +11,7 @@ ghost use Rattle.rules.specs.Chunks.{with_value, with_write, silent, run_refusal
 
 use chunk_alone::Changed;
 use rules::{
-    Arrived, Chunk, Entry, Header, Kind, Record, Refusal, Slot, Sort, State, Timestamp, Waiting,
+    Arrived, Chunk, Entry, Header, Kind, Record, Refusal, Message, Sort, State, Timestamp, Waiting,
 };
 
 // What a run leaves: 0, the chunk and its record after it and the reply, if any; or a refusal's code, both as they were, no reply.
@@ -86,7 +86,7 @@ fn run_read(chunk: u64, block: u64, c: Chunk, r: Record, e: Entry) -> Arrived
         return Arrived {
             chunk: c,
             held: r,
-            reply: Slot::Full(refusal),
+            reply: Some(refusal),
         };
     }
     let read = later(r.read, t);
@@ -96,7 +96,7 @@ fn run_read(chunk: u64, block: u64, c: Chunk, r: Record, e: Entry) -> Arrived
     Arrived {
         chunk: c,
         held: out,
-        reply: Slot::Full(answer),
+        reply: Some(answer),
     }
 }
 
@@ -107,7 +107,7 @@ fn silent(c: Chunk, r: Record) -> Arrived
     Arrived {
         chunk: c,
         held: r,
-        reply: Slot::Empty,
+        reply: None,
     }
 }
 

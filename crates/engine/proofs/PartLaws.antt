@@ -1,4 +1,5 @@
 -- An event on the parts that it touches: where they stand, and what is stored back, are the rule's
+use Rattle.std.specs.Prelude.{None, Option, Some}
 use Prim.Native.Nat.{ℕ, zero, suc, ◌<◌}
 use mathlib.Core.Path.{◌≡◌, refl, sym, ap, ◌∙◌, subst}
 use mathlib.Core.Bool.{Bool, true, false, cond, false≢true}
@@ -13,7 +14,6 @@ use Rattle.rules.specs.declared.Chunk.{Chunk}
 use Rattle.rules.specs.declared.Host.{Host}
 use Rattle.rules.specs.declared.Header.{Header}
 use Rattle.rules.specs.declared.Message.{Message}
-use Rattle.rules.specs.declared.Slot.{Slot}
 use Rattle.rules.specs.declared.Place.{Place}
 use Rattle.rules.specs.declared.Table.{Table}
 use Rattle.rules.specs.declared.Arrived.{Arrived}
@@ -65,7 +65,7 @@ module _ (t : Table) (left : List Place) (h c b : ℕ) where
   host-heard : (new : Host)
       → with_places (with_record (with_chunk (with_host t h new) c (chunk_of t c)) c b (record_of t c b)) (sent_all left no_messages) ≡ with_host (with_places t left) h new
   unfolding replied
-  host-heard new = host_alone new no_messages ∙ ap (with_places (with_host t h new)) (sent-reply left Slot.Empty)
+  host-heard new = host_alone new no_messages ∙ ap (with_places (with_host t h new)) (sent-reply left None)
 
   nobody_heard : with_places (with_record (with_chunk (with_host t h (host_of t h)) c (chunk_of t c)) c b (record_of t c b)) (sent_all left no_messages) ≡ with_places t left
   nobody_heard = host-heard (host_of t h) ∙ rw (set-get_or t.hosts h no_host) refl
@@ -74,7 +74,7 @@ module _ (t : Table) (left : List Place) (h c b : ℕ) where
       → with_places (with_record (with_chunk (with_host t h (host_of t h)) c new) c b (record_of t c b)) (sent_all left no_messages) ≡ with_chunk (with_places t left) c new
   unfolding replied
   chunk_alone new =
-      rw (set-get_or t.hosts h no_host, set-get_or t.records (at c b) no_record) (ap (with_places (with_chunk t c new)) (sent-reply left Slot.Empty))
+      rw (set-get_or t.hosts h no_host, set-get_or t.records (at c b) no_record) (ap (with_places (with_chunk t c new)) (sent-reply left None))
 
   chunk-left : (x : Arrived)
       → with_places (with_record (with_chunk (with_host t h (host_of t h)) c x.chunk) c b x.held) (sent_all left (only_reply x.reply))
@@ -157,12 +157,12 @@ module _ (t : Table) (sized : length t.places ≡ place_limit) where
   -- ---- the network
 
   -- what a message leaves of whom it names, stored back, is what the rule makes of the table
-  taken_is : (left : List Place) (s : Slot) → let to = address_of s in
+  taken_is : (left : List Place) (s : Option Message) → let to = address_of s in
       let d = delivered k.blocks (host_of t to.host) (chunk_of t to.chunk) (record_of t to.chunk to.block) s in
       with_places (with_record (with_chunk (with_host t to.host d.host) to.chunk d.chunk) to.chunk to.block d.held) (sent_all left (only_reply d.reply))
       ≡ takes (with_places t left) s
-  taken_is left Slot.Empty = nobody_heard t left 0 0 0
-  taken_is left (Slot.Full m) = go (is_for_chunk (sort_of m))
+  taken_is left None = nobody_heard t left 0 0 0
+  taken_is left (Some m) = go (is_for_chunk (sort_of m))
     where
       go : (f : Bool) → let to = header_of m in
           let d = cond f (to_chunk (host_of t to.host) (arrives k.blocks (chunk_of t to.chunk) (record_of t to.chunk to.block) m))
@@ -230,9 +230,9 @@ module _ (t : Table) (e : Event) (ok : well_formed t ≡ true) (inside : ranges 
   names : Names (address_of (slot_here t e))
   names = go (slot_here t e) ((formed t ok).places (place_at e) place-below)
     where
-      go : (s : Slot) → slot_formed creation s ≡ true → Names (address_of s)
-      go Slot.Empty f = (host_0, omega arith, omega arith)
-      go (Slot.Full m) f =
+      go : (s : Option Message) → slot_formed creation s ≡ true → Names (address_of s)
+      go None f = (host_0, omega arith, omega arith)
+      go (Some m) f =
           let to = header_of m in
           let x = (message_facts creation m f).header in
           (x.host, chunk-place creation to.chunk x.chunk (formed t ok).creation, ltb-true to.block block_limit x.block)

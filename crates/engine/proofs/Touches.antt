@@ -1,8 +1,9 @@
 -- An event that touches one host, one chunk, one record and the network, on a well-formed table: where they stand in the rules' words,
 -- and the table after it
+use Rattle.std.specs.Prelude.{Option}
 use Prim.Native.Nat.{ℕ}
 use mathlib.Core.List.{List}
-use Rattle.rules.specs.declared.Slot.{Slot}
+use Rattle.rules.specs.declared.Message.{Message}
 use Rattle.rules.specs.declared.Place.{Place}
 use Rattle.rules.specs.declared.Table.{Table}
 use Rattle.rules.specs.declared.Event.{Event}
@@ -15,7 +16,7 @@ use Rattle.event_parts.specs.declared.Acted.{Acted}
 use Rattle.event_lent.specs.Touches.{removed_at}
 
 -- whom it is about
-abbrev pub slot_here : Table → Event → Slot
+abbrev pub slot_here : Table → Event → Option Message
 slot_here t e = slot_of t.places (place_at e)
 
 abbrev pub host_here : Table → Event → ℕ

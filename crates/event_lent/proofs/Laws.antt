@@ -1,4 +1,5 @@
 -- What the proofs of event_lent cite: what was gathered, stored and answered, call after call, is the definitions'
+use Rattle.std.specs.Prelude.{Option}
 use Prim.Native.Nat.{ℕ, ◌<◌, ◌+◌}
 use mathlib.Core.Path.{◌≡◌, refl, sym, ap, ◌∙◌}
 use mathlib.Core.Bool.{Bool, true, false, cond, not}
@@ -6,12 +7,12 @@ use mathlib.Core.List.{List, [], ◌∷◌}
 use native.Mathlib.Omega.{arith}
 use lib.Dec.{eqb, T}
 use lib.ListN.{get_or, set, length, drop}
+use Rattle.rules.specs.declared.Message.{Message}
 use Rattle.rules.specs.declared.Epoch.{Epoch}
 use Rattle.rules.specs.declared.Creation.{Creation}
 use Rattle.rules.specs.declared.Record.{Record}
 use Rattle.rules.specs.declared.Chunk.{Chunk}
 use Rattle.rules.specs.declared.Host.{Host}
-use Rattle.rules.specs.declared.Slot.{Slot}
 use Rattle.rules.specs.declared.Place.{Place}
 use Rattle.rules.specs.declared.Table.{Table}
 use Rattle.rules.specs.declared.Event.{Event}
@@ -32,7 +33,7 @@ use Rattle.event_lent.specs.Touches.{here_by, here_in, parts_by, parts_in, keepi
 
 -- ---- what is gathered
 
-pub here_is : (t : Table) (e : Event) (p : ℕ) → p ≡ place_at e → (place : Place) → place ≡ get_or t.places p zero_place → (s : Slot) → s ≡ place.slot
+pub here_is : (t : Table) (e : Event) (p : ℕ) → p ≡ place_at e → (place : Place) → place ≡ get_or t.places p zero_place → (s : Option Message) → s ≡ place.slot
     → (i : ℕ) → i ≡ host_at e s → (host : Host) → host ≡ get_or t.hosts i zero_host → here_by e s i host ≡ here_in t e
 unfolding here_in
 here_is t e p p_is place place_is s s_is i i_is host host_is = rw (host_is, i_is, s_is, place_is, p_is) refl

@@ -1,13 +1,13 @@
 -- One event that touches one host, one chunk, one record and the network, on any table: where they stand, what it leaves of them,
 -- and its answer. Beyond an array's end there is zero, and nothing is stored
-use Rattle.std.specs.Prelude.{ℕ, ◌||◌, eqb, ltb, get_or, set, if◌then◌else◌}
+use Rattle.std.specs.Prelude.{ℕ, ◌||◌, eqb, ltb, get_or, set, if◌then◌else◌, Option}
+use Rattle.rules.specs.declared.Message.{Message}
 use Rattle.rules.specs.declared.Epoch.{Epoch}
 use Rattle.rules.specs.declared.Set.{Set}
 use Rattle.rules.specs.declared.Creation.{Creation}
 use Rattle.rules.specs.declared.Record.{Record}
 use Rattle.rules.specs.declared.Chunk.{Chunk}
 use Rattle.rules.specs.declared.Host.{Host}
-use Rattle.rules.specs.declared.Slot.{Slot}
 use Rattle.rules.specs.declared.Table.{Table}
 use Rattle.rules.specs.declared.Event.{Event}
 use Rattle.rules.specs.declared.Outcome.{Outcome}
@@ -35,7 +35,7 @@ set_in k b = if ltb b block_limit then set_of k b else zero_set
 abbrev pub removed_at : Event → ℕ
 removed_at e = if eqb e.kind 4 || eqb e.kind 5 then e.a else place_limit
 
-abbrev pub here_by : Event → Slot → (host : ℕ) → Host → Here
+abbrev pub here_by : Event → Option Message → (host : ℕ) → Host → Here
 here_by e s i h = record {
   slot = s;
   host = i;

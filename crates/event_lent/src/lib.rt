@@ -13,12 +13,12 @@ ghost use Rattle.network_places.specs.Sending.{sent_all};
 ghost use Rattle.event_lent.specs.Touches.{set_in, removed_at, here_by, here_in, parts_by, parts_in, keeping, refusal_of, grant_of, acted_on};
 
 use event_parts::{Acted, Parts};
-use rules::{Chunk, Creation, Epoch, Event, Host, Outcome, Place, Record, Reply, Set, Slot, Table};
+use rules::{Chunk, Creation, Epoch, Event, Host, Message, Outcome, Place, Record, Reply, Set, Table};
 
 // Whom an event is about: its place's slot, and the numbers of the host, the chunk, the block, the record and the place that is emptied.
 #[derive(Clone, Copy)]
 pub struct Here {
-    pub slot: Slot,
+    pub slot: Option<Message>,
     pub host: u64,
     pub chunk: u64,
     pub block: u64,
@@ -28,7 +28,7 @@ pub struct Here {
 
 // ---- where the parts stand
 
-fn slot_of(p: Place) -> Slot
+fn slot_of(p: Place) -> Option<Message>
     ensures { result ≡ p.slot }
 {
     p.slot
@@ -56,7 +56,7 @@ fn removed_at(e: Event) -> u64
 }
 
 // An event that names no block is about the block of the host's front operation.
-fn here_by(e: Event, s: Slot, host: u64, h: Host) -> Here
+fn here_by(e: Event, s: Option<Message>, host: u64, h: Host) -> Here
     ensures { result ≡ here_by e s host h }
 {
     let c = event_operands::chunk_at(e, s);
@@ -165,7 +165,7 @@ fn held_left(a: Acted) -> Record
 }
 
 // New message k: there is one a chunk.
-fn message(a: Acted, k: u64) -> Slot
+fn message(a: Acted, k: u64) -> Option<Message>
     ensures { (result ≡ (get_or a.messages k zero_place).slot) × (length a.messages ≡ chunk_limit) }
 {
     let i = k as usize;
@@ -174,7 +174,7 @@ fn message(a: Acted, k: u64) -> Slot
         let p = m[i];
         return p.slot;
     }
-    Slot::Empty
+    None
 }
 
 // The parts, and the network without the message that is delivered or dropped.

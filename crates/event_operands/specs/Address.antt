@@ -1,8 +1,8 @@
 -- Which place, host, chunk and block an event is about
-use Rattle.std.specs.Prelude.{ℕ, Bool, ◌||◌, eqb, if◌then◌else◌}
+use Rattle.std.specs.Prelude.{ℕ, Bool, ◌||◌, eqb, if◌then◌else◌, None, Option, Some}
+use Rattle.rules.specs.declared.Message.{Message}
 use Rattle.rules.specs.declared.Host.{Host}
 use Rattle.rules.specs.declared.Header.{Header}
-use Rattle.rules.specs.declared.Slot.{Slot}
 use Rattle.rules.specs.declared.Event.{Event}
 use Rattle.rules.specs.declared.Operand.{Operand}
 use Rattle.rules.specs.declared.Operands.{Operands}
@@ -48,21 +48,21 @@ the sort e =
 -- ---- whom an event is about: an event of a place is about whom its message names
 
 -- an empty place (it is refused) names nobody, that is zeros
-abbrev pub address_of : Slot → Header
-address_of Slot.Empty = headed 0 0 0 never
-address_of (Slot.Full m) = header_of m
+abbrev pub address_of : Option Message → Header
+address_of None = headed 0 0 0 never
+address_of (Some m) = header_of m
 
 abbrev pub place_at : Event → ℕ
 place_at e = the Operand.Place e
 
-abbrev pub host_at : Event → Slot → ℕ
+abbrev pub host_at : Event → Option Message → ℕ
 host_at e s = if has_a e Operand.Place then (address_of s).host else the Operand.Host e
 
-abbrev pub chunk_at : Event → Slot → ℕ
+abbrev pub chunk_at : Event → Option Message → ℕ
 chunk_at e s = if has_a e Operand.Place then (address_of s).chunk else the Operand.Chunk e
 
 -- an event that names no block is about the block of the host's front operation
-abbrev pub block_at : Event → Slot → Host → ℕ
+abbrev pub block_at : Event → Option Message → Host → ℕ
 block_at e s h =
     if has_a e Operand.Place then (address_of s).block else
     if has_a e Operand.Block then the Operand.Block e else

@@ -6,7 +6,7 @@ ghost use Rattle.rules.specs.Events.{kind_of, ranges};
 ghost use Rattle.rules.specs.Operands.{in_range, is_own, own_of};
 ghost use Rattle.event_operands.specs.Address.{sort_number, ◌is_a◌, has_a, the, address_of, place_at, host_at, chunk_at, block_at};
 
-use rules::{Creation, Event, Header, Host, Operand, Operands, Slot, Timestamp};
+use rules::{Creation, Event, Header, Host, Message, Operand, Operands, Timestamp};
 
 // What the operands of a kind are; no number is in the range of an unknown one's.
 #[tactic(auto, unfolding(rules::specs::Events::kind_of, rules::specs::Words::place))]
@@ -151,17 +151,17 @@ fn the(sort: Operand, e: Event) -> u64
 // ---- whom an event is about: an event of a place is about whom its message names
 
 // An empty place names nobody, that is zeros.
-fn address(s: Slot) -> Header
+fn address(s: Option<Message>) -> Header
     ensures { result ≡ address_of s }
 {
     match s {
-        Slot::Empty => Header {
+        None => Header {
             host: 0,
             chunk: 0,
             block: 0,
             timestamp: Timestamp(0),
         },
-        Slot::Full(m) => network_messages::header_of(m),
+        Some(m) => network_messages::header_of(m),
     }
 }
 
@@ -171,7 +171,7 @@ pub fn place_at(e: Event) -> u64
     the(Operand::Place, e)
 }
 
-pub fn host_at(e: Event, s: Slot) -> u64
+pub fn host_at(e: Event, s: Option<Message>) -> u64
     ensures { result ≡ host_at e s }
 {
     if has_a(e, Operand::Place) {
@@ -181,7 +181,7 @@ pub fn host_at(e: Event, s: Slot) -> u64
     the(Operand::Host, e)
 }
 
-pub fn chunk_at(e: Event, s: Slot) -> u64
+pub fn chunk_at(e: Event, s: Option<Message>) -> u64
     ensures { result ≡ chunk_at e s }
 {
     if has_a(e, Operand::Place) {
@@ -192,7 +192,7 @@ pub fn chunk_at(e: Event, s: Slot) -> u64
 }
 
 // An event that names no block is about the block of the host's front operation.
-pub fn block_at(e: Event, s: Slot, h: Host) -> u64
+pub fn block_at(e: Event, s: Option<Message>, h: Host) -> u64
     ensures { result ≡ block_at e s h }
 {
     if has_a(e, Operand::Place) {

@@ -1,11 +1,11 @@
 -- One event on the parts of the table that it touches. What it leaves to who holds the table: to store the parts, to remove the
 -- message of a place that is delivered or dropped, and to put the new messages into the network
-use Rattle.std.specs.Prelude.{ℕ, List, [], if◌then◌else◌}
+use Rattle.std.specs.Prelude.{ℕ, List, [], if◌then◌else◌, None, Option, Some}
+use Rattle.rules.specs.declared.Message.{Message}
 use Rattle.rules.specs.declared.Record.{Record}
 use Rattle.rules.specs.declared.Chunk.{Chunk}
 use Rattle.rules.specs.declared.Action.{Action}
 use Rattle.rules.specs.declared.Host.{Host}
-use Rattle.rules.specs.declared.Slot.{Slot}
 use Rattle.rules.specs.declared.Arrived.{Arrived}
 use Rattle.rules.specs.declared.Event.{Event}
 use Rattle.rules.specs.declared.Outcome.{Outcome}
@@ -51,12 +51,12 @@ abbrev pub to_chunk : Host → Arrived → Delivered
 to_chunk h a = record { host = h; chunk = a.chunk; held = a.held; reply = a.reply }
 
 abbrev pub to_host : Host → Chunk → Record → Delivered
-to_host h c r = record { host = h; chunk = c; held = r; reply = Slot.Empty }
+to_host h c r = record { host = h; chunk = c; held = r; reply = None }
 
 -- a request is the chunk's, a reply the host's; an empty place has nothing for anybody
-abbrev pub delivered : (blocks : ℕ) → Host → Chunk → Record → Slot → Delivered
-delivered blocks h c r Slot.Empty = to_host h c r
-delivered blocks h c r (Slot.Full m) = if is_for_chunk (sort_of m) then to_chunk h (arrives blocks c r m) else to_host (hears h m) c r
+abbrev pub delivered : (blocks : ℕ) → Host → Chunk → Record → Option Message → Delivered
+delivered blocks h c r None = to_host h c r
+delivered blocks h c r (Some m) = if is_for_chunk (sort_of m) then to_chunk h (arrives blocks c r m) else to_host (hears h m) c r
 
 -- ---- the events, by their numbers
 

@@ -8,16 +8,14 @@ ghost use Rattle.event_parts.specs.Acts.{unchanged, by_host, by_messages, by_chu
 use chunk_alone::Changed;
 use host_alone::Moved;
 use host_attempts::Sent;
-use rules::{
-    Action, Arrived, Chunk, Creation, Epoch, Event, Host, Outcome, Place, Record, Set, Slot,
-};
+use rules::{Action, Arrived, Chunk, Creation, Epoch, Event, Host, Message, Outcome, Place, Record, Set};
 
 // What an event looks at: what the store was created with, its epoch, the place's slot, the parts, how many places are free.
 #[derive(Clone, Copy)]
 pub struct Parts {
     pub creation: Creation,
     pub epoch: Epoch,
-    pub slot: Slot,
+    pub slot: Option<Message>,
     pub host: Host,
     pub chunk: Chunk,
     pub set: Set,
@@ -43,7 +41,7 @@ struct Delivered {
     host: Host,
     chunk: Chunk,
     held: Record,
-    reply: Slot,
+    reply: Option<Message>,
 }
 
 // ---- what is left of the parts
@@ -55,7 +53,7 @@ fn unchanged(p: Parts, code: u64) -> Acted
     let host = p.host;
     let chunk = p.chunk;
     let held = p.held;
-    let none = network_places::only(Slot::Empty);
+    let none = network_places::only(None);
     Acted {
         code: code,
         host: host,
@@ -149,17 +147,17 @@ fn to_host(h: Host, c: Chunk, r: Record) -> Delivered
         host: h,
         chunk: c,
         held: r,
-        reply: Slot::Empty,
+        reply: None,
     }
 }
 
 // A request is the chunk's, a reply the host's. An empty place has nothing for anybody.
-fn deliver(blocks: u64, h: Host, c: Chunk, r: Record, s: Slot) -> Delivered
+fn deliver(blocks: u64, h: Host, c: Chunk, r: Record, s: Option<Message>) -> Delivered
     ensures { result ≡ delivered blocks h c r s }
 {
     match s {
-        Slot::Empty => to_host(h, c, r),
-        Slot::Full(m) => {
+        None => to_host(h, c, r),
+        Some(m) => {
             if network_messages::is_for_chunk(m) {
                 to_chunk(h, chunk_arrival::arrive(blocks, c, r, m))
             } else {

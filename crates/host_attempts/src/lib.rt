@@ -11,7 +11,7 @@ ghost use Rattle.rules.specs.Zero.{◌among◌};
 ghost use Rattle.host_attempts.specs.Moves.{refused, starts, finishes};
 
 use host_keeper::{Drawn, Keeper};
-use rules::{Action, Attempt, Host, Operation, Outcome, Place, Set, Slot};
+use rules::{Action, Attempt, Host, Operation, Outcome, Place, Set, Message};
 
 // What a start or a finish makes of its host, its new messages, and the outcome; a refusal has no messages.
 #[derive(Clone, Copy)]
@@ -40,7 +40,7 @@ fn lacks_room(free: u64, to: Set) -> bool
 fn refuse(code: u64, h: Host) -> Sent
     ensures { result ≡ refused code h }
 {
-    let none = network_places::only(Slot::Empty);
+    let none = network_places::only(None);
     Sent {
         code: code,
         host: h,

@@ -1,11 +1,11 @@
 -- What an event's new messages make of the network
+use Rattle.std.specs.Prelude.{None, Option, Some}
 use Prim.Native.Nat.{ℕ}
 use mathlib.Core.Path.{◌≡◌, refl, sym, ◌∙◌}
 use mathlib.Core.Bool.{Bool, true, false, cond}
 use mathlib.Core.List.{List}
 use Rattle.rules.specs.declared.Set.{Set}
 use Rattle.rules.specs.declared.Message.{Message}
-use Rattle.rules.specs.declared.Slot.{Slot}
 use Rattle.rules.specs.declared.Place.{Place}
 use Rattle.rules.specs.Limits.{chunk_limit}
 use Rattle.rules.specs.Network.{sent, chunks_of, sent_to_each, replied}
@@ -23,11 +23,11 @@ module _ (places : List Place) where
       ∙ fold_same _ _ (λ n c. turn n (m c) (c among to)) places (numbers chunk_limit)
       ∙ sym (fold-each sent m places (chunks_of to) ∙ fold-those (λ n c. sent n (m c)) (λ c. c among to) places (numbers chunk_limit))
     where
-      turn : (n : List Place) (x : Message) (goes : Bool) → replied n (cond goes (Slot.Full x) Slot.Empty) ≡ cond goes (sent n x) n
+      turn : (n : List Place) (x : Message) (goes : Bool) → replied n (cond goes (Some x) None) ≡ cond goes (sent n x) n
       turn n x true = refl
       turn n x false = refl
 
   -- a reply, if any
-  pub sent-reply : (s : Slot) → sent_all places (only_reply s) ≡ replied places s
+  pub sent-reply : (s : Option Message) → sent_all places (only_reply s) ≡ replied places s
   unfolding fold replied
   sent-reply s = refl

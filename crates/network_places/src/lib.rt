@@ -7,21 +7,21 @@ ghost use Rattle.rules.specs.Kinds.{is_empty_slot};
 ghost use Rattle.rules.specs.Network.{place_refusals};
 ghost use Rattle.network_places.specs.Sending.{only_reply};
 
-use rules::{Place, Slot};
+use rules::{Message, Place};
 
 // A slot holds a message or nothing.
-fn is_empty(s: Slot) -> bool
+fn is_empty(s: Option<Message>) -> bool
     ensures { result ≡ is_empty_slot s }
 {
     match s {
-        Slot::Empty => true,
-        Slot::Full(_) => false,
+        None => true,
+        Some(_) => false,
     }
 }
 
 // "4 deliver (place), 5 drop (place). Empty place: 2".
 #[tactic(auto, unfolding(rules::specs::Codes::code_of))]
-pub fn place_code(s: Slot) -> u64
+pub fn place_code(s: Option<Message>) -> u64
     ensures { result ≡ code_of (place_refusals s) }
 {
     if is_empty(s) {
@@ -31,10 +31,10 @@ pub fn place_code(s: Slot) -> u64
 }
 
 // The new messages of an event that sends a reply at most; with an empty slot, none.
-pub fn only(s: Slot) -> [Place; rules::CHUNKS]
+pub fn only(s: Option<Message>) -> [Place; rules::CHUNKS]
     ensures { result ≡ only_reply s }
 {
-    let none = Place { slot: Slot::Empty };
+    let none = Place { slot: None };
     let mut out = [none; rules::CHUNKS];
     out[0] = Place { slot: s };
     out

@@ -1,10 +1,9 @@
 -- What a host asks of a chunk, for the crate's own functions
-use Rattle.std.specs.Prelude.{ℕ, Bool, if◌then◌else◌}
+use Rattle.std.specs.Prelude.{ℕ, Bool, if◌then◌else◌, None, Some}
 use Rattle.rules.specs.declared.Timestamp.{Timestamp}
 use Rattle.rules.specs.declared.Epoch.{Epoch}
 use Rattle.rules.specs.declared.Message.{Message}
 use Rattle.rules.specs.declared.Request.{Request}
-use Rattle.rules.specs.declared.Slot.{Slot}
 use Rattle.rules.specs.declared.Place.{Place}
 use Rattle.rules.specs.Messages.{headed, asking}
 
@@ -13,4 +12,4 @@ request_to q host block now epoch chunk = asking (headed host chunk block now) e
 
 -- message m, if it goes
 abbrev pub sending : (goes : Bool) → Message → Place
-sending goes m = record { slot = if goes then Slot.Full m else Slot.Empty }
+sending goes m = record { slot = if goes then Some m else None }

@@ -7,7 +7,7 @@ ghost use Rattle.rules.specs.Messages.{headed, asking};
 ghost use Rattle.network_places.specs.Sending.{messages_to};
 ghost use Rattle.network_requests.specs.Steps.{request_to, sending};
 
-use rules::{Action, Epoch, Header, Place, Request, Set, Slot, Sort, Timestamp};
+use rules::{Action, Epoch, Header, Place, Request, Set, Message, Sort, Timestamp};
 
 // "A read sends one read ..; a write sends a prewrite".
 fn opening(action: Action) -> Request
@@ -36,10 +36,10 @@ fn ask(goes: bool, header: Header, epoch: Epoch, request: Request) -> Place
     if goes {
         let m = network_messages::message_of(header, Sort::Request(epoch, request));
         return Place {
-            slot: Slot::Full(m),
+            slot: Some(m),
         };
     }
-    Place { slot: Slot::Empty }
+    Place { slot: None }
 }
 
 // ".. by ascending chunk": each chunk's stands at its number.
@@ -53,7 +53,7 @@ fn ask_each(
 ) -> [Place; rules::CHUNKS]
     ensures { result ≡ messages_to to (request_to request host block now epoch) }
 {
-    let mut out = network_places::only(Slot::Empty);
+    let mut out = network_places::only(None);
     let mut c: usize = 0;
     while c < rules::CHUNKS {
         let header = Header {

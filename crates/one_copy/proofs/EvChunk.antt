@@ -1,4 +1,5 @@
 -- The events of a chunk keep a table good
+use Rattle.std.specs.Prelude.{None, Option, Some}
 use Prim.Native.Nat.{ℕ, ◌≤◌, ◌<◌}
 use mathlib.Core.Path.{◌≡◌, refl, subst⁻¹, ◌∙◌, ap, fun_ext}
 use mathlib.Core.Logic.{◌⊎◌, inl, inr}
@@ -8,7 +9,7 @@ use native.Mathlib.Omega.{arith}
 use lib.ListN.{length, get_or, drop, length-take}
 use lib.Dec.{eqb}
 use borrow.Author.Tests.{ltb-false, not-false}
-use Rattle.one_copy.specs.Types.{Timestamp, Kind, Entry, Waiting, Record, Chunk, Header, Message, Refusal, Sort, Slot, Place, Table, Arrived, Outcome}
+use Rattle.one_copy.specs.Types.{Timestamp, Kind, Entry, Waiting, Record, Chunk, Header, Message, Refusal, Sort, Place, Table, Arrived, Outcome}
 use Rattle.rules.specs.Chunks.{with_waiting, emptied, run_refusals, runs, ran, failed, lease_given, lease_taken, recovered, overdue, give_lease_refusals}
 use Rattle.rules.specs.Codes.{code_of}
 use Rattle.rules.specs.Events.{with_arrived}
@@ -52,16 +53,16 @@ later-up t u h = elim (later-one t u) [ inl z ↦ z.0 | inr z ↦ omega (arith, 
 -- ---- a reply that says nothing of block b
 
 -- nothing, or a message that says nothing of block b
-abbrev pub Plain : (b : ℕ) → Slot → Type 0
-Plain b Slot.Empty = Unit {0}
-Plain b (Slot.Full m) = Foreign b m
+abbrev pub Plain : (b : ℕ) → Option Message → Type 0
+Plain b None = Unit {0}
+Plain b (Some m) = Foreign b m
 
 -- such a reply adds nothing
-pub net_replied : (b : ℕ) (n n₀ : List Place) → ((P : Message → Type 0) → Sent n P → Sent n₀ P) → (reply : Slot) → Plain b reply
+pub net_replied : (b : ℕ) (n n₀ : List Place) → ((P : Message → Type 0) → Sent n P → Sent n₀ P) → (reply : Option Message) → Plain b reply
     → NetLe b (replied n reply) n₀
 unfolding replied
-net_replied b n n₀ sub Slot.Empty p = net_less b n n₀ sub
-net_replied b n n₀ sub (Slot.Full m) p = net_foreign b (sent n m) n₀ ℕ (λ _. m)
+net_replied b n n₀ sub None p = net_less b n n₀ sub
+net_replied b n n₀ sub (Some m) p = net_foreign b (sent n m) n₀ ℕ (λ _. m)
     (λ P z. elim (sent-one P m n z) [ inl q ↦ inl (sub P q) | inr q ↦ inr (0, q) ]) (λ _. p)
 
 -- a list that is not empty has its head
@@ -127,7 +128,7 @@ module _ (b : ℕ) (h : Hist) (t : Table) (f : Formed t) (s : Shape t) (lb : is_
     Ran a = Good b h (with_places (with_record t c d a.held) (replied t.places a.reply))
 
     -- at another block
-    run-far : (d ≡ b → ⊥) → (x : Record) (y : Slot) → Plain b y → Good b h (with_places (with_record t c d x) (replied t.places y))
+    run-far : (d ≡ b → ⊥) → (x : Record) (y : Option Message) → Plain b y → Good b h (with_places (with_record t c d x) (replied t.places y))
     run-far far x y p = good-far b h t s c d x _ place-b place-d far
         (net_only S b h t.epoch.0 (seats_of t) (part_of t b) t.places i _
         (net_replied b t.places t.places (λ P z. z) y p))
@@ -178,7 +179,7 @@ module _ (b : ℕ) (h : Hist) (t : Table) (f : Formed t) (s : Shape t) (lb : is_
         (λ _. good_record b h t s c _ _ place-c place-b (put (with_queue (part_of t b c)) _
         (runs_off S b h t.epoch.0 (seats_of t) (part_of t b) t.places i c (normal b lb free e) (head w) (drop 1 (in_order w))
         (first b lb free e) low _
-        (net_replied b t.places t.places (λ P z. z) (Slot.Full (message_of hd (Sort.Refusal Refusal.OutOfOrder))) (plain b hd Refusal.OutOfOrder))
+        (net_replied b t.places t.places (λ P z. z) (Some (message_of hd (Sort.Refusal Refusal.OutOfOrder))) (plain b hd Refusal.OutOfOrder))
         (λ u x a z. absurd (rw ek at z.1)))))
         (λ o. good_record b h t s c _ _ place-c place-b
         (put (was_read (part_of t b c) (later (record_of t c b).read (head w).timestamp).0) _

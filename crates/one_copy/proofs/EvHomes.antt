@@ -1,4 +1,5 @@
 -- No event but a start mentions a new timestamp of a block
+use Rattle.std.specs.Prelude.{Some}
 use Prim.Native.Nat.{ℕ, ◌<◌}
 use mathlib.Core.Path.{◌≡◌, refl, subst, ◌∙◌, ap, subst⁻¹}
 use mathlib.Core.Logic.{inl, inr}
@@ -8,7 +9,7 @@ use native.Mathlib.Omega.{arith}
 use lib.ListN.{length, get_or, take, drop}
 use lib.Dec.{eqb}
 use borrow.Author.Tests.{ltb-true, leb-false}
-use Rattle.one_copy.specs.Types.{Timestamp, Epoch, Set, Kind, Entry, Waiting, Record, Operation, Queue, Host, Message, Request, Sort, Slot, Place, Table, Arrived}
+use Rattle.one_copy.specs.Types.{Timestamp, Epoch, Set, Kind, Entry, Waiting, Record, Operation, Queue, Host, Message, Request, Sort, Place, Table, Arrived}
 use Rattle.rules.specs.Chunks.{with_waiting, emptied, failed, answering, silent, entry_of, waits, arrived, decides, at_chunk, arrives, runs, ran}
 use Rattle.rules.specs.Codes.{code_of}
 use Rattle.rules.specs.Events.{holders_of, host_takes, takes, with_arrived}
@@ -198,7 +199,7 @@ module _ (t : Table) (f : Formed t) (p : ℕ) (lp : p < place_limit) where
   pub drop-less : Less (with_places t n1) t
   drop-less = less-places t n1 ok1
 
-  module _ (m : Message) (e : slot_of t.places p ≡ Slot.Full m) where
+  module _ (m : Message) (e : slot_of t.places p ≡ Some m) where
     -- the message is formed
     facts : FormedMessage t.creation m
     facts = message_facts t.creation m (rw e at (f.places p lp))
@@ -313,7 +314,7 @@ module _ (t : Table) (f : Formed t) (p : ℕ) (lp : p < place_limit) where
         ∙ s.queues (header_of m).host (host-place t.creation (header_of m).host facts.header.host f.creation)) ok1
 
     -- deliver
-    pub deliver-less : Less (takes (with_places t n1) (Slot.Full m)) t
+    pub deliver-less : Less (takes (with_places t n1) (Some m)) t
     deliver-less = walk (λ (x : Table). Less x t) (is_for_chunk (sort_of m)) _ _
         (λ _. subst⁻¹ (λ (x : Table). Less x t) (left_as (with_places t n1) c d _ (arrives-same (chunk_of t c) t.creation.blocks (record_of t c d) m)) chunk-takes)
         (λ _. host-takes)

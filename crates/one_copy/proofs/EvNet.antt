@@ -1,4 +1,5 @@
 -- Delivery keeps a table good
+use Rattle.std.specs.Prelude.{None, Option, Some}
 use Prim.Native.Nat.{ℕ, ◌<◌}
 use mathlib.Core.Path.{◌≡◌, refl, sym, subst⁻¹, ◌∙◌, ap}
 use mathlib.Core.Logic.{◌⊎◌, inl, inr}
@@ -8,7 +9,7 @@ use native.Mathlib.Omega.{arith}
 use lib.ListN.{get_or, take}
 use lib.Seq.{get_or-set_other}
 use borrow.Author.Tests.{ltb-true, ltb-false, eqb-true}
-use Rattle.one_copy.specs.Types.{Timestamp, Epoch, Kind, Entry, Queue, Host, Header, Message, Request, Refusal, Sort, Slot, Place, Table, Arrived, Outcome}
+use Rattle.one_copy.specs.Types.{Timestamp, Epoch, Kind, Entry, Queue, Host, Header, Message, Request, Refusal, Sort, Place, Table, Arrived, Outcome}
 use Rattle.rules.specs.Chunks.{with_waiting, silent, is_out_of_order, entry_of, waits, arrived, decides, at_chunk, arrives}
 use Rattle.rules.specs.Events.{host_takes, takes}
 use Rattle.rules.specs.Hosts.{front, counts, answered_by, heard, at_host, hears}
@@ -68,7 +69,7 @@ module _ (b : ℕ) (h : Hist) (t : Table) (f : Formed t) (s : Shape t) (lb : is_
 
   -- ---- at a chunk
 
-  module _ (m : Message) (e : slot_of t.places p ≡ Slot.Full m) where
+  module _ (m : Message) (e : slot_of t.places p ≡ Some m) where
     -- the message is formed
     facts : FormedMessage t.creation m
     facts = message_facts t.creation m (rw e at (f.places p lp))
@@ -99,7 +100,7 @@ module _ (b : ℕ) (h : Hist) (t : Table) (f : Formed t) (s : Shape t) (lb : is_
         (net_only S b h t.epoch.0 (seats_of t) (part_of t b) t.places i _ (net_replied b n1 t.places taken a.reply q))
 
     -- the record as it was
-    as_was : (reply : Slot) → Plain b reply → Took (record { chunk = chunk_of t c; held = record_of t c hd.block; reply = reply })
+    as_was : (reply : Option Message) → Plain b reply → Took (record { chunk = chunk_of t c; held = record_of t c hd.block; reply = reply })
     as_was reply q = elim (eq_or_ne hd.block b) [
       | inl db ↦ subst⁻¹ (λ (d : ℕ). Good b h (with_places (with_record t c d (record_of t c d)) (replied n1 reply))) db
           (good_record b h t s c (record_of t c b) _ place-c place-b
@@ -123,14 +124,14 @@ module _ (b : ℕ) (h : Hist) (t : Table) (f : Formed t) (s : Shape t) (lb : is_
           (marks S b h t.epoch.0 (seats_of t) (part_of t b) t.places i c nm commit hd.timestamp n1 less1 (msg db))))
       | inr n ↦ far (silent (chunk_of t c) (with_waiting (record_of t c hd.block) (marked commit hd.timestamp
           (record_of t c hd.block).waiting))) tt n
-    ]) (as_was Slot.Empty tt)
+    ]) (as_was None tt)
 
     -- a read or a prewrite
     took-arrived : (k : Epoch) (kind : Kind) → (Passed t.creation.blocks (chunk_of t c) (record_of t c hd.block) hd k kind
         → Took (waits (chunk_of t c) (record_of t c hd.block) hd k kind))
         → Took (arrived t.creation.blocks (chunk_of t c) (record_of t c hd.block) hd k kind)
     took-arrived k kind g = arrived-walk Took t.creation.blocks (chunk_of t c) (record_of t c hd.block) hd k kind
-        (λ x. as_was (Slot.Full (message_of hd (Sort.Refusal x))) (plain b hd x)) g
+        (λ x. as_was (Some (message_of hd (Sort.Refusal x))) (plain b hd x)) g
 
     -- the chunk's epoch is the store's
     one-epoch : (chunk_of t c).epoch.0 ≡ t.epoch.0
@@ -177,7 +178,7 @@ module _ (b : ℕ) (h : Hist) (t : Table) (f : Formed t) (s : Shape t) (lb : is_
     ]
 
   -- a message at a chunk, by its sort
-  took-at : (m : Message) (e : slot_of t.places p ≡ Slot.Full m) (s : Sort) → sort_of m ≡ s
+  took-at : (m : Message) (e : slot_of t.places p ≡ Some m) (s : Sort) → sort_of m ≡ s
       → is_normal (chunk_of t (header_of m).chunk).state ≡ true
       → Took m e (at_chunk t.creation.blocks (chunk_of t (header_of m).chunk)
       (record_of t (header_of m).chunk (header_of m).block) (header_of m) s)
@@ -192,21 +193,21 @@ module _ (b : ℕ) (h : Hist) (t : Table) (f : Formed t) (s : Shape t) (lb : is_
       (λ db. inl (refl, sent-at (OfCommit b (header_of m).timestamp.0) t.places p m e (rw es tt, db, refl)))
   took-at m e (Sort.Request k Request.Abort) es nm = took-decides m e t.creation.blocks false nm
       (λ db. inr (refl, sent-at (OfAbort b (header_of m).timestamp.0) t.places p m e (rw es tt, db, refl)))
-  took-at m e (Sort.Refusal x) es nm = as_was m e Slot.Empty tt
-  took-at m e (Sort.ReadReply v) es nm = as_was m e Slot.Empty tt
-  took-at m e Sort.PrewriteReply es nm = as_was m e Slot.Empty tt
+  took-at m e (Sort.Refusal x) es nm = as_was m e None tt
+  took-at m e (Sort.ReadReply v) es nm = as_was m e None tt
+  took-at m e Sort.PrewriteReply es nm = as_was m e None tt
 
   -- .. in any state
-  chunk-takes : (m : Message) (e : slot_of t.places p ≡ Slot.Full m)
+  chunk-takes : (m : Message) (e : slot_of t.places p ≡ Some m)
       → Took m e (arrives t.creation.blocks (chunk_of t (header_of m).chunk) (record_of t (header_of m).chunk (header_of m).block) m)
   chunk-takes m e = walk (Took m e) (is_normal (chunk_of t (header_of m).chunk).state) _ _ (took-at m e (sort_of m) refl)
-      (λ _. as_was m e Slot.Empty tt)
+      (λ _. as_was m e None tt)
 
   -- ---- at a host
 
   module _ (blk : ℕ → ℕ) (hm : Homes blk t) where
     -- a reply under a host's timestamp is of the host's block
-    same_block : (j : ℕ) (m : Message) → slot_of t.places p ≡ Slot.Full m
+    same_block : (j : ℕ) (m : Message) → slot_of t.places p ≡ Some m
         → (header_of m).timestamp.0 ≡ (host_of t j).attempt.timestamp.0 → 0 < (host_of t j).attempt.timestamp.0
         → (front (host_of t j)).block ≡ (header_of m).block
     same_block j m e et pos =
@@ -235,7 +236,7 @@ module _ (b : ℕ) (h : Hist) (t : Table) (f : Formed t) (s : Shape t) (lb : is_
         (let z = i.known j in let q : y.epoch.0 ≡ h.epoch.0 = ap (λ (u : Epoch). u.0) k.epoch in omega arith) k.okay
 
     -- a counted answer, by its sort
-    heard-quiet : (j : ℕ) (m : Message) → slot_of t.places p ≡ Slot.Full m → (s : Sort) → sort_of m ≡ s → counts (host_of t j) m ≡ true
+    heard-quiet : (j : ℕ) (m : Message) → slot_of t.places p ≡ Some m → (s : Sort) → sort_of m ≡ s → counts (host_of t j) m ≡ true
         → QuietTo j (heard (host_of t j) (answered_by (host_of t j).attempt (header_of m).chunk) s)
     heard-quiet j m e (Sort.Refusal x) es k = sour j (header_of m).chunk x
     heard-quiet j m e (Sort.Request epoch q) es k = as_before j
@@ -279,7 +280,7 @@ module _ (b : ℕ) (h : Hist) (t : Table) (f : Formed t) (s : Shape t) (lb : is_
         }
 
     -- a message at a host
-    host-takes : (m : Message) → slot_of t.places p ≡ Slot.Full m → Good b h (host_takes (with_places t n1) (header_of m) m)
+    host-takes : (m : Message) → slot_of t.places p ≡ Some m → Good b h (host_takes (with_places t n1) (header_of m) m)
     unfolding at_host
     host-takes m e = good-host b h t s j (hears (host_of t j) m) n1 (host-place t.creation j (facts m e).header.host f.creation)
         (quiet S b h t.epoch.0 (seats_of t) (part_of t b) t.places i j (seat_of (hears (host_of t j) m)) n1 less1
@@ -290,7 +291,7 @@ module _ (b : ℕ) (h : Hist) (t : Table) (f : Formed t) (s : Shape t) (lb : is_
         j = (header_of m).host
 
     -- deliver
-    pub ev_deliver : (m : Message) → slot_of t.places p ≡ Slot.Full m → Next b h t [] Outcome.None (takes (with_places t n1) (Slot.Full m))
+    pub ev_deliver : (m : Message) → slot_of t.places p ≡ Some m → Next b h t [] Outcome.None (takes (with_places t n1) (Some m))
     ev_deliver m e = unnoted b h t _ (walk (Good b h) (is_for_chunk (sort_of m)) _ _
         (λ _. subst⁻¹ (Good b h) (left_as (with_places t n1) (header_of m).chunk (header_of m).block _
         (arrives-same (chunk_of t (header_of m).chunk) t.creation.blocks (record_of t (header_of m).chunk (header_of m).block) m)) (chunk-takes m e))

@@ -1,10 +1,11 @@
 -- What the network holds, as predicates that compute on a message's sort and header
+use Rattle.std.specs.Prelude.{None, Option, Some}
 use Prim.Native.Nat.{ℕ, ◌<◌}
 use mathlib.Core.Path.{◌≡◌, sym, ◌∙◌, ap}
 use mathlib.Core.Logic.{◌⊎◌, inl, inr}
 use mathlib.Core.Bool.{true}
 use mathlib.Core.List.{List, [], ◌∷◌}
-use Rattle.one_copy.specs.Types.{Set, Header, Message, Request, Sort, Slot, Place}
+use Rattle.one_copy.specs.Types.{Set, Header, Message, Request, Sort, Place}
 use Rattle.rules.specs.Limits.{chunk_limit}
 use Rattle.rules.specs.Messages.{header_of, sort_of, message_of}
 use Rattle.rules.specs.Network.{is_free, chunks_of, removed, sent, sent_to_each}
@@ -63,9 +64,9 @@ made-both hd s b t z =
     (sym (ap (λ (h : Header). h.block) e) ∙ z.0, sym (ap (λ (h : Header). h.timestamp.0) e) ∙ z.1)
 
 -- some message in the network is P
-abbrev pub OnSlot : (Message → Type 0) → Slot → Type 0
-OnSlot P Slot.Empty = ⊥
-OnSlot P (Slot.Full m) = P m
+abbrev pub OnSlot : (Message → Type 0) → Option Message → Type 0
+OnSlot P None = ⊥
+OnSlot P (Some m) = P m
 
 -- some place has a message that is P
 abbrev pub Sent : List Place → (Message → Type 0) → Type 0
@@ -74,7 +75,7 @@ Sent n P = Any (λ p. OnSlot P p.slot) n
 -- one message more
 pub sent-one : (P : Message → Type 0) (m : Message) (n : List Place) → Sent (sent n m) P → Sent n P ⊎ P m
 unfolding sent
-sent-one P m n h = any_set (λ p. OnSlot P p.slot) n (place is_free n) (record { slot = Slot.Full m }) h
+sent-one P m n h = any_set (λ p. OnSlot P p.slot) n (place is_free n) (record { slot = Some m }) h
 
 -- messages one after another
 sent-list : (P : Message → Type 0) (f : ℕ → Message) (l : List ℕ) (n : List Place) → Sent (fold sent n (each f l)) P → Sent n P
@@ -102,5 +103,5 @@ pub sent-taken : (P : Message → Type 0) (n : List Place) (p : ℕ) → Sent (r
 sent-taken P n p h = elim (any_set (λ p. OnSlot P p.slot) n p zero_place h) [ inl q ↦ q | inr q ↦ absurd q ]
 
 -- the message at a place
-pub sent-at : (P : Message → Type 0) (n : List Place) (p : ℕ) (m : Message) → slot_of n p ≡ Slot.Full m → P m → Sent n P
+pub sent-at : (P : Message → Type 0) (n : List Place) (p : ℕ) (m : Message) → slot_of n p ≡ Some m → P m → Sent n P
 sent-at P n p m e h = any_get_d (λ p. OnSlot P p.slot) n p zero_place (λ q. q) (rw e h)

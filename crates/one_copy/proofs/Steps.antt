@@ -1,4 +1,5 @@
 -- Every event, granted or refused, keeps a table good
+use Rattle.std.specs.Prelude.{Option, Some}
 use Prim.Native.Nat.{ℕ}
 use mathlib.Core.Path.{◌≡◌, refl, sym, subst⁻¹, ◌∙◌, ap}
 use mathlib.Core.Bool.{true, false, false≢true}
@@ -7,7 +8,7 @@ use native.Mathlib.Omega.{arith}
 use lib.ListN.{length-take}
 use lib.Dec.{eqb}
 use borrow.Author.Tests.{ltb-true, eqb-true}
-use Rattle.one_copy.specs.Types.{Action, Message, Slot, Table, Event, Outcome, Answer}
+use Rattle.one_copy.specs.Types.{Action, Message, Table, Event, Outcome, Answer}
 use Rattle.one_copy.specs.Listed.{Write, by_host, by_change, committed_at}
 use Rattle.rules.specs.Built.{operation_of}
 use Rattle.rules.specs.Codes.{code_of}
@@ -50,7 +51,7 @@ pub record Stepped (b : ℕ) (h : Hist) (t : Table) (e : Event) (a : Answer) : T
   pub creation : a.table.creation ≡ t.creation
 
 -- a message that is taken leaves the creation as it is
-takes-creation : (t : Table) (m : Message) → (takes t (Slot.Full m)).creation ≡ t.creation
+takes-creation : (t : Table) (m : Message) → (takes t (Some m)).creation ≡ t.creation
 takes-creation t m = walk (λ (x : Table). x.creation ≡ t.creation) (is_for_chunk (sort_of m)) _ _ (λ _. refl) (λ _. refl)
 
 module _ (b : ℕ) (h : Hist) (blk : ℕ → ℕ) (t : Table) (lb : is_block t.creation b ≡ true) (i : Whole b h blk t) (e : Event) where
@@ -143,7 +144,7 @@ module _ (b : ℕ) (h : Hist) (blk : ℕ → ℕ) (t : Table) (lb : is_block t.c
       let p = e.a in
       let l = ltb-true p place_limit (three _ _ _ r).0 in
       let m = place_message (slot_of t.places p) x in
-      subst⁻¹ (λ (s : Slot). Stepped b h t e (done (quietly (takes (with_places t (removed t.places p)) s)))) m.1
+      subst⁻¹ (λ (s : Option Message). Stepped b h t e (done (quietly (takes (with_places t (removed t.places p)) s)))) m.1
       (plain _ (rw k refl) (ev_deliver b h t f i.shape lb i.good p l blk i.homes m.0 m.1)
       (deliver-less t f p l m.0 m.1) (takes-creation (with_places t (removed t.places p)) m.0))
 

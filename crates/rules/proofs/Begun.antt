@@ -1,4 +1,5 @@
 -- Every run's table agrees with what its events and answers tell; the timestamps of its attempts are above 0 and differ
+use Rattle.std.specs.Prelude.{None, Option, Some}
 use Prim.Native.Nat.{ℕ, ◌+◌, ◌*◌, ◌≤◌, ◌<◌}
 use mathlib.Core.Path.{◌≡◌, refl, sym, subst, subst⁻¹, ap, ◌∙◌}
 use mathlib.Core.Logic.{◌⊎◌, inl, inr}
@@ -9,7 +10,7 @@ use lib.ListN.{length, get_or, take, drop, length-set}
 use lib.Dec.{eqb}
 use lib.Seq.{get_or-set_same, get_or-set_other}
 use borrow.Author.Tests.{lt-ltb, eqb-true, eqb-false, eq-eqb, ne_eqb}
-use Rattle.rules.specs.Types.{Timestamp, Set, Creation, Action, Operation, Queue, Host, Message, Slot, Table, Event, Outcome, Answer}
+use Rattle.rules.specs.Types.{Timestamp, Set, Creation, Action, Operation, Queue, Host, Message, Table, Event, Outcome, Answer}
 use Rattle.rules.specs.Built.{operation_of}
 use Rattle.rules.specs.Codes.{code_of}
 use Rattle.rules.specs.Creation.{fresh_host, fresh}
@@ -135,9 +136,9 @@ same-host t j y a = record {
   hosts = set_all (λ i (z : Host). Alike (host_of t i) z) no_host t.hosts j y a (λ i. alike (host_of t i));
 }
 
-takes_same : (t : Table) (s : Slot) → Same t (takes t s)
-takes_same t Slot.Empty = same t t refl
-takes_same t (Slot.Full m) =
+takes_same : (t : Table) (s : Option Message) → Same t (takes t s)
+takes_same t None = same t t refl
+takes_same t (Some m) =
     walk (Same t) (is_for_chunk (sort_of m)) _ _ (λ _. same t _ refl)
     (λ _. same-host t (header_of m).host _ (hears-alike (host_of t (header_of m).host) m))
 

@@ -1,12 +1,12 @@
 -- Document 01, "Proved cases", P1 to P12: one table. "Unless said, last read and last write are 0, value 0, no chunk lost"
-use Rattle.std.specs.Prelude.{if◌then◌else◌}
+use Rattle.std.specs.Prelude.{if◌then◌else◌, None, Option, Some}
 use Prim.Native.Nat.{ℕ}
 use mathlib.Core.Path.{◌≡◌, refl}
 use mathlib.Core.Bool.{Bool, true, false}
 use mathlib.Core.List.{List, [], ◌∷◌}
 use lib.ListN.{drop, replicate}
 use lib.Dec.{eqb}
-use Rattle.rules.specs.Types.{Timestamp, Set, Kind, Entry, Record, State, Action, Message, Request, Refusal, Sort, Slot, Table, Event, Answer}
+use Rattle.rules.specs.Types.{Timestamp, Set, Kind, Entry, Record, State, Action, Message, Request, Refusal, Sort, Table, Event, Answer}
 use Rattle.rules.specs.Built.{creation_of, operation_of, no_blocks}
 use Rattle.rules.specs.Chunks.{at_chunk, arrived}
 use Rattle.rules.specs.Codes.{code_of}
@@ -69,7 +69,7 @@ event kind a b c = record { kind = kind; a = a; b = b; c = c }
 pub data Seen : Type 0 where
   code : ℕ → Seen
   copies : (a b : Record) → Seen
-  arrival : (waiting : ℕ) → Slot → Seen
+  arrival : (waiting : ℕ) → Option Message → Seen
 
 abbrev code_in : Answer → Seen
 code_in a = code a.code
@@ -92,10 +92,10 @@ abbrev prewrite40 : Message
 prewrite40 = asking (headed 0 0 0 (stamped 40)) first_epoch (Request.Prewrite 7)
 
 abbrev waits : (waiting : ℕ) → Seen
-waits n = arrival n Slot.Empty
+waits n = arrival n None
 
 abbrev replies : (waiting : ℕ) → Sort → Seen
-replies n s = arrival n (Slot.Full (message_of (headed 0 0 0 (stamped 40)) s))
+replies n s = arrival n (Some (message_of (headed 0 0 0 (stamped 40)) s))
 
 -- ---- the rows
 

@@ -1,4 +1,5 @@
 -- The events of chunks and of the network keep well-formedness: deliver, drop, run, fail, recover, take lease, give lease, overdue
+use Rattle.std.specs.Prelude.{None, Option, Some}
 use Prim.Native.Nat.{ℕ, ◌<◌}
 use mathlib.Core.Path.{◌≡◌, refl, sym, ◌∙◌}
 use mathlib.Core.Bool.{Bool, true, false, cond, ◌&&◌, true≢false}
@@ -7,7 +8,7 @@ use native.Mathlib.Omega.{arith}
 use lib.ListN.{get_or, drop, length-drop, length-set, get_or-replicate}
 use lib.Dec.{eqb}
 use borrow.Author.Tests.{ltb-true, lt-ltb}
-use Rattle.rules.specs.Types.{Timestamp, Epoch, Creation, Kind, Entry, Waiting, Record, State, Chunk, Header, Message, Slot, Table, Arrived, Operand, Request, Refusal, Sort}
+use Rattle.rules.specs.Types.{Timestamp, Epoch, Creation, Kind, Entry, Waiting, Record, State, Chunk, Header, Message, Table, Arrived, Operand, Request, Refusal, Sort}
 use Rattle.rules.specs.Built.{no_blocks}
 use Rattle.rules.specs.Chunks.{with_state, with_value, with_read, with_write, with_waiting, answering, silent, entry_of, arrived, decides, at_chunk, runs, ran, failed, emptied, recover_refusals, take_lease_refusals, give_lease_refusals, overdue, arrives}
 use Rattle.rules.specs.Codes.{Row}
@@ -264,9 +265,9 @@ module _ (t : Table) (f : Formed t) where
       host-kept t f h (hears (host_of t h) m) e (hears-formed t.creation (host_of t h) m f.creation (host_of_lem t f h e) g)
 
   -- what a place holds, at its party
-  taken : (s : Slot) → slot_formed t.creation s ≡ true → Formed (takes t s)
-  taken Slot.Empty g = f
-  taken (Slot.Full m) g =
+  taken : (s : Option Message) → slot_formed t.creation s ≡ true → Formed (takes t s)
+  taken None g = f
+  taken (Some m) g =
       walk Formed (is_for_chunk (sort_of m)) (chunk_takes t (header_of m) m) (host_takes t (header_of m) m) (λ _. chunk-takes m g) (λ _. host-takes m g)
 
 module _ (t : Table) where

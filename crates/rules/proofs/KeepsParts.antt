@@ -1,4 +1,5 @@
 -- A formed part put into a well-formed table keeps it well formed
+use Rattle.std.specs.Prelude.{None, Option, Some}
 use Prim.Native.Nat.{ℕ, ◌<◌}
 use mathlib.Core.Path.{◌≡◌, refl, ◌∙◌}
 use mathlib.Core.Logic.{◌⊎◌, inl, inr}
@@ -6,7 +7,7 @@ use mathlib.Core.Bool.{true}
 use mathlib.Core.List.{List}
 use native.Mathlib.Omega.{arith}
 use lib.ListN.{get_or, set}
-use Rattle.rules.specs.Types.{Set, Creation, Record, Chunk, Host, Message, Slot, Place, Table}
+use Rattle.rules.specs.Types.{Set, Creation, Record, Chunk, Host, Message, Place, Table}
 use Rattle.rules.specs.Codes.{code_of}
 use Rattle.rules.specs.Creation.{of_store}
 use Rattle.rules.specs.Events.{EventKind}
@@ -114,13 +115,13 @@ module _ (k : Creation) where
   -- a formed message sent
   sent-formed : (l : List Place) (m : Message) → FormedPlaces k l → message_formed k m ≡ true → FormedPlaces k (sent l m)
   unfolding sent
-  sent-formed l m f h = laid l (place is_free l) (record { slot = Slot.Full m }) f h
+  sent-formed l m f h = laid l (place is_free l) (record { slot = Some m }) f h
 
   -- a formed reply, or none
-  replied-formed : (l : List Place) (s : Slot) → FormedPlaces k l → slot_formed k s ≡ true → FormedPlaces k (replied l s)
+  replied-formed : (l : List Place) (s : Option Message) → FormedPlaces k l → slot_formed k s ≡ true → FormedPlaces k (replied l s)
   unfolding replied
-  replied-formed l Slot.Empty f h = f
-  replied-formed l (Slot.Full m) f h = sent-formed l m f h
+  replied-formed l None f h = f
+  replied-formed l (Some m) f h = sent-formed l m f h
 
 module _ (t : Table) (f : Formed t) where
   -- a message removed
@@ -128,7 +129,7 @@ module _ (t : Table) (f : Formed t) where
   removed-kept p = places-kept t f (removed t.places p) (laid t.creation t.places p zero_place f.places refl)
 
   -- a reply sent, or none
-  pub replied-kept : (s : Slot) → slot_formed t.creation s ≡ true → Formed (with_places t (replied t.places s))
+  pub replied-kept : (s : Option Message) → slot_formed t.creation s ≡ true → Formed (with_places t (replied t.places s))
   replied-kept s h = places-kept t f (replied t.places s) (replied-formed t.creation t.places s f.places h)
 
   -- formed messages sent to a set of the store's chunks

@@ -1,4 +1,5 @@
 -- What an effect relies on follows from its refusals not holding: room for its messages, an operation at the front, a head that exists
+use Rattle.std.specs.Prelude.{None, Option, Some}
 use Prim.Native.Nat.{ℕ, zero, suc, ◌+◌, ◌≤◌, ◌<◌}
 use mathlib.Core.Path.{◌≡◌, refl}
 use mathlib.Core.Bool.{Bool, true, false, cond, ◌&&◌, false≢true}
@@ -6,7 +7,7 @@ use mathlib.Core.List.{List, [], ◌∷◌}
 use native.Mathlib.Omega.{arith}
 use lib.ListN.{length, set}
 use borrow.Author.Tests.{ltb-false, leb-true, leb-false, le-leb, eqb-false, not-false}
-use Rattle.rules.specs.Types.{Epoch, Set, Creation, Waiting, State, Chunk, Host, Message, Slot, Place}
+use Rattle.rules.specs.Types.{Epoch, Set, Creation, Waiting, State, Chunk, Host, Message, Place}
 use Rattle.rules.specs.Chunks.{run_refusals, overdue_refusals}
 use Rattle.rules.specs.Codes.{code_of}
 use Rattle.rules.specs.Events.{all_lost, epoch_refusals}
@@ -107,10 +108,10 @@ module _ (k : Creation) (epoch : Epoch) (chunks : List Chunk) (e : code_of (epoc
 -- ---- the network
 
 -- a message that is delivered or dropped is there
-pub place_message : (slot : Slot) → code_of (place_refusals slot) ≡ 0 → (m : Message) × (slot ≡ Slot.Full m)
+pub place_message : (slot : Option Message) → code_of (place_refusals slot) ≡ 0 → (m : Message) × (slot ≡ Some m)
 unfolding code_of
-place_message Slot.Empty e = absurd (omega arith)
-place_message (Slot.Full m) e = (m, refl)
+place_message None e = absurd (omega arith)
+place_message (Some m) e = (m, refl)
 
 -- a free place is one of the network's
 pub free_inside : (places : List Place) → 0 < free_places places → place is_free places < length places
@@ -129,8 +130,8 @@ sent-takes-one [] m h = absurd (omega arith)
 sent-takes-one (p ∷ ps) m h = go (is_free p) refl h (sent-takes-one ps m)
   where
     go : (b : Bool) → is_free p ≡ b → 0 < length (cond b (p ∷ those is_free ps) (those is_free ps))
-        → (0 < length (those is_free ps) → length (those is_free (set ps (place is_free ps) (record { slot = Slot.Full m }))) + 1 ≡ length (those is_free ps))
-        → length (those is_free (set (p ∷ ps) (cond b 0 (suc (place is_free ps))) (record { slot = Slot.Full m }))) + 1 ≡ length (cond b (p ∷ those is_free ps) (those is_free ps))
+        → (0 < length (those is_free ps) → length (those is_free (set ps (place is_free ps) (record { slot = Some m }))) + 1 ≡ length (those is_free ps))
+        → length (those is_free (set (p ∷ ps) (cond b 0 (suc (place is_free ps))) (record { slot = Some m }))) + 1 ≡ length (cond b (p ∷ those is_free ps) (those is_free ps))
     go true d h f = omega arith
     go false d h f = rw d (f h)
 

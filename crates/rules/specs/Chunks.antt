@@ -1,7 +1,7 @@
 -- One chunk: what is refused it, what a message does at it, what becomes of it
-use Rattle.std.specs.Prelude.{ℕ, Bool, true, false, not, ◌&&◌, ◌||◌, List, set, eqb, ltb, leb, pos, ◌-ℤ◌, if◌then◌else◌}
+use Rattle.std.specs.Prelude.{ℕ, Bool, true, false, not, ◌&&◌, ◌||◌, List, set, eqb, ltb, leb, pos, ◌-ℤ◌, if◌then◌else◌, None, Some}
 use Rattle.std.specs.Int.Signed.{lt_z}
-use Rattle.rules.specs.Types.{Timestamp, Epoch, Kind, Entry, Waiting, Record, State, Chunk, Header, Message, Request, Refusal, Sort, Slot, Arrived}
+use Rattle.rules.specs.Types.{Timestamp, Epoch, Kind, Entry, Waiting, Record, State, Chunk, Header, Message, Request, Refusal, Sort, Arrived}
 use Rattle.rules.specs.Built.{entry_with, no_blocks}
 use Rattle.rules.specs.Codes.{Row, ◌gives◌⨾◌, granted}
 use Rattle.rules.specs.Kinds.{is_read, is_undecided, is_write, is_normal, is_nolease, is_failed}
@@ -36,13 +36,13 @@ with_waiting r x = record { value = r.value; read = r.read; write = r.write; wai
 
 -- the chunk and its record, with a reply or with none. A reply has its request's header
 abbrev pub answering : Chunk → Record → Header → Sort → Arrived
-answering c r header s = record { chunk = c; held = r; reply = Slot.Full (message_of header s) }
+answering c r header s = record { chunk = c; held = r; reply = Some (message_of header s) }
 
 abbrev pub refusing : Chunk → Record → Header → Refusal → Arrived
 refusing c r header x = answering c r header (Sort.Refusal x)
 
 abbrev pub silent : Chunk → Record → Arrived
-silent c r = record { chunk = c; held = r; reply = Slot.Empty }
+silent c r = record { chunk = c; held = r; reply = None }
 
 -- ---- "Read or prewrite at a chunk, in this order"
 

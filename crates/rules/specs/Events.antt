@@ -1,6 +1,6 @@
 -- Document 01, "Events": for each event its refusals in their order, and its effect; the events by their numbers; the step
-use Rattle.std.specs.Prelude.{ℕ, Bool, not, ◌&&◌, List, [], get_or, eqb, if◌then◌else◌}
-use Rattle.rules.specs.Types.{Epoch, Set, Creation, Record, State, Chunk, Action, Operation, Host, Header, Message, Slot, Table, Arrived, Copy, Event, Operands, Outcome, Answer, Reply}
+use Rattle.std.specs.Prelude.{ℕ, Bool, not, ◌&&◌, List, [], get_or, eqb, if◌then◌else◌, None, Option, Some}
+use Rattle.rules.specs.Types.{Epoch, Set, Creation, Record, State, Chunk, Action, Operation, Host, Header, Message, Table, Arrived, Copy, Event, Operands, Outcome, Answer, Reply}
 use Rattle.rules.specs.declared.Operand.TheVariants.{Unknown as unknown, Unused as unused, Host as a_host, Chunk as a_chunk, Block as a_block, Place as a_place, Clock as a_clock, Now as a_time, Value as a_value}
 use Rattle.rules.specs.Built.{blank, copy_with, operation_of}
 use Rattle.rules.specs.Chunks.{run_refusals, ran, fail_refusals, failed, emptied, recover_refusals, recovered, take_lease_refusals, lease_taken, give_lease_refusals, lease_given, overdue_refusals, overdue, arrives}
@@ -133,9 +133,9 @@ module _ (t : Table) where
   abbrev pub host_takes : Header → Message → Table
   host_takes header m = with_host t header.host (hears (host_of t header.host) m)
 
-  abbrev pub takes : Slot → Table
-  takes Slot.Empty = t
-  takes (Slot.Full m) = if is_for_chunk (sort_of m) then chunk_takes (header_of m) m else host_takes (header_of m) m
+  abbrev pub takes : Option Message → Table
+  takes None = t
+  takes (Some m) = if is_for_chunk (sort_of m) then chunk_takes (header_of m) m else host_takes (header_of m) m
 
 module _ (t : Table) where
   abbrev pub place_rule : (place : ℕ) → Table → Rule

@@ -1,7 +1,7 @@
 -- Document 01: "A table is well formed when every number is within the ranges above, counts are within limits, waiting entries are
 -- in ascending timestamp order (equal allowed), all chunks have one epoch, the store's, and unused places are zero"
-use Rattle.std.specs.Prelude.{ℕ, ◌-◌, Bool, true, false, not, ◌&&◌, ◌||◌, List, get_or, ltb, leb, if◌then◌else◌}
-use Rattle.rules.specs.Types.{Epoch, Creation, Entry, Waiting, Record, Chunk, Operation, Queue, Attempt, Host, Header, Message, Sort, Slot, Table, Place}
+use Rattle.std.specs.Prelude.{ℕ, ◌-◌, Bool, true, false, not, ◌&&◌, ◌||◌, List, get_or, ltb, leb, if◌then◌else◌, None, Option, Some}
+use Rattle.rules.specs.Types.{Epoch, Creation, Entry, Waiting, Record, Chunk, Operation, Queue, Attempt, Host, Header, Message, Sort, Table, Place}
 use Rattle.rules.specs.Creation.{is_creation, of_store}
 use Rattle.rules.specs.Limits.{host_limit, chunk_limit, block_limit, operation_limit, waiting_limit, place_limit, greatest_clock, up_to}
 use Rattle.rules.specs.Messages.{header_of, sort_of}
@@ -74,9 +74,9 @@ module _ (k : Creation) where
   abbrev pub message_formed : Message → Bool
   message_formed m = header_formed (header_of m) && sort_formed (sort_of m)
 
-  abbrev pub slot_formed : Slot → Bool
-  slot_formed Slot.Empty = true
-  slot_formed (Slot.Full m) = message_formed m
+  abbrev pub slot_formed : Option Message → Bool
+  slot_formed None = true
+  slot_formed (Some m) = message_formed m
 
   -- ---- the arrays: a part of the store's is formed, an unused place is zero
 

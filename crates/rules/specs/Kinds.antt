@@ -1,6 +1,6 @@
 -- The enums, case by case
-use Rattle.std.specs.Prelude.{ℕ, Bool, true, false, not}
-use Rattle.rules.specs.Types.{Kind, State, Action, Slot}
+use Rattle.std.specs.Prelude.{ℕ, Bool, true, false, not, None, Option, Some}
+use Rattle.rules.specs.Types.{Kind, State, Action, Message}
 
 -- ---- an entry: "a read, an undecided write, a committed write or an aborted write; a write has its value"
 
@@ -56,6 +56,6 @@ is_reading (Action.Write v) = false
 
 -- ---- a place of the network
 
-abbrev pub is_empty_slot : Slot → Bool
-is_empty_slot Slot.Empty = true
-is_empty_slot (Slot.Full m) = false
+abbrev pub is_empty_slot : Option Message → Bool
+is_empty_slot None = true
+is_empty_slot (Some m) = false

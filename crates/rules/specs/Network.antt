@@ -1,6 +1,6 @@
 -- The network: "64 places .. New messages go to the lowest free places, by ascending chunk"
-use Rattle.std.specs.Prelude.{ℕ, Bool, List, set, length}
-use Rattle.rules.specs.Types.{Set, Message, Slot, Place}
+use Rattle.std.specs.Prelude.{ℕ, Bool, List, set, length, None, Option, Some}
+use Rattle.rules.specs.Types.{Set, Message, Place}
 use Rattle.rules.specs.Codes.{Row, ◌gives◌⨾◌, granted}
 use Rattle.rules.specs.Kinds.{is_empty_slot}
 use Rattle.rules.specs.Limits.{chunk_limit}
@@ -19,7 +19,7 @@ removed places p = set places p zero_place
 
 -- "New messages go to the lowest free places"
 unfoldable pub sent : List Place → Message → List Place
-sent places m = set places (place is_free places) (record { slot = Slot.Full m })
+sent places m = set places (place is_free places) (record { slot = Some m })
 
 -- ".. by ascending chunk": message m c to each chunk c of the set
 abbrev pub chunks_of : Set → List ℕ
@@ -32,12 +32,12 @@ unfoldable pub sent_to_each : List Place → Set → ((chunk : ℕ) → Message)
 sent_to_each places to m = fold sent places (each m (chunks_of to))
 
 -- "Its reply, if any, takes the lowest free place"
-unfoldable pub replied : List Place → Slot → List Place
-replied places Slot.Empty = places
-replied places (Slot.Full m) = sent places m
+unfoldable pub replied : List Place → Option Message → List Place
+replied places None = places
+replied places (Some m) = sent places m
 
 -- "4 deliver (place), 5 drop (place). Empty place: 2"
-abbrev pub place_refusals : Slot → List Row
+abbrev pub place_refusals : Option Message → List Row
 place_refusals slot =
     is_empty_slot slot gives 2 ⨾
     granted

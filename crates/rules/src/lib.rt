@@ -272,16 +272,10 @@ pub enum Sort {
     PrewriteReply,
 }
 
-#[derive(Clone, Copy)]
-pub enum Slot {
-    Empty,
-    Full(Message),
-}
-
 // One place of the network.
 #[derive(Clone, Copy)]
 pub struct Place {
-    pub slot: Slot,
+    pub slot: Option<Message>,
 }
 
 // The record of chunk c and block b stands at c x 16 + b.
@@ -307,7 +301,7 @@ pub struct Created {
 pub struct Arrived {
     pub chunk: Chunk,
     pub held: Record,
-    pub reply: Slot,
+    pub reply: Option<Message>,
 }
 
 // One chunk's copy of the block that is settled.

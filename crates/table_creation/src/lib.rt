@@ -6,7 +6,7 @@ ghost use Rattle.rules.specs.Creation.{is_creation, fresh, created};
 ghost use Rattle.rules.specs.Zero.{zero_table};
 ghost use Rattle.table_creation.specs.Fresh.{empty_table};
 
-use rules::{Chunk, Created, Creation, Epoch, Host, Place, Slot, State, Table};
+use rules::{Chunk, Created, Creation, Epoch, Host, Place, Message, State, Table};
 
 // "hosts working with map not current and epoch known 0".
 fn fresh_hosts(k: Creation) -> [Host; rules::HOSTS]
@@ -59,7 +59,7 @@ fn empty(
     ensures { result ≡ empty_table k epoch hosts chunks }
 {
     let r = table_zero::record();
-    let p = Place { slot: Slot::Empty };
+    let p = Place { slot: None };
     Table {
         creation: k,
         epoch: epoch,

@@ -1,4 +1,5 @@
 -- Laws that the proofs of the loops and of `send_in` cite
+use Rattle.std.specs.Prelude.{None, Option, Some}
 use Prim.Native.Nat.{ℕ, ◌+◌, ◌-◌, ◌≤◌, ◌<◌, ◌^◌}
 use mathlib.Core.Path.{◌≡◌, refl, ap, subst, ◌∙◌}
 use mathlib.Core.Bool.{Bool, true, false, cond, not}
@@ -8,8 +9,8 @@ use native.Mathlib.Omega.{arith}
 use lib.Dec.{T, lit<}
 use lib.ListN.{length, drop, drop_of_length-le, get_or, set, get_or-eq_default}
 use native.Mathlib.Nat.{lt_of_le_of_lt}
+use Rattle.rules.specs.declared.Message.{Message}
 use Rattle.rules.specs.declared.Place.{Place}
-use Rattle.rules.specs.declared.Slot.{Slot}
 use Rattle.rules.specs.declared.Table.{Table}
 use Rattle.rules.specs.Kinds.{is_empty_slot}
 use Rattle.rules.specs.Network.{is_free, free_places, sent, replied}
@@ -107,13 +108,13 @@ module _ (l : List Place) where
 
 -- ---- `send_in`
 
-pub sends_none : (h : Table) (s : Slot) (b : Bool) → b ≡ is_empty_slot s → T b → h ≡ with_places h (replied h.places s)
+pub sends_none : (h : Table) (s : Option Message) (b : Bool) → b ≡ is_empty_slot s → T b → h ≡ with_places h (replied h.places s)
 unfolding replied
-sends_none h Slot.Empty b b_is t = refl
-sends_none h (Slot.Full m) b b_is t = absurd (subst T b_is t)
+sends_none h None b b_is t = refl
+sends_none h (Some m) b b_is t = absurd (subst T b_is t)
 
-pub sends : (h : Table) (s : Slot) (b : Bool) → b ≡ is_empty_slot s → T (not b) → (i : ℕ) → i ≡ place is_free h.places → (p : Place) → p ≡ record { slot = s } → (z : Table) → z ≡ with_places h (set h.places i p)
+pub sends : (h : Table) (s : Option Message) (b : Bool) → b ≡ is_empty_slot s → T (not b) → (i : ℕ) → i ≡ place is_free h.places → (p : Place) → p ≡ record { slot = s } → (z : Table) → z ≡ with_places h (set h.places i p)
     → z ≡ with_places h (replied h.places s)
 unfolding replied sent
-sends h Slot.Empty b b_is t i i_is p p_is z z_is = absurd (subst (λ (c : Bool). T (not c)) b_is t)
-sends h (Slot.Full m) b b_is t i i_is p p_is z z_is = rw (z_is, i_is, p_is) refl
+sends h None b b_is t i i_is p p_is z z_is = absurd (subst (λ (c : Bool). T (not c)) b_is t)
+sends h (Some m) b b_is t i i_is p p_is z z_is = rw (z_is, i_is, p_is) refl

@@ -1,4 +1,5 @@
 -- Each public function's promise determines its answer, or the table that it leaves
+use Rattle.std.specs.Prelude.{Option}
 use Prim.Native.Nat.{ℕ}
 use mathlib.Core.Path.{◌≡◌, refl}
 use seplogic.Ra.Ura.{Ura}
@@ -11,11 +12,11 @@ use contract.Monad.{Fun, fact}
 use contract.Lifetimes.{Lfts}
 use denote.Triple.Entry.{Args}
 use denote.Triple.Clauses.{AtExit}
+use Rattle.rules.specs.declared.Message.{Message}
 use Rattle.rules.specs.Network.{free_places, removed, replied}
 use Rattle.rules.specs.Tables.{with_places}
 use Rattle.rules.specs.Zero.{zero_place}
 use Rattle.rules.specs.declared.Place.{Place}
-use Rattle.rules.specs.declared.Slot.{Slot}
 use Rattle.rules.specs.declared.Table.{Table}
 use Rattle.rules.proofs.Unique.{unique}
 use Rattle.table_places.specs.contracts.free_in as free_in_contract
@@ -33,7 +34,7 @@ Removed t i left = left ≡ with_places t (removed t.places i)
 abbrev Free : Table → (out : ℕ) → Type 0
 Free t out = out ≡ free_places t.places
 
-abbrev Sent : Table → (s : Slot) → (left : Table) → Type 0
+abbrev Sent : Table → (s : Option Message) → (left : Table) → Type 0
 Sent t s left = left ≡ with_places t (replied t.places s)
 
 module _ {M : Type 1} {𝓤 : Ura M} (𝓛 : Logic 𝓤) (at_mem : Memory → SProp 𝓤) (run : Routine → Fun 𝓤) (κs : Lfts 1) where
@@ -63,5 +64,5 @@ remove_in-unique t i left right = unique
 free_in-unique : (t : Table) (x y : ℕ) → Free t x → Free t y → x ≡ y
 free_in-unique t x y = unique
 
-send_in-unique : (t : Table) (s : Slot) (left right : Table) → Sent t s left → Sent t s right → left ≡ right
+send_in-unique : (t : Table) (s : Option Message) (left right : Table) → Sent t s left → Sent t s right → left ≡ right
 send_in-unique t s left right = unique

@@ -9,12 +9,12 @@ ghost use Rattle.rules.specs.Tables.{with_places};
 ghost use Rattle.rules.specs.Words.{place};
 ghost use Rattle.rules.specs.Zero.{zero_place};
 
-use rules::{Place, Slot, Table};
+use rules::{Message, Place, Table};
 
 fn empty() -> Place
     ensures { result ≡ zero_place }
 {
-    Place { slot: Slot::Empty }
+    Place { slot: None }
 }
 
 // Beyond the last place there is none: empty.
@@ -49,12 +49,12 @@ pub fn remove_in(t: &mut Table, i: u64)
 }
 
 // A slot holds a message or nothing.
-fn is_empty(s: Slot) -> bool
+fn is_empty(s: Option<Message>) -> bool
     ensures { result ≡ is_empty_slot s }
 {
     match s {
-        Slot::Empty => true,
-        Slot::Full(_) => false,
+        None => true,
+        Some(_) => false,
     }
 }
 
@@ -102,14 +102,14 @@ fn lowest_in(t: &Table) -> u64
     at
 }
 
-fn holding(s: Slot) -> Place
+fn holding(s: Option<Message>) -> Place
     ensures { result ≡ (record { slot = s }) }
 {
     Place { slot: s }
 }
 
 // "Its reply, if any, takes the lowest free place"; a full network stays as it is.
-pub fn send_in(t: &mut Table, s: Slot)
+pub fn send_in(t: &mut Table, s: Option<Message>)
     ensures { t.new ≡ with_places t.old (replied t.old.places s) }
 {
     if is_empty(s) {

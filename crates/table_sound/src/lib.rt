@@ -12,7 +12,7 @@ ghost use Rattle.table_sound.specs.Parts.{counted, counts_of, all_formed, of_blo
 
 use rules::{
     Attempt, Chunk, Creation, Entry, Epoch, Header, Host, Message, Operation, Place, Queue, Record,
-    Set, Slot, Sort, Table, Timestamp, Waiting,
+    Set, Message, Sort, Table, Timestamp, Waiting,
 };
 
 // The store's counts: all that its parts are held to.
@@ -368,8 +368,8 @@ fn place_formed(n: Counts, p: Place) -> bool
 {
     let s = p.slot;
     match s {
-        Slot::Empty => true,
-        Slot::Full(m) => message_formed(n, m),
+        None => true,
+        Some(m) => message_formed(n, m),
     }
 }
 

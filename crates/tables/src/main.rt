@@ -6,7 +6,7 @@ ghost use Rattle.std.specs.Prelude.{◌<◌, ◌≤◌};
 
 use rules::{
     Action, Attempt, Chunk, Creation, Entry, Epoch, Event, Header, Host, Kind, Message, Operation,
-    Place, Queue, Record, Refusal, Request, Set, Slot, Sort, State, Table, Timestamp, Waiting,
+    Place, Queue, Record, Refusal, Request, Set, Message, Sort, State, Table, Timestamp, Waiting,
 };
 use std::io;
 
@@ -419,7 +419,7 @@ fn with_record(i: usize, r: Record) -> Table
 fn with_message(m: Message) -> Table {
     let mut t = store();
     let p = Place {
-        slot: Slot::Full(m),
+        slot: Some(m),
     };
     t.places[0] = p;
     t
