@@ -14,7 +14,7 @@ use Rattle.rules.specs.declared.Chunk.{Chunk}
 use Rattle.rules.specs.declared.Host.{Host}
 use Rattle.rules.specs.declared.Header.{Header}
 use Rattle.rules.specs.declared.Message.{Message}
-use Rattle.rules.specs.declared.Place.{Place}
+
 use Rattle.rules.specs.declared.Table.{Table}
 use Rattle.rules.specs.declared.Arrived.{Arrived}
 use Rattle.rules.specs.declared.Event.{Event}
@@ -56,8 +56,8 @@ event n a b c = record { kind = n; a = a; b = b; c = c }
 
 -- ---- what is stored back as it was, with `left` in the network before the new messages
 
-module _ (t : Table) (left : List Place) (h c b : ℕ) where
-  host_alone : (new : Host) (messages : List Place)
+module _ (t : Table) (left : List (Option Message)) (h c b : ℕ) where
+  host_alone : (new : Host) (messages : List (Option Message))
       → with_places (with_record (with_chunk (with_host t h new) c (chunk_of t c)) c b (record_of t c b)) (sent_all left messages)
       ≡ with_places (with_host t h new) (sent_all left messages)
   host_alone new messages = rw (set-get_or t.chunks c no_chunk, set-get_or t.records (at c b) no_record) refl
@@ -157,7 +157,7 @@ module _ (t : Table) (sized : length t.places ≡ place_limit) where
   -- ---- the network
 
   -- what a message leaves of whom it names, stored back, is what the rule makes of the table
-  taken_is : (left : List Place) (s : Option Message) → let to = address_of s in
+  taken_is : (left : List (Option Message)) (s : Option Message) → let to = address_of s in
       let d = delivered k.blocks (host_of t to.host) (chunk_of t to.chunk) (record_of t to.chunk to.block) s in
       with_places (with_record (with_chunk (with_host t to.host d.host) to.chunk d.chunk) to.chunk to.block d.held) (sent_all left (only_reply d.reply))
       ≡ takes (with_places t left) s

@@ -4,7 +4,7 @@ use Rattle.std.specs.Prelude.{Option}
 use Prim.Native.Nat.{ℕ}
 use mathlib.Core.List.{List}
 use Rattle.rules.specs.declared.Message.{Message}
-use Rattle.rules.specs.declared.Place.{Place}
+
 use Rattle.rules.specs.declared.Table.{Table}
 use Rattle.rules.specs.declared.Event.{Event}
 use Rattle.rules.specs.Network.{free_places, removed}
@@ -41,7 +41,7 @@ parts_of t e = record {
 }
 
 -- the network after it: its message removed, then the new ones sent
-abbrev pub mailed : List Place → Event → (messages : List Place) → List Place
+abbrev pub mailed : List (Option Message) → Event → (messages : List (Option Message)) → List (Option Message)
 mailed places e messages = sent_all (removed places (removed_at e)) messages
 
 -- the table after it: what it leaves of the parts, where they stand

@@ -13,7 +13,7 @@ use Rattle.rules.specs.declared.Creation.{Creation}
 use Rattle.rules.specs.declared.Record.{Record}
 use Rattle.rules.specs.declared.Chunk.{Chunk}
 use Rattle.rules.specs.declared.Host.{Host}
-use Rattle.rules.specs.declared.Place.{Place}
+
 use Rattle.rules.specs.declared.Table.{Table}
 use Rattle.rules.specs.declared.Event.{Event}
 use Rattle.rules.specs.declared.Answer.{Answer}
@@ -33,7 +33,7 @@ use Rattle.event_lent.specs.Touches.{here_by, here_in, parts_by, parts_in, keepi
 
 -- ---- what is gathered
 
-pub here_is : (t : Table) (e : Event) (p : ℕ) → p ≡ place_at e → (place : Place) → place ≡ get_or t.places p zero_place → (s : Option Message) → s ≡ place.slot
+pub here_is : (t : Table) (e : Event) (p : ℕ) → p ≡ place_at e → (place : Option Message) → place ≡ get_or t.places p zero_place → (s : Option Message) → s ≡ place
     → (i : ℕ) → i ≡ host_at e s → (host : Host) → host ≡ get_or t.hosts i zero_host → here_by e s i host ≡ here_in t e
 unfolding here_in
 here_is t e p p_is place place_is s s_is i i_is host host_is = rw (host_is, i_is, s_is, place_is, p_is) refl
@@ -57,15 +57,15 @@ keep_is t x a i i_is host host_is t₁ t₁_is c c_is chunk chunk_is t₂ t₂_i
     rw (t₄_is, p_is, t₃_is, held_is, j_is, t₂_is, chunk_is, c_is, t₁_is, host_is, i_is) refl
 
 -- a message sent to the network of a table
-abbrev sending : Table → Place → Table
-sending t p = with_places t (replied t.places p.slot)
+abbrev sending : Table → Option Message → Table
+sending t p = with_places t (replied t.places p)
 
-sending-all : (t : Table) (m : List Place) → fold sending t m ≡ with_places t (sent_all t.places m)
+sending-all : (t : Table) (m : List (Option Message)) → fold sending t m ≡ with_places t (sent_all t.places m)
 unfolding fold
 sending-all t [] = refl
 sending-all t (p ∷ m) = sending-all (sending t p) m
 
-module _ (m : List Place) (l : length m ≡ 8) where
+module _ (m : List (Option Message)) (l : length m ≡ 8) where
   sends-one : (i : ℕ) → i < 8 → (a z : Table) → z ≡ sending a (get_or m i zero_place) → fold sending a (drop i m) ≡ fold sending z (drop (i + 1) m)
   sends-one i below a z z_is = fold_more sending zero_place m i a (rw l below) ∙ ap (λ (u : Table). fold sending u (drop (i + 1) m)) (sym z_is)
 

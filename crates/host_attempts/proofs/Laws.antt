@@ -1,4 +1,5 @@
 -- Start and finish: the code is 0, or not
+use Rattle.std.specs.Prelude.{Option}
 use Prim.Native.Nat.{ℕ, ◌≤◌, ◌<◌}
 use mathlib.Core.Path.{◌≡◌, refl, sym, ◌∙◌}
 use mathlib.Core.Bool.{Bool, true, false, true≢false, not, ◌&&◌, ◌||◌}
@@ -7,11 +8,12 @@ use native.Mathlib.Omega.{arith}
 use lib.ListN.{drop}
 use lib.Dec.{eqb, ltb, leb}
 use borrow.Author.Tests.{ne_eqb}
+use Rattle.rules.specs.declared.Message.{Message}
 use Rattle.rules.specs.declared.Set.{Set}
 use Rattle.rules.specs.declared.Operation.{Operation}
 use Rattle.rules.specs.declared.Host.{Host}
 use Rattle.rules.specs.declared.Outcome.{Outcome}
-use Rattle.rules.specs.declared.Place.{Place}
+
 use Rattle.rules.specs.Codes.{Row, ◌gives◌⨾◌, granted, code_of}
 use Rattle.rules.specs.Hosts.{front, has_current, start_refusals, opening_to, opening, started, finish_refusals, closing_to, closing, finish_outcome, finished}
 use Rattle.rules.specs.Kinds.{is_reading}
@@ -30,7 +32,7 @@ use Rattle.host_attempts.specs.declared.Sent.{Sent}
 use Rattle.network_places.specs.Sending.{messages_to}
 use Rattle.host_attempts.specs.Moves.{refused, sent_unless, keeper_of, as_drawn, starts, finishes}
 
-module _ (rows : List Row) (old new : Host) (messages : List Place) (x : Outcome) (code : ℕ) (code_is : code ≡ code_of rows) where
+module _ (rows : List Row) (old new : Host) (messages : List (Option Message)) (x : Outcome) (code : ℕ) (code_is : code ≡ code_of rows) where
   unsent : (code ≡ 0 → ⊥) → refused code old ≡ sent_unless rows old new messages x
   unsent h = rw (← code_is, ne_eqb code 0 h) refl
 
@@ -109,7 +111,7 @@ module _ (number clock copy : ℕ) (holders : Set) (h : Host) (free : ℕ) where
           pub start_crowded : full ≡ true → refused 5 h ≡ starts number clock copy holders h free
           start_crowded k = start_refused 5 (λ z. omega arith) (past_draw 5 (refused-here _ _ _ (sym full-here ∙ k)))
 
-          pub start_granted : full ≡ false → (new : Host) (messages : List Place) → new ≡ started h d.timestamp d.keeper.last to
+          pub start_granted : full ≡ false → (new : Host) (messages : List (Option Message)) → new ≡ started h d.timestamp d.keeper.last to
               → messages ≡ messages_to to (λ chunk. asking (headed number chunk o.block d.timestamp) h.epoch (opening o.action))
               → ◌≡◌ {A = Sent} (record { code = 0; host = new; messages = messages; outcome = Outcome.None }) (starts number clock copy holders h free)
           unfolding starts
@@ -147,7 +149,7 @@ module _ (number : ℕ) (holders : Set) (h : Host) (free : ℕ) (o : Operation) 
   unfolding finishes
   finish_refused k = unsent _ _ _ _ _ code finish_code k
 
-  pub finish_granted : code ≡ 0 → (new : Host) (messages : List Place) (x : Outcome)
+  pub finish_granted : code ≡ 0 → (new : Host) (messages : List (Option Message)) (x : Outcome)
       → new ≡ finished h
       → messages ≡ messages_to to (λ chunk. asking (headed number chunk o.block h.attempt.timestamp) h.epoch (closing h.attempt.okay))
       → x ≡ finish_outcome number h

@@ -1,9 +1,11 @@
 -- The start and the finish of an attempt, refusal and effect together
+use Rattle.std.specs.Prelude.{Option}
 use Rattle.std.specs.Prelude.{ℕ, not, List, eqb, if◌then◌else◌}
+use Rattle.rules.specs.declared.Message.{Message}
 use Rattle.rules.specs.declared.Set.{Set}
 use Rattle.rules.specs.declared.Host.{Host}
 use Rattle.rules.specs.declared.Outcome.{Outcome}
-use Rattle.rules.specs.declared.Place.{Place}
+
 use Rattle.rules.specs.Codes.{Row, code_of, unless_refused}
 use Rattle.rules.specs.Hosts.{front, start_refusals, opening_to, opening, started, finish_refusals, closing_to, closing, finish_outcome, finished}
 use Rattle.rules.specs.Messages.{headed, asking}
@@ -20,7 +22,7 @@ abbrev pub refused : (code : ℕ) → Host → Sent
 refused code h = record { code = code; host = h; messages = no_messages; outcome = Outcome.None }
 
 -- what a start or a finish makes of its host and sends, unless it is refused
-abbrev pub sent_unless : List Row → (old new : Host) → (messages : List Place) → Outcome → Sent
+abbrev pub sent_unless : List Row → (old new : Host) → (messages : List (Option Message)) → Outcome → Sent
 sent_unless rows old new messages x = record {
   code = code_of rows;
   host = unless_refused rows old new;

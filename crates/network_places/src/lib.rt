@@ -2,40 +2,28 @@
 #![tactic(auto)]
 
 ghost use Rattle.std.specs.Prelude.{◌≡◌};
-ghost use Rattle.rules.specs.Codes.{code_of};
-ghost use Rattle.rules.specs.Kinds.{is_empty_slot};
+ghost use Rattle.rules.specs.Codes.{ruled};
 ghost use Rattle.rules.specs.Network.{place_refusals};
 ghost use Rattle.network_places.specs.Sending.{only_reply};
 
-use rules::{Message, Place};
-
-// A slot holds a message or nothing.
-fn is_empty(s: Option<Message>) -> bool
-    ensures { result ≡ is_empty_slot s }
-{
-    match s {
-        None => true,
-        Some(_) => false,
-    }
-}
+use rules::{Message, Refused};
 
 // "4 deliver (place), 5 drop (place). Empty place: 2".
 #[tactic(auto, unfolding(rules::specs::Codes::code_of))]
-pub fn place_code(s: Option<Message>) -> u64
-    ensures { result ≡ code_of (place_refusals s) }
+pub fn check_place(s: Option<Message>) -> Result<(), Refused>
+    ensures { result ≡ ruled (place_refusals s) tt }
 {
-    if is_empty(s) {
-        return rules::NOT_IN_STATE;
+    if s.is_none() {
+        return Err(Refused::NotInState);
     }
-    rules::DONE
+    Ok(())
 }
 
 // The new messages of an event that sends a reply at most; with an empty slot, none.
-pub fn only(s: Option<Message>) -> [Place; rules::CHUNKS]
+pub fn only(s: Option<Message>) -> [Option<Message>; rules::CHUNKS]
     ensures { result ≡ only_reply s }
 {
-    let none = Place { slot: None };
-    let mut out = [none; rules::CHUNKS];
-    out[0] = Place { slot: s };
+    let mut out = [None; rules::CHUNKS];
+    out[0] = s;
     out
 }

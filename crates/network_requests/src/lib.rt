@@ -7,7 +7,7 @@ ghost use Rattle.rules.specs.Messages.{headed, asking};
 ghost use Rattle.network_places.specs.Sending.{messages_to};
 ghost use Rattle.network_requests.specs.Steps.{request_to, sending};
 
-use rules::{Action, Epoch, Header, Place, Request, Set, Message, Sort, Timestamp};
+use rules::{Action, Epoch, Header, Message, Request, Set, Sort, Timestamp};
 
 // "A read sends one read ..; a write sends a prewrite".
 fn opening(action: Action) -> Request
@@ -30,16 +30,14 @@ fn closing(okay: bool) -> Request
 }
 
 // The request to one chunk, if it goes there.
-fn ask(goes: bool, header: Header, epoch: Epoch, request: Request) -> Place
+fn ask(goes: bool, header: Header, epoch: Epoch, request: Request) -> Option<Message>
     ensures { result ≡ sending goes (asking header epoch request) }
 {
     if goes {
         let m = network_messages::message_of(header, Sort::Request(epoch, request));
-        return Place {
-            slot: Some(m),
-        };
+        return Some(m);
     }
-    Place { slot: None }
+    None
 }
 
 // ".. by ascending chunk": each chunk's stands at its number.
@@ -50,7 +48,7 @@ fn ask_each(
     block: u64,
     now: Timestamp,
     epoch: Epoch,
-) -> [Place; rules::CHUNKS]
+) -> [Option<Message>; rules::CHUNKS]
     ensures { result ≡ messages_to to (request_to request host block now epoch) }
 {
     let mut out = network_places::only(None);
@@ -77,7 +75,7 @@ pub fn open(
     now: Timestamp,
     epoch: Epoch,
     action: Action,
-) -> [Place; rules::CHUNKS]
+) -> [Option<Message>; rules::CHUNKS]
     ensures { result ≡ messages_to to (λ chunk. asking (headed host chunk block now) epoch (opening action)) }
 {
     ask_each(to, opening(action), host, block, now, epoch)
@@ -91,7 +89,7 @@ pub fn close(
     now: Timestamp,
     epoch: Epoch,
     okay: bool,
-) -> [Place; rules::CHUNKS]
+) -> [Option<Message>; rules::CHUNKS]
     ensures { result ≡ messages_to to (λ chunk. asking (headed host chunk block now) epoch (closing okay)) }
 {
     ask_each(to, closing(okay), host, block, now, epoch)

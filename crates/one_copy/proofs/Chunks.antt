@@ -1,11 +1,12 @@
 -- A chunk's part in block b moves
+use Rattle.std.specs.Prelude.{Option}
 use Prim.Native.Nat.{ℕ, ◌≤◌}
 use mathlib.Core.Path.{◌≡◌, refl, sym, subst, ◌∙◌}
 use mathlib.Core.Logic.{◌⊎◌, inl, inr}
 use mathlib.Core.Bool.{Bool, true, false, false≢true}
 use mathlib.Core.List.{List, [], ◌∷◌}
 use native.Mathlib.Omega.{arith}
-use Rattle.one_copy.specs.Types.{Timestamp, Epoch, Kind, Entry, State, Header, Message, Sort, Place}
+use Rattle.one_copy.specs.Types.{Timestamp, Epoch, Kind, Entry, State, Header, Message, Sort}
 use Rattle.rules.specs.Chunks.{entry_of}
 use Rattle.rules.specs.Kinds.{is_normal}
 use Rattle.rules.specs.Messages.{headed, message_of}
@@ -40,9 +41,9 @@ in_mode p m = record { mode = m; lost = p.lost; val = p.val; rd = p.rd; wr = p.w
 abbrev pub fallen : Part → Part
 fallen p = record { mode = State.Failed; lost = true; val = p.val; rd = p.rd; wr = p.wr; queue = [] }
 
-module _ (S : ℕ → Type 0) (b : ℕ) (h : Hist) (ep : ℕ) (hs : ℕ → Seat) (ps : ℕ → Part) (n : List Place) (i : CInv S b h ep hs ps n) where
+module _ (S : ℕ → Type 0) (b : ℕ) (h : Hist) (ep : ℕ) (hs : ℕ → Seat) (ps : ℕ → Part) (n : List (Option Message)) (i : CInv S b h ep hs ps n) where
   -- fewer messages are a smaller flow
-  less : (n' : List Place) → NetLe b n' n → Sub (flow S b h hs n') (flow S b h hs n)
+  less : (n' : List (Option Message)) → NetLe b n' n → Sub (flow S b h hs n') (flow S b h hs n)
   less n' sub = record {
     cur = λ t z. z;
     act = λ t z. (z, (z.0, z.1));
@@ -55,7 +56,7 @@ module _ (S : ℕ → Type 0) (b : ℕ) (h : Hist) (ep : ℕ) (hs : ℕ → Seat
   }
 
   -- the globals' facts stay; the invariant is given
-  pub put-part : (c : ℕ) (p : Part) (n' : List Place) → Inv S (book h ep) (flow S b h hs n') (at c (cell_of p) (λ d. cell_of (ps d)))
+  pub put-part : (c : ℕ) (p : Part) (n' : List (Option Message)) → Inv S (book h ep) (flow S b h hs n') (at c (cell_of p) (λ d. cell_of (ps d)))
       → (is_normal p.mode ≡ true → p.lost ≡ false) → CInv S b h ep hs (at c p ps) n'
   put-part c p n' v ok = record {
     inv = subst (λ f. Inv S (book h ep) (flow S b h hs n') f) (sym (at_map cell_of c p ps)) v;
@@ -68,7 +69,7 @@ module _ (S : ℕ → Type 0) (b : ℕ) (h : Hist) (ep : ℕ) (hs : ℕ → Seat
   }
 
   -- messages alone go
-  pub net_only : (n' : List Place) → NetLe b n' n → CInv S b h ep hs ps n'
+  pub net_only : (n' : List (Option Message)) → NetLe b n' n → CInv S b h ep hs ps n'
   net_only n' sub = record {
     inv = shrink S (book h ep) (flow S b h hs n) (λ d. cell_of (ps d)) i.inv (flow S b h hs n') (less n' sub);
     vals = i.vals;
@@ -80,19 +81,19 @@ module _ (S : ℕ → Type 0) (b : ℕ) (h : Hist) (ep : ℕ) (hs : ℕ → Seat
   }
 
   -- one cell moves, and the net shrinks
-  pub one-part : (c : ℕ) (p : Part) (n' : List Place) → NetLe b n' n → (S c → CellOk (book h ep) (flow S b h hs n) c (cell_of p))
+  pub one-part : (c : ℕ) (p : Part) (n' : List (Option Message)) → NetLe b n' n → (S c → CellOk (book h ep) (flow S b h hs n) c (cell_of p))
       → (ps c).rd ≤ p.rd
       → ((t : ℕ) → (cell_of p).r t → S c) → (is_normal p.mode ≡ true → p.lost ≡ false) → CInv S b h ep hs (at c p ps) n'
   one-part c p n' sub ok up hm sane = put-part c p n' (shrink S (book h ep) (flow S b h hs n) (at c (cell_of p) (λ d. cell_of (ps d)))
       (one_cell S (book h ep) (flow S b h hs n) (λ d. cell_of (ps d)) c (cell_of p) i.inv ok up hm) (flow S b h hs n') (less n' sub)) sane
 
   -- modes change and nothing else
-  pub mode-only : (c : ℕ) (m : State) (n' : List Place) → NetLe b n' n → (is_normal m ≡ true → (ps c).lost ≡ false)
+  pub mode-only : (c : ℕ) (m : State) (n' : List (Option Message)) → NetLe b n' n → (is_normal m ≡ true → (ps c).lost ≡ false)
       → CInv S b h ep hs (at c (in_mode (ps c) m) ps) n'
   mode-only c m n' sub ok = one-part c (in_mode (ps c) m) n' sub (i.inv.cells c) (omega arith) (i.inv.home c) ok
 
   -- the chunk fails
-  pub falls : (c : ℕ) (n' : List Place) → NetLe b n' n → CInv S b h ep hs (at c (fallen (ps c)) ps) n'
+  pub falls : (c : ℕ) (n' : List (Option Message)) → NetLe b n' n → CInv S b h ep hs (at c (fallen (ps c)) ps) n'
   falls c n' sub = one-part c (fallen (ps c)) n' sub (λ m. fail S (book h ep) (flow S b h hs n) c (cell_of (ps c)) i.inv.glob
       (i.inv.cells c m)) (omega arith) (λ t z. absurd z) (λ e. absurd (false≢true e))
 
@@ -103,7 +104,7 @@ module _ (S : ℕ → Type 0) (b : ℕ) (h : Hist) (ep : ℕ) (hs : ℕ → Seat
     l = i.sane c nm
 
     -- a read arrives and waits
-    pub takes-read : (hd : Header) (k : Epoch) (n' : List Place) → NetLe b n' n → Sent n (OfRead b c hd.timestamp.0)
+    pub takes-read : (hd : Header) (k : Epoch) (n' : List (Option Message)) → NetLe b n' n → Sent n (OfRead b c hd.timestamp.0)
         → CInv S b h ep hs (at c (with_queue (ps c) (insert (entry_of hd k Kind.Read) (ps c).queue)) ps) n'
     takes-read hd k n' sub msg = one-part c (with_queue (ps c) (insert e (ps c).queue)) n' sub
         (λ m. let o = i.inv.cells c m in requeue S (book h ep) (flow S b h hs n) c (cell_of (ps c)) i.inv.glob o _ _
@@ -127,7 +128,7 @@ module _ (S : ℕ → Type 0) (b : ℕ) (h : Hist) (ep : ℕ) (hs : ℕ → Seat
         e = entry_of hd k Kind.Read
 
     -- a prewrite of the chunk's epoch arrives, waits and is answered
-    pub takes_write : (hd : Header) (k : Epoch) (v : ℕ) (n' : List Place) → hd.chunk ≡ c
+    pub takes_write : (hd : Header) (k : Epoch) (v : ℕ) (n' : List (Option Message)) → hd.chunk ≡ c
         → ((P : Message → Type 0) → Sent n' P → Sent n P ⊎ P (message_of hd Sort.PrewriteReply)) → Sent n (OfPre b c hd.timestamp.0 k.0 v)
         → k.0 ≡ ep → (ps c).wr ≤ hd.timestamp.0 → (ps c).rd ≤ hd.timestamp.0
         → CInv S b h ep hs (at c (with_queue (ps c) (insert (entry_of hd k (Kind.Undecided v)) (ps c).queue)) ps) n'
@@ -182,7 +183,7 @@ module _ (S : ℕ → Type 0) (b : ℕ) (h : Hist) (ep : ℕ) (hs : ℕ → Seat
         }
 
     -- a commit or an abort arrives
-    pub marks : (commit : Bool) (t : Timestamp) (n' : List Place) → NetLe b n' n → ((mark_of commit ≡ cmt) × Sent n (OfCommit b t.0))
+    pub marks : (commit : Bool) (t : Timestamp) (n' : List (Option Message)) → NetLe b n' n → ((mark_of commit ≡ cmt) × Sent n (OfCommit b t.0))
         ⊎ ((mark_of commit ≡ abt) × Sent n (OfAbort b t.0))
         → CInv S b h ep hs (at c (with_queue (ps c) (mark commit t (ps c).queue)) ps) n'
     marks commit t n' sub msg = elim (mark-cases commit t (ps c).queue) [
@@ -216,7 +217,7 @@ module _ (S : ℕ → Type 0) (b : ℕ) (h : Hist) (ep : ℕ) (hs : ℕ → Seat
       outq P z = rw qe z
 
       -- a committed write is carried out; m is the later of the last write and it
-      pub runs_cmt : (v m : ℕ) (n' : List Place) → NetLe b n' n → e.kind ≡ Kind.Committed v
+      pub runs_cmt : (v m : ℕ) (n' : List (Option Message)) → NetLe b n' n → e.kind ≡ Kind.Committed v
           → ((ps c).wr ≤ e.timestamp.0 → m ≡ e.timestamp.0) → CInv S b h ep hs (at c (wrote (ps c) v m q) ps) n'
       runs_cmt v m n' sub w top = one-part c (wrote (ps c) v m q) n' sub
           (λ z. let o = i.inv.cells c z in
@@ -231,7 +232,7 @@ module _ (S : ℕ → Type 0) (b : ℕ) (h : Hist) (ep : ℕ) (hs : ℕ → Seat
           here = outq (IsW e.timestamp.0 v cmt) (inl (refl, rw w (refl, refl)))
 
       -- an aborted write or a refused read leaves
-      pub runs_off : (n' : List Place) → NetLe b n' n → ((u x : ℕ) (a : Mark) → IsW u x a e → a ≡ abt)
+      pub runs_off : (n' : List (Option Message)) → NetLe b n' n → ((u x : ℕ) (a : Mark) → IsW u x a e → a ≡ abt)
           → CInv S b h ep hs (at c (with_queue (ps c) q) ps) n'
       runs_off n' sub only = one-part c (with_queue (ps c) q) n' sub
           (λ m. pop_abt S (book h ep) (flow S b h hs n) c (cell_of (ps c)) i.inv.glob (i.inv.cells c m)
@@ -242,7 +243,7 @@ module _ (S : ℕ → Type 0) (b : ℕ) (h : Hist) (ep : ℕ) (hs : ℕ → Seat
           (omega arith) (λ u z. i.inv.home c u (outq (IsR u) (inr z))) (λ _. l)
 
       -- a read is answered, and m is the later of the last read and it
-      pub runs-read : (m : ℕ) (n' : List Place) (j : ℕ) → ((P : Message → Type 0) → Sent n' P → Sent n P
+      pub runs-read : (m : ℕ) (n' : List (Option Message)) (j : ℕ) → ((P : Message → Type 0) → Sent n' P → Sent n P
           ⊎ P (message_of (headed j c b e.timestamp) (Sort.ReadReply (ps c).val))) → e.kind ≡ Kind.Read → (ps c).wr ≤ e.timestamp.0
           → ((m ≡ e.timestamp.0) × ((ps c).rd ≤ m)) ⊎ ((m ≡ (ps c).rd) × (e.timestamp.0 ≤ m))
           → CInv S b h ep hs (at c (was_read (ps c) m q) ps) n'

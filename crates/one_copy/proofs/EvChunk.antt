@@ -9,7 +9,7 @@ use native.Mathlib.Omega.{arith}
 use lib.ListN.{length, get_or, drop, length-take}
 use lib.Dec.{eqb}
 use borrow.Author.Tests.{ltb-false, not-false}
-use Rattle.one_copy.specs.Types.{Timestamp, Kind, Entry, Waiting, Record, Chunk, Header, Message, Refusal, Sort, Place, Table, Arrived, Outcome}
+use Rattle.one_copy.specs.Types.{Timestamp, Kind, Entry, Waiting, Record, Chunk, Header, Message, Refusal, Sort, Table, Arrived, Outcome}
 use Rattle.rules.specs.Chunks.{with_waiting, emptied, run_refusals, runs, ran, failed, lease_given, lease_taken, recovered, overdue, give_lease_refusals}
 use Rattle.rules.specs.Codes.{code_of}
 use Rattle.rules.specs.Events.{with_arrived}
@@ -58,7 +58,7 @@ Plain b None = Unit {0}
 Plain b (Some m) = Foreign b m
 
 -- such a reply adds nothing
-pub net_replied : (b : ℕ) (n n₀ : List Place) → ((P : Message → Type 0) → Sent n P → Sent n₀ P) → (reply : Option Message) → Plain b reply
+pub net_replied : (b : ℕ) (n n₀ : List (Option Message)) → ((P : Message → Type 0) → Sent n P → Sent n₀ P) → (reply : Option Message) → Plain b reply
     → NetLe b (replied n reply) n₀
 unfolding replied
 net_replied b n n₀ sub None p = net_less b n n₀ sub
@@ -158,7 +158,7 @@ module _ (b : ℕ) (h : Hist) (t : Table) (f : Formed t) (s : Shape t) (lb : is_
     low = least t.creation w (formed_w b lb free e) (head w) (drop 1 (in_order w)) (first b lb free e)
 
     -- the part with the head removed
-    put : (g : List Entry → Part) (n : List Place) → CInv S b h t.epoch.0 (seats_of t) (at c (g (drop 1 (in_order w))) (part_of t b)) n
+    put : (g : List Entry → Part) (n : List (Option Message)) → CInv S b h t.epoch.0 (seats_of t) (at c (g (drop 1 (in_order w))) (part_of t b)) n
         → CInv S b h t.epoch.0 (seats_of t) (at c (g (in_order (head_removed w))) (part_of t b)) n
     put g n v = subst⁻¹ (λ (q : List Entry). CInv S b h t.epoch.0 (seats_of t) (at c (g q) (part_of t b)) n) rest v
 

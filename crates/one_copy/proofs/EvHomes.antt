@@ -1,4 +1,5 @@
 -- No event but a start mentions a new timestamp of a block
+use Rattle.std.specs.Prelude.{Option}
 use Rattle.std.specs.Prelude.{Some}
 use Prim.Native.Nat.{ℕ, ◌<◌}
 use mathlib.Core.Path.{◌≡◌, refl, subst, ◌∙◌, ap, subst⁻¹}
@@ -9,7 +10,7 @@ use native.Mathlib.Omega.{arith}
 use lib.ListN.{length, get_or, take, drop}
 use lib.Dec.{eqb}
 use borrow.Author.Tests.{ltb-true, leb-false}
-use Rattle.one_copy.specs.Types.{Timestamp, Epoch, Set, Kind, Entry, Waiting, Record, Operation, Queue, Host, Message, Request, Sort, Place, Table, Arrived}
+use Rattle.one_copy.specs.Types.{Timestamp, Epoch, Set, Kind, Entry, Waiting, Record, Operation, Queue, Host, Message, Request, Sort, Table, Arrived}
 use Rattle.rules.specs.Chunks.{with_waiting, emptied, failed, answering, silent, entry_of, waits, arrived, decides, at_chunk, arrives, runs, ran}
 use Rattle.rules.specs.Codes.{code_of}
 use Rattle.rules.specs.Events.{holders_of, host_takes, takes, with_arrived}
@@ -128,7 +129,7 @@ module _ (t : Table) (f : Formed t) (j : ℕ) (lj : is_host t.creation j ≡ tru
       ])
 
   -- a start keeps the shape
-  pub start_shape : Shape t → (a : Timestamp) (clock : ℕ) (to : Set) (n : List Place)
+  pub start_shape : Shape t → (a : Timestamp) (clock : ℕ) (to : Set) (n : List (Option Message))
       → Shape (with_places (with_host t j (started x a clock to)) n)
   start_shape s a clock to n = shape-places (with_host t j (started x a clock to))
       (shape-host t s j (started x a clock to) (s.queues j place-j)) n
@@ -188,7 +189,7 @@ module _ (t : Table) (f : Formed t) (c d : ℕ) (lc : c < chunk_limit) (ld : d <
 
 module _ (t : Table) (f : Formed t) (p : ℕ) (lp : p < place_limit) where
   -- the network without the message
-  abbrev n1 : List Place
+  abbrev n1 : List (Option Message)
   n1 = removed t.places p
 
   -- it mentions nothing new

@@ -1,4 +1,5 @@
 -- The events of a host keep a table good
+use Rattle.std.specs.Prelude.{Option}
 use Prim.Native.Nat.{ℕ, ◌≤◌, ◌<◌}
 use mathlib.Core.Path.{◌≡◌, refl, sym, subst, subst⁻¹, ◌∙◌, ap}
 use mathlib.Core.Logic.{◌⊎◌, inl, inr}
@@ -9,7 +10,7 @@ use lib.ListN.{drop}
 use lib.Seq.{get_or-set_same}
 use lib.Dec.{eqb}
 use borrow.Author.Tests.{ltb-true, leb-false, eqb-true, eq-eqb, ne_eqb, not-false}
-use Rattle.one_copy.specs.Types.{Set, Action, Operation, Host, Message, Request, Sort, Place, Table, Outcome}
+use Rattle.one_copy.specs.Types.{Set, Action, Operation, Host, Message, Request, Sort, Table, Outcome}
 use Rattle.one_copy.specs.Listed.{Write, write_of, by_host}
 use Rattle.rules.specs.Codes.{code_of}
 use Rattle.rules.specs.Events.{holders_of}
@@ -40,7 +41,7 @@ pub record SameOp (x y : Seat) : Type 0 where
   pub write : 0 < y.ts → y.write ≡ x.write
   pub value : 0 < y.ts → y.value ≡ x.value
 
-module _ (S : ℕ → Type 0) (b : ℕ) (n : List Place) (ep : ℕ) (x y : Seat) (so : SameOp x y) (et : y.ts ≡ x.ts)
+module _ (S : ℕ → Type 0) (b : ℕ) (n : List (Option Message)) (ep : ℕ) (x y : Seat) (so : SameOp x y) (et : y.ts ≡ x.ts)
     (ec : y.clock ≡ x.clock) (kn : y.known ≤ ep) where
   -- a host with a timestamp is at work
   at_work : (t : ℕ) → y.ts ≡ t → 0 < t → 0 < y.ts
@@ -101,7 +102,7 @@ front_same x y e = record {
 }
 
 -- the same messages
-pub net_same : (b : ℕ) (n : List Place) → NetLe b n n
+pub net_same : (b : ℕ) (n : List (Option Message)) → NetLe b n n
 net_same b n = net_less b n n (λ P z. z)
 
 -- ---- where a finish leaves the host
@@ -120,7 +121,7 @@ unfolding finished
 finished_seat x = ended_seat x (goes_back x.attempt)
 
 -- a message to each chunk of the empty set is none
-none-sent : (n : List Place) (f : ℕ → Message) → sent_to_each n zero_set f ≡ n
+none-sent : (n : List (Option Message)) (f : ℕ → Message) → sent_to_each n zero_set f ≡ n
 unfolding sent_to_each those each fold from
 none-sent n f = refl
 
@@ -232,7 +233,7 @@ module _ (b : ℕ) (h : Hist) (t : Table) (f : Formed t) (s : Shape t) (lb : is_
         m : ℕ → Message
         m c = asking (headed j c (front x).block (stamp clock j)) x.epoch (Request.Prewrite v)
 
-        n : List Place
+        n : List (Option Message)
         n = sent_to_each t.places (holders_of t.creation x) m
     start_as lt Action.Read ea ok (inl eb) = record {
       hist = begins h (stamp clock j).0 read_k 0 x.epoch.0;
@@ -263,7 +264,7 @@ module _ (b : ℕ) (h : Hist) (t : Table) (f : Formed t) (s : Shape t) (lb : is_
         m : ℕ → Message
         m c = asking (headed j c (front x).block (stamp clock j)) x.epoch Request.Read
 
-        n : List Place
+        n : List (Option Message)
         n = sent_to_each t.places (only copy) m
 
         held : In t.creation b copy
@@ -277,7 +278,7 @@ module _ (b : ℕ) (h : Hist) (t : Table) (f : Formed t) (s : Shape t) (lb : is_
         m : ℕ → Message
         m c = asking (headed j c (front x).block (stamp clock j)) x.epoch (opening a)
 
-        n : List Place
+        n : List (Option Message)
         n = sent_to_each t.places (to a) m
 
     -- start
@@ -361,7 +362,7 @@ module _ (b : ℕ) (h : Hist) (t : Table) (f : Formed t) (s : Shape t) (lb : is_
     -- a read sends nothing
     read_net : (o : Bool) → NetLe b
         (sent_to_each t.places zero_set (λ c. asking (headed j c (front x).block x.attempt.timestamp) x.epoch (closing o))) t.places
-    read_net o = subst (λ (n : List Place). NetLe b n t.places) (sym
+    read_net o = subst (λ (n : List (Option Message)). NetLe b n t.places) (sym
         (none-sent t.places (λ c. asking (headed j c (front x).block x.attempt.timestamp) x.epoch (closing o)))) (net_same b t.places)
 
     -- a write of another block sends nothing of this one
@@ -415,7 +416,7 @@ module _ (b : ℕ) (h : Hist) (t : Table) (f : Formed t) (s : Shape t) (lb : is_
     finish_as Action.Read ea true eo (inl eb) = record {
       hist = answers h (record { timestamp = x.attempt.timestamp; value = x.attempt.result });
       good = good-host b (answers h (record { timestamp = x.attempt.timestamp; value = x.attempt.result })) t s j (finished x) _ small
-          (subst⁻¹ (λ (n : List Place). CInv S b (answers h (record { timestamp = x.attempt.timestamp; value = x.attempt.result }))
+          (subst⁻¹ (λ (n : List (Option Message)). CInv S b (answers h (record { timestamp = x.attempt.timestamp; value = x.attempt.result }))
           t.epoch.0 (at j (seat_of (finished x)) (seats_of t)) (part_of t b) n) (none-sent t.places _)
           (end_read S (inside t f b lb) b h t.epoch.0 (seats_of t) (part_of t b) t.places i j (seat_of (finished x)) left.0
           left.1 knows x.attempt.timestamp x.attempt.result

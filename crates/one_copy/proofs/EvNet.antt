@@ -9,7 +9,7 @@ use native.Mathlib.Omega.{arith}
 use lib.ListN.{get_or, take}
 use lib.Seq.{get_or-set_other}
 use borrow.Author.Tests.{ltb-true, ltb-false, eqb-true}
-use Rattle.one_copy.specs.Types.{Timestamp, Epoch, Kind, Entry, Queue, Host, Header, Message, Request, Refusal, Sort, Place, Table, Arrived, Outcome}
+use Rattle.one_copy.specs.Types.{Timestamp, Epoch, Kind, Entry, Queue, Host, Header, Message, Request, Refusal, Sort, Table, Arrived, Outcome}
 use Rattle.rules.specs.Chunks.{with_waiting, silent, is_out_of_order, entry_of, waits, arrived, decides, at_chunk, arrives}
 use Rattle.rules.specs.Events.{host_takes, takes}
 use Rattle.rules.specs.Hosts.{front, counts, answered_by, heard, at_host, hears}
@@ -44,7 +44,7 @@ or_false false b e = (refl, e)
 module _ (b : ℕ) (h : Hist) (t : Table) (f : Formed t) (s : Shape t) (lb : is_block t.creation b ≡ true) (i : Good b h t) (p : ℕ)
     (lp : p < place_limit) where
   -- the network without the message
-  abbrev n1 : List Place
+  abbrev n1 : List (Option Message)
   n1 = removed t.places p
 
   -- the chunks of the set

@@ -1,4 +1,5 @@
 -- A table and its history are good; reading a table with one part changed
+use Rattle.std.specs.Prelude.{Option}
 use Prim.Native.Nat.{ℕ, ◌+◌, ◌*◌, ◌<◌}
 use mathlib.Core.Path.{◌≡◌, refl, sym, subst⁻¹, ◌∙◌, ap, fun_ext}
 use mathlib.Core.Logic.{◌⊎◌, inl, inr}
@@ -9,7 +10,7 @@ use lib.ListN.{get_or, set}
 use lib.Dec.{eqb}
 use lib.Seq.{get_or-set_same, get_or-set_other}
 use borrow.Author.Tests.{eqb-true, not-true, not-false}
-use Rattle.one_copy.specs.Types.{Creation, Record, Chunk, Host, Place, Table, Outcome}
+use Rattle.one_copy.specs.Types.{Creation, Record, Chunk, Host, Table, Outcome, Message}
 use Rattle.one_copy.specs.Listed.{Write}
 use Rattle.rules.specs.Chunks.{emptied}
 use Rattle.rules.specs.Creation.{of_store}
@@ -56,17 +57,17 @@ module _ (t : Table) (f : Formed t) (b : ℕ) (lb : is_block t.creation b ≡ tr
 -- reading an updated table
 module _ (b : ℕ) (h : Hist) (t : Table) (s : Shape t) where
   -- the invariant with other hosts, parts and messages
-  abbrev Views : (ℕ → Seat) → (ℕ → Part) → List Place → Type 0
+  abbrev Views : (ℕ → Seat) → (ℕ → Part) → List (Option Message) → Type 0
   Views hs ps n = CInv (In t.creation b) b h t.epoch.0 hs ps n
 
   -- host j changed
-  pub good-host : (j : ℕ) (x : Host) (n : List Place) → j < host_limit → Views (at j (seat_of x) (seats_of t)) (part_of t b) n
+  pub good-host : (j : ℕ) (x : Host) (n : List (Option Message)) → j < host_limit → Views (at j (seat_of x) (seats_of t)) (part_of t b) n
       → Good b h (with_places (with_host t j x) n)
   good-host j x n l i = subst⁻¹ (λ (g : ℕ → Seat). Views g (part_of t b) n)
       (fun_ext (λ a. ap seat_of (get_d_set t.hosts j x no_host (omega (arith, s.hosts)) a)) ∙ at_map seat_of j x (host_of t)) i
 
   -- chunk c changed, its records as they were
-  pub good-chunk : (c : ℕ) (x : Chunk) (n : List Place) → c < chunk_limit
+  pub good-chunk : (c : ℕ) (x : Chunk) (n : List (Option Message)) → c < chunk_limit
       → Views (seats_of t) (at c (part_with x (record_of t c b)) (part_of t b)) n → Good b h (with_places (with_chunk t c x) n)
   good-chunk c x n l i = subst⁻¹ (λ (g : ℕ → Part). Views (seats_of t) g n)
       (fun_ext (λ a. ap (λ (y : Chunk). part_with y (record_of t a b)) (get_d_set t.chunks c x no_chunk (omega (arith, s.chunks)) a))
@@ -75,12 +76,12 @@ module _ (b : ℕ) (h : Hist) (t : Table) (s : Shape t) where
   -- the records of this block, read
   module _ (f : List Record) (g : ℕ → Record) (e : (a : ℕ) → get_or f (a * block_limit + b) no_record ≡ g a) where
     -- with any messages
-    pub good-records : (n : List Place) → Views (seats_of t) (λ a. part_with (chunk_of t a) (g a)) n
+    pub good-records : (n : List (Option Message)) → Views (seats_of t) (λ a. part_with (chunk_of t a) (g a)) n
         → Good b h (with_places (with_records t f) n)
     good-records n i = subst⁻¹ (λ (g : ℕ → Part). Views (seats_of t) g n) (fun_ext (λ a. ap (part_with (chunk_of t a)) (e a))) i
 
   -- the record of this block
-  pub good_record : (c : ℕ) (r : Record) (n : List Place) → c < chunk_limit → b < block_limit
+  pub good_record : (c : ℕ) (r : Record) (n : List (Option Message)) → c < chunk_limit → b < block_limit
       → Views (seats_of t) (at c (part_with (chunk_of t c) r) (part_of t b)) n → Good b h (with_places (with_record t c b r) n)
   good_record c r n l lb i = good-records (set t.records (c * block_limit + b) r) (at c r (λ a. record_of t a b)) here n
       (subst⁻¹ (λ (g : ℕ → Part). Views (seats_of t) g n) (at_with (λ r c. part_with c r) c r (λ a. record_of t a b) (chunk_of t)) i)
@@ -98,7 +99,7 @@ module _ (b : ℕ) (h : Hist) (t : Table) (s : Shape t) where
       ]
 
   -- the record of another block
-  pub good-far : (c d : ℕ) (r : Record) (n : List Place) → b < block_limit → d < block_limit → (d ≡ b → ⊥)
+  pub good-far : (c d : ℕ) (r : Record) (n : List (Option Message)) → b < block_limit → d < block_limit → (d ≡ b → ⊥)
       → Views (seats_of t) (part_of t b) n → Good b h (with_places (with_record t c d r) n)
   good-far c d r n lb ld far i = good-records (set t.records (c * block_limit + d) r) (λ a. record_of t a b)
       (λ a. get_or-set_other t.records (c * block_limit + d) (a * block_limit + b) r no_record (λ z. far (omega arith))) n i

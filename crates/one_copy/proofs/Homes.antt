@@ -1,4 +1,5 @@
 -- A timestamp belongs to one block: what mentions (timestamp, block), and that no event but a start mentions anything new
+use Rattle.std.specs.Prelude.{Option}
 use Prim.Native.Nat.{ℕ, ◌+◌, ◌*◌, ◌≤◌, ◌<◌}
 use mathlib.Core.Path.{◌≡◌, sym, subst, subst⁻¹, ◌∙◌, ap}
 use mathlib.Core.Logic.{◌⊎◌, inl, inr}
@@ -6,7 +7,7 @@ use mathlib.Core.List.{List}
 use native.Mathlib.Omega.{arith}
 use lib.ListN.{length, get_or, set}
 use lib.Seq.{get_or-set_same}
-use Rattle.one_copy.specs.Types.{Timestamp, Set, Entry, Record, Chunk, Operation, Host, Message, Place, Table}
+use Rattle.one_copy.specs.Types.{Timestamp, Set, Entry, Record, Chunk, Operation, Host, Message, Table}
 use Rattle.rules.specs.Hosts.{front}
 use Rattle.rules.specs.Limits.{host_limit, block_limit, operation_limit, waiting_limit}
 use Rattle.rules.specs.Network.{sent, sent_to_each}
@@ -46,7 +47,7 @@ pub record Less (t' t : Table) : Type 0 where
 
 module _ (t : Table) where
   -- n mentions nothing new
-  abbrev pub NetOk : List Place → Type 0
+  abbrev pub NetOk : List (Option Message) → Type 0
   NetOk n = (u d : ℕ) → Sent n (OfBoth d u) → Mention t u d
 
   -- the same messages
@@ -54,7 +55,7 @@ module _ (t : Table) where
   same_net u d z = inr (inl z)
 
   -- other messages
-  pub less-places : (n : List Place) → NetOk n → Less (with_places t n) t
+  pub less-places : (n : List (Option Message)) → NetOk n → Less (with_places t n) t
   less-places n ok = record {
     ment = λ u d. elim [ inl z ↦ inl z | inr z ↦ elim z [ inl q ↦ ok u d q | inr q ↦ inr (inr q) ] ];
     clocks = λ j. omega arith;
@@ -62,7 +63,7 @@ module _ (t : Table) where
   }
 
   -- host j changed
-  pub less-host : (j : ℕ) (y : Host) (n : List Place) → ((u d : ℕ) → HostAt y u d → Mention t u d) → (host_of t j).clock ≤ y.clock
+  pub less-host : (j : ℕ) (y : Host) (n : List (Option Message)) → ((u d : ℕ) → HostAt y u d → Mention t u d) → (host_of t j).clock ≤ y.clock
       → (Shape t → length y.queue.operations ≡ operation_limit) → NetOk n → Less (with_places (with_host t j y) n) t
   less-host j y n f up len ok = record {
     ment = λ u d. elim [
@@ -85,7 +86,7 @@ module _ (t : Table) where
   less-chunk c x = record { ment = λ u d z. z; clocks = λ j. omega arith; shape = λ s. shape-chunk t s c x }
 
   -- a record changed
-  pub less_record : (c d : ℕ) (r : Record) (n : List Place) → d < block_limit
+  pub less_record : (c d : ℕ) (r : Record) (n : List (Option Message)) → d < block_limit
       → ((u : ℕ) → Any (AtTs u) (in_order r.waiting) → Mention t u d)
       → (Shape t → length r.waiting.entries ≡ waiting_limit) → NetOk n → Less (with_places (with_record t c d r) n) t
   less_record c d r n l f len ok = record {
@@ -105,11 +106,11 @@ module _ (t : Table) where
   }
 
   -- a message more, and messages more
-  pub one_ok : (m : Message) (n : List Place) → NetOk n → ((u d : ℕ) → OfBoth d u m → Mention t u d) → NetOk (sent n m)
+  pub one_ok : (m : Message) (n : List (Option Message)) → NetOk n → ((u d : ℕ) → OfBoth d u m → Mention t u d) → NetOk (sent n m)
   one_ok m n ok f u d z = elim (sent-one (OfBoth d u) m n z) [ inl q ↦ ok u d q | inr q ↦ f u d q ]
 
   -- to each chunk of a set
-  pub each-ok : (f : ℕ → Message) (to : Set) (n : List Place) → NetOk n → ((a u d : ℕ) → OfBoth d u (f a) → Mention t u d)
+  pub each-ok : (f : ℕ → Message) (to : Set) (n : List (Option Message)) → NetOk n → ((a u d : ℕ) → OfBoth d u (f a) → Mention t u d)
       → NetOk (sent_to_each n to f)
   each-ok f to n ok g u d z = elim (sent-each (OfBoth d u) f to n z) [ inl q ↦ ok u d q | inr q ↦ g q.0 u d q.3 ]
 
@@ -161,7 +162,7 @@ module _ (blk : ℕ → ℕ) (t : Table) (s : Shape t) (h : Homes blk t) (j k : 
       let z = d.is_t in let y = d.past in omega arith
 
   -- the host and its messages mention it with block b
-  pub begins-home : (y : Host) (n : List Place) (b : ℕ) → y.attempt.timestamp.0 ≡ (stamp k j).0 → (front y).block ≡ b → y.clock ≡ k
+  pub begins-home : (y : Host) (n : List (Option Message)) (b : ℕ) → y.attempt.timestamp.0 ≡ (stamp k j).0 → (front y).block ≡ b → y.clock ≡ k
       → ((u d : ℕ) → Sent n (OfBoth d u) → Sent t.places (OfBoth d u) ⊎ ((b ≡ d) × ((stamp k j).0 ≡ u)))
       → Homes (at (stamp k j).0 b blk) (with_places (with_host t j y) n)
   begins-home y n b yt yb yc adds u d m = elim cases [

@@ -1,11 +1,12 @@
 -- A host starts and finishes an attempt on block b
+use Rattle.std.specs.Prelude.{Option}
 use Prim.Native.Nat.{ℕ, ◌≤◌, ◌<◌}
 use mathlib.Core.Path.{◌≡◌, refl, sym, ◌∙◌, ap}
 use mathlib.Core.Logic.{◌⊎◌, inl, inr}
 use mathlib.Core.Bool.{true, false}
 use mathlib.Core.List.{List, [], ◌∷◌, ◌++◌}
 use native.Mathlib.Omega.{arith}
-use Rattle.one_copy.specs.Types.{Timestamp, Epoch, Message, Request, Place}
+use Rattle.one_copy.specs.Types.{Timestamp, Epoch, Message, Request}
 use Rattle.one_copy.specs.Listed.{Write}
 use Rattle.rules.specs.Limits.{chunk_limit}
 use Rattle.rules.specs.Messages.{headed, asking}
@@ -39,7 +40,7 @@ pub of_it : (t v : ℕ) (l : List Write) → Any (IsIt t v) l → Any (IsTs t) l
 of_it t v l q = any_map (IsIt t v) (IsTs t) (λ w z. z.0) l q
 
 module _ (S : ℕ → Type 0) (inside : (c : ℕ) → S c → c < chunk_limit) (b : ℕ) (h : Hist) (ep : ℕ) (hs : ℕ → Seat) (ps : ℕ → Part)
-    (n : List Place) (i : CInv S b h ep hs ps n) where
+    (n : List (Option Message)) (i : CInv S b h ep hs ps n) where
   -- two hosts are never at one timestamp
   pub unique : (j k t : ℕ) → (hs j).ts ≡ t → (hs k).ts ≡ t → 0 < t → k ≡ j
   unique j k t p q pos = elim (i.stamps j) [
@@ -87,7 +88,7 @@ module _ (S : ℕ → Type 0) (inside : (c : ℕ) → S c → c < chunk_limit) (
       knows = at_all (λ a x. x.known ≤ ep) j y hs yk (λ a _. i.known a)
 
       -- an attempt on another block: nothing of block b
-      pub start_other : (n' : List Place) → NetLe b n' n → (y.block ≡ b → ⊥) → CInv S b h ep (at j y hs) ps n'
+      pub start_other : (n' : List (Option Message)) → NetLe b n' n → (y.block ≡ b → ⊥) → CInv S b h ep (at j y hs) ps n'
       start_other n' sub far = record {
         inv = shrink S (book h ep) (flow S b h hs n) (λ c. cell_of (ps c)) i.inv (flow S b h (at j y hs) n') (record {
           cur = λ t z. has_w t z;
@@ -138,7 +139,7 @@ module _ (S : ℕ → Type 0) (inside : (c : ℕ) → S c → c < chunk_limit) (
           has_w t z = elim (at_split (λ x. HasW b x t) j y hs z.0 z.1) [ inl p ↦ absurd (far p.1.block) | inr p ↦ (z.0, p.1) ]
 
       -- a write of block b starts
-      pub begin_write : (n' : List Place) (e : Epoch) → ((P : Message → Type 0) → Sent n' P → Sent n P
+      pub begin_write : (n' : List (Option Message)) (e : Epoch) → ((P : Message → Type 0) → Sent n' P → Sent n P
           ⊎ ((d : ℕ) × P (asking (headed j d b (stamp k j)) e (Request.Prewrite y.value))))
           → e.0 ≤ ep → y.write ≡ true → y.block ≡ b → ((c : ℕ) → S c → c among y.out ≡ true) → (s : ℕ) → S s
           → CInv S b (begins h (stamp k j).0 write_k y.value e.0) ep (at j y hs) ps n'
@@ -203,7 +204,7 @@ module _ (S : ℕ → Type 0) (inside : (c : ℕ) → S c → c < chunk_limit) (
           h' = begins h (stamp k j).0 write_k y.value e.0
 
       -- a read of block b starts at a copy
-      pub begin_read : (n' : List Place) (c : ℕ) (e : Epoch) (v : ℕ) → ((P : Message → Type 0) → Sent n' P → Sent n P
+      pub begin_read : (n' : List (Option Message)) (c : ℕ) (e : Epoch) (v : ℕ) → ((P : Message → Type 0) → Sent n' P → Sent n P
           ⊎ P (asking (headed j c b (stamp k j)) e Request.Read))
           → y.write ≡ false → c among y.out ≡ true → S c
           → CInv S b (begins h (stamp k j).0 read_k v e.0) ep (at j y hs) ps n'
@@ -322,7 +323,7 @@ module _ (S : ℕ → Type 0) (inside : (c : ℕ) → S c → c < chunk_limit) (
     rest_r t x z = elim (at_split (λ x'. HasR b x' t x) j y hs z.0 z.1) [ inl p ↦ idle_r t x p.1 | inr p ↦ (z.0, p.1) ]
 
     -- an okay write is committed and listed
-    pub end-commit : (n' : List Place) (t : Timestamp) (e : Epoch) → HasW b (hs j) t.0 → (hs j).okay ≡ true
+    pub end-commit : (n' : List (Option Message)) (t : Timestamp) (e : Epoch) → HasW b (hs j) t.0 → (hs j).okay ≡ true
         → is_empty (hs j).out ≡ true
         → ((P : Message → Type 0) → Sent n' P → Sent n P ⊎ ((d : ℕ) × P (asking (headed j d b t) e Request.Commit)))
         → CInv S b (lists h (record { timestamp = t; value = (hs j).value } ∷ [])) ep (at j y hs) ps n'
@@ -361,7 +362,7 @@ module _ (S : ℕ → Type 0) (inside : (c : ℕ) → S c → c < chunk_limit) (
         other a u z q = unique j a t.0 hw.stamp (z.stamp ∙ q) hw.pos
 
     -- a write that is not okay is aborted
-    pub end-abort : (n' : List Place) (t : Timestamp) (e : Epoch) → HasW b (hs j) t.0 → (hs j).okay ≡ false
+    pub end-abort : (n' : List (Option Message)) (t : Timestamp) (e : Epoch) → HasW b (hs j) t.0 → (hs j).okay ≡ false
         → ((P : Message → Type 0) → Sent n' P → Sent n P ⊎ ((d : ℕ) × P (asking (headed j d b t) e Request.Abort)))
         → CInv S b h ep (at j y hs) ps n'
     end-abort n' t e hw ok adds = record {
@@ -394,7 +395,7 @@ module _ (S : ℕ → Type 0) (inside : (c : ℕ) → S c → c < chunk_limit) (
         other a u z q = unique j a t.0 hw.stamp (z.stamp ∙ q) hw.pos
 
     -- nothing of block b, or a read of it that failed
-    pub end-other : (n' : List Place) → NetLe b n' n → CInv S b h ep (at j y hs) ps n'
+    pub end-other : (n' : List (Option Message)) → NetLe b n' n → CInv S b h ep (at j y hs) ps n'
     end-other n' sub = quiet S b h ep hs ps n i j y n' sub (record {
       w = λ t z. idle_w t z;
       okay = λ t z. idle_w t z;

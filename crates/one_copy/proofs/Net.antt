@@ -5,7 +5,7 @@ use mathlib.Core.Path.{◌≡◌, sym, ◌∙◌, ap}
 use mathlib.Core.Logic.{◌⊎◌, inl, inr}
 use mathlib.Core.Bool.{true}
 use mathlib.Core.List.{List, [], ◌∷◌}
-use Rattle.one_copy.specs.Types.{Set, Header, Message, Request, Sort, Place}
+use Rattle.one_copy.specs.Types.{Set, Header, Message, Request, Sort}
 use Rattle.rules.specs.Limits.{chunk_limit}
 use Rattle.rules.specs.Messages.{header_of, sort_of, message_of}
 use Rattle.rules.specs.Network.{is_free, chunks_of, removed, sent, sent_to_each}
@@ -69,16 +69,16 @@ OnSlot P None = ⊥
 OnSlot P (Some m) = P m
 
 -- some place has a message that is P
-abbrev pub Sent : List Place → (Message → Type 0) → Type 0
-Sent n P = Any (λ p. OnSlot P p.slot) n
+abbrev pub Sent : List (Option Message) → (Message → Type 0) → Type 0
+Sent n P = Any (λ p. OnSlot P p) n
 
 -- one message more
-pub sent-one : (P : Message → Type 0) (m : Message) (n : List Place) → Sent (sent n m) P → Sent n P ⊎ P m
+pub sent-one : (P : Message → Type 0) (m : Message) (n : List (Option Message)) → Sent (sent n m) P → Sent n P ⊎ P m
 unfolding sent
-sent-one P m n h = any_set (λ p. OnSlot P p.slot) n (place is_free n) (record { slot = Some m }) h
+sent-one P m n h = any_set (λ p. OnSlot P p) n (place is_free n) (Some m) h
 
 -- messages one after another
-sent-list : (P : Message → Type 0) (f : ℕ → Message) (l : List ℕ) (n : List Place) → Sent (fold sent n (each f l)) P → Sent n P
+sent-list : (P : Message → Type 0) (f : ℕ → Message) (l : List ℕ) (n : List (Option Message)) → Sent (fold sent n (each f l)) P → Sent n P
     ⊎ Any (λ d. P (f d)) l
 unfolding fold each
 sent-list P f [] n h = inl h
@@ -89,7 +89,7 @@ sent-list P f (d ∷ l) n h = elim (sent-list P f l (sent n (f d)) h) [
 ]
 
 -- one message to each chunk of a set
-pub sent-each : (P : Message → Type 0) (f : ℕ → Message) (to : Set) (n : List Place) → Sent (sent_to_each n to f) P → Sent n P
+pub sent-each : (P : Message → Type 0) (f : ℕ → Message) (to : Set) (n : List (Option Message)) → Sent (sent_to_each n to f) P → Sent n P
     ⊎ ((d : ℕ) × (d < chunk_limit) × (d among to ≡ true) × P (f d))
 unfolding sent_to_each
 sent-each P f to n h = elim (sent-list P f (chunks_of to) n h) [
@@ -99,9 +99,9 @@ sent-each P f to n h = elim (sent-list P f (chunks_of to) n h) [
 ]
 
 -- a message that was taken out
-pub sent-taken : (P : Message → Type 0) (n : List Place) (p : ℕ) → Sent (removed n p) P → Sent n P
-sent-taken P n p h = elim (any_set (λ p. OnSlot P p.slot) n p zero_place h) [ inl q ↦ q | inr q ↦ absurd q ]
+pub sent-taken : (P : Message → Type 0) (n : List (Option Message)) (p : ℕ) → Sent (removed n p) P → Sent n P
+sent-taken P n p h = elim (any_set (λ p. OnSlot P p) n p zero_place h) [ inl q ↦ q | inr q ↦ absurd q ]
 
 -- the message at a place
-pub sent-at : (P : Message → Type 0) (n : List Place) (p : ℕ) (m : Message) → slot_of n p ≡ Some m → P m → Sent n P
-sent-at P n p m e h = any_get_d (λ p. OnSlot P p.slot) n p zero_place (λ q. q) (rw e h)
+pub sent-at : (P : Message → Type 0) (n : List (Option Message)) (p : ℕ) (m : Message) → slot_of n p ≡ Some m → P m → Sent n P
+sent-at P n p m e h = any_get_d (λ p. OnSlot P p) n p zero_place (λ q. q) (rw e h)

@@ -1,4 +1,5 @@
 -- The arrays of a table have their lengths. No rule tests that, and every event keeps it
+use Rattle.std.specs.Prelude.{Option}
 use Prim.Native.Nat.{ℕ, ◌+◌, ◌*◌, ◌≤◌, ◌<◌}
 use mathlib.Core.Path.{◌≡◌, refl, ◌∙◌, ap}
 use mathlib.Core.Logic.{inl, inr}
@@ -7,7 +8,7 @@ use mathlib.Core.List.{List, [], ◌∷◌, ◌++◌}
 use native.Mathlib.Omega.{arith}
 use lib.ListN.{length, get_or, length-append, length-take, length-set, get_or-replicate, get_or-eq_default}
 use borrow.Author.Tests.{lt-ltb}
-use Rattle.one_copy.specs.Types.{Epoch, Creation, Entry, Record, Chunk, Operation, Host, Place, Table}
+use Rattle.one_copy.specs.Types.{Epoch, Creation, Entry, Record, Chunk, Operation, Host, Table, Message}
 use Rattle.rules.specs.Creation.{fresh_host, fresh_chunk, fresh}
 use Rattle.rules.specs.Hosts.{operations_of, queue_of, front, appended}
 use Rattle.rules.specs.Limits.{host_limit, chunk_limit, block_limit, operation_limit, waiting_limit}
@@ -91,7 +92,7 @@ module _ (t : Table) (s : Shape t) where
   }
 
   -- the places
-  pub shape-places : (n : List Place) → Shape (with_places t n)
+  pub shape-places : (n : List (Option Message)) → Shape (with_places t n)
   shape-places n = record { hosts = s.hosts; chunks = s.chunks; records = s.records; queues = s.queues; entries = s.entries }
 
   -- all records anew

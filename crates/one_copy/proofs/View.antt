@@ -1,11 +1,12 @@
 -- The store as one block sees it, with its history: from tables to `Inv`
+use Rattle.std.specs.Prelude.{Option}
 use Prim.Native.Nat.{ℕ, ◌≤◌, ◌<◌}
 use mathlib.Core.Path.{◌≡◌, sym, ◌∙◌, ap}
 use mathlib.Core.Logic.{◌⊎◌, inl, inr}
 use mathlib.Core.Bool.{Bool, true, false, not}
 use mathlib.Core.List.{List}
 use native.Mathlib.Omega.{arith}
-use Rattle.one_copy.specs.Types.{Set, Kind, Entry, Record, State, Chunk, Action, Host, Header, Message, Refusal, Sort, Place, Table}
+use Rattle.one_copy.specs.Types.{Set, Kind, Entry, Record, State, Chunk, Action, Host, Header, Message, Refusal, Sort, Table}
 use Rattle.one_copy.specs.Listed.{Write}
 use Rattle.rules.specs.Hosts.{front}
 use Rattle.rules.specs.Kinds.{is_normal, is_reading}
@@ -145,7 +146,7 @@ pub record HasR (b : ℕ) (x : Seat) (t v : ℕ) : Type 0 where
   pub value : x.result ≡ v
 
 -- what hosts and messages are as a flow
-abbrev pub flow : (ℕ → Type 0) → ℕ → Hist → (ℕ → Seat) → List Place → Flow
+abbrev pub flow : (ℕ → Type 0) → ℕ → Hist → (ℕ → Seat) → List (Option Message) → Flow
 flow S b h hs n = record {
   cur = λ t. (j : ℕ) × HasW b (hs j) t;
   act = λ t. (j : ℕ) × HasW b (hs j) t × ((hs j).okay ≡ true);
@@ -158,7 +159,7 @@ flow S b h hs n = record {
 }
 
 -- no more of block b is in flight
-pub record NetLe (b : ℕ) (n' n : List Place) : Type 0 where
+pub record NetLe (b : ℕ) (n' n : List (Option Message)) : Type 0 where
   pub ack : (t c : ℕ) → Sent n' (OfAck b t c) → Sent n (OfAck b t c)
   pub pre : (c t e v : ℕ) → Sent n' (OfPre b c t e v) → Sent n (OfPre b c t e v)
   pub rdm : (c t : ℕ) → Sent n' (OfRead b c t) → Sent n (OfRead b c t)
@@ -176,7 +177,7 @@ pub record Foreign (b : ℕ) (m : Message) : Type 0 where
   pub value : (t x : ℕ) → OfValue b t x m → ⊥
 
 -- fewer messages
-pub net_less : (b : ℕ) (n' n : List Place) → ((P : Message → Type 0) → Sent n' P → Sent n P) → NetLe b n' n
+pub net_less : (b : ℕ) (n' n : List (Option Message)) → ((P : Message → Type 0) → Sent n' P → Sent n P) → NetLe b n' n
 net_less b n' n sub = record {
   ack = λ t c. sub (OfAck b t c);
   pre = λ c t e v. sub (OfPre b c t e v);
@@ -187,7 +188,7 @@ net_less b n' n sub = record {
 }
 
 -- more messages that say nothing of block b
-pub net_foreign : (b : ℕ) (n' n : List Place) (D : Type 0) (f : D → Message)
+pub net_foreign : (b : ℕ) (n' n : List (Option Message)) (D : Type 0) (f : D → Message)
     → ((P : Message → Type 0) → Sent n' P → Sent n P ⊎ ((d : D) × P (f d))) → ((d : D) → Foreign b (f d)) → NetLe b n' n
 net_foreign b n' n D f adds none = record {
   ack = λ t c h. elim (adds (OfAck b t c) h) [ inl q ↦ q | inr q ↦ absurd ((none q.0).ack t c q.1) ];
@@ -237,7 +238,7 @@ abbrev pub Stamped : ℕ → Seat → Type 0
 Stamped j x = (x.ts ≡ 0) ⊎ ((x.ts ≡ (stamp x.clock j).0) × (j < 8))
 
 module _ (S : ℕ → Type 0) (b : ℕ) where
-  pub record CInv (h : Hist) (ep : ℕ) (hs : ℕ → Seat) (ps : ℕ → Part) (n : List Place) : Type 0 where
+  pub record CInv (h : Hist) (ep : ℕ) (hs : ℕ → Seat) (ps : ℕ → Part) (n : List (Option Message)) : Type 0 where
     pub inv : Inv S (book h ep) (flow S b h hs n) (λ c. cell_of (ps c))
     pub vals : (t v : ℕ) → Any (IsIt t v) h.listed → h.value t ≡ v
     pub drawn : (t : ℕ) → (h.kind t ≡ idle) ⊎ Drawn hs t
@@ -247,7 +248,7 @@ module _ (S : ℕ → Type 0) (b : ℕ) where
     pub known : (j : ℕ) → (hs j).known ≤ ep
 
   -- a host's change that says nothing new
-  pub record Quiet (n : List Place) (ep : ℕ) (x y : Seat) : Type 0 where
+  pub record Quiet (n : List (Option Message)) (ep : ℕ) (x y : Seat) : Type 0 where
     pub w : (t : ℕ) → HasW b y t → HasW b x t
     pub okay : (t : ℕ) → HasW b y t → y.okay ≡ true → x.okay ≡ true
     pub out : (t : ℕ) → HasW b y t → y.okay ≡ true → (c : ℕ) → c among y.out ≡ false → (c among x.out ≡ false) ⊎ Sent n (OfAck b t c)
@@ -257,9 +258,9 @@ module _ (S : ℕ → Type 0) (b : ℕ) where
     pub clock : y.clock ≡ x.clock
     pub known : y.known ≤ ep
 
-  module _ (h : Hist) (ep : ℕ) (hs : ℕ → Seat) (ps : ℕ → Part) (n : List Place) (i : CInv h ep hs ps n) where
+  module _ (h : Hist) (ep : ℕ) (hs : ℕ → Seat) (ps : ℕ → Part) (n : List (Option Message)) (i : CInv h ep hs ps n) where
     -- such a change keeps the invariant
-    pub quiet : (j : ℕ) (y : Seat) (n' : List Place) → NetLe b n' n → Quiet n ep (hs j) y → CInv h ep (at j y hs) ps n'
+    pub quiet : (j : ℕ) (y : Seat) (n' : List (Option Message)) → NetLe b n' n → Quiet n ep (hs j) y → CInv h ep (at j y hs) ps n'
     quiet j y n' sub q = record {
       inv = shrink S (book h ep) (flow S b h hs n) (λ c. cell_of (ps c)) i.inv (flow S b h (at j y hs) n') (record {
         cur = λ t. wat t;

@@ -1,4 +1,5 @@
 -- What a well-formed table says, fact by fact, and the way back
+use Rattle.std.specs.Prelude.{Option}
 use Prim.Native.Nat.{ℕ, zero, suc, ◌-◌, ◌≤◌, ◌<◌}
 use mathlib.Core.Path.{◌≡◌, refl, sym, ap, ◌∙◌}
 use mathlib.Core.Bool.{Bool, true, false, cond, not, ◌&&◌, ◌||◌, true≢false}
@@ -8,7 +9,7 @@ use lib.ListN.{length, get_or}
 use lib.Dec.{eqb, ltb, leb}
 use lib.Seq.{get_or-take}
 use borrow.Author.Tests.{ltb-true, ltb-false, leb-true, le-leb, le-ltb, eqb-true, not-true}
-use Rattle.rules.specs.Types.{Timestamp, Epoch, Set, Creation, Entry, Waiting, Record, Chunk, Operation, Queue, Attempt, Host, Header, Message, Sort, Place, Table}
+use Rattle.rules.specs.Types.{Timestamp, Epoch, Set, Creation, Entry, Waiting, Record, Chunk, Operation, Queue, Attempt, Host, Header, Message, Sort, Table}
 use Rattle.rules.specs.Creation.{is_creation, of_store, is_set_of}
 use Rattle.rules.specs.Formed.{operation_formed, operation_at, queue_formed, attempt_formed, host_formed, chunk_formed, entry_formed, entry_at, waiting_formed, record_formed, sort_formed, message_formed, slot_formed, host_at, chunk_at, record_at, well_formed, hosts_formed, chunks_formed, records_formed, places_formed}
 use Rattle.rules.specs.Hosts.{operations_of, queue_of, front}
@@ -360,7 +361,7 @@ module _ (k : Creation) where
   message_formed_lem h s f e = rw ((made h s).0, (made h s).1, f.host, f.chunk, f.block, f.timestamp, e) refl
 
   -- each place is empty or has a formed message
-  abbrev pub FormedPlaces : List Place → Type 0
+  abbrev pub FormedPlaces : List (Option Message) → Type 0
   FormedPlaces l = (p : ℕ) → p < place_limit → slot_formed k (slot_of l p) ≡ true
 
 -- ---- the table

@@ -7,7 +7,7 @@ use mathlib.Core.Bool.{true}
 use mathlib.Core.List.{List}
 use native.Mathlib.Omega.{arith}
 use lib.ListN.{get_or, set}
-use Rattle.rules.specs.Types.{Set, Creation, Record, Chunk, Host, Message, Place, Table}
+use Rattle.rules.specs.Types.{Set, Creation, Record, Chunk, Host, Message, Table}
 use Rattle.rules.specs.Codes.{code_of}
 use Rattle.rules.specs.Creation.{of_store}
 use Rattle.rules.specs.Events.{EventKind}
@@ -95,7 +95,7 @@ module _ (t : Table) (f : Formed t) where
   }
 
   -- formed places
-  places-kept : (l : List Place) → FormedPlaces t.creation l → Formed (with_places t l)
+  places-kept : (l : List (Option Message)) → FormedPlaces t.creation l → Formed (with_places t l)
   places-kept l g = record {
     creation = f.creation;
     epoch = f.epoch;
@@ -109,16 +109,16 @@ module _ (t : Table) (f : Formed t) where
 
 module _ (k : Creation) where
   -- what is formed laid in a place
-  laid : (l : List Place) (p : ℕ) (x : Place) → FormedPlaces k l → slot_formed k x.slot ≡ true → FormedPlaces k (set l p x)
-  laid l p x f h = set_all (λ i (y : Place). i < place_limit → slot_formed k y.slot ≡ true) zero_place l p x (λ _. h) f
+  laid : (l : List (Option Message)) (p : ℕ) (x : Option Message) → FormedPlaces k l → slot_formed k x ≡ true → FormedPlaces k (set l p x)
+  laid l p x f h = set_all (λ i (y : Option Message). i < place_limit → slot_formed k y ≡ true) zero_place l p x (λ _. h) f
 
   -- a formed message sent
-  sent-formed : (l : List Place) (m : Message) → FormedPlaces k l → message_formed k m ≡ true → FormedPlaces k (sent l m)
+  sent-formed : (l : List (Option Message)) (m : Message) → FormedPlaces k l → message_formed k m ≡ true → FormedPlaces k (sent l m)
   unfolding sent
-  sent-formed l m f h = laid l (place is_free l) (record { slot = Some m }) f h
+  sent-formed l m f h = laid l (place is_free l) (Some m) f h
 
   -- a formed reply, or none
-  replied-formed : (l : List Place) (s : Option Message) → FormedPlaces k l → slot_formed k s ≡ true → FormedPlaces k (replied l s)
+  replied-formed : (l : List (Option Message)) (s : Option Message) → FormedPlaces k l → slot_formed k s ≡ true → FormedPlaces k (replied l s)
   unfolding replied
   replied-formed l None f h = f
   replied-formed l (Some m) f h = sent-formed l m f h

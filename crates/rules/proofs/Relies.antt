@@ -7,7 +7,7 @@ use mathlib.Core.List.{List, [], ◌∷◌}
 use native.Mathlib.Omega.{arith}
 use lib.ListN.{length, set}
 use borrow.Author.Tests.{ltb-false, leb-true, leb-false, le-leb, eqb-false, not-false}
-use Rattle.rules.specs.Types.{Epoch, Set, Creation, Waiting, State, Chunk, Host, Message, Place}
+use Rattle.rules.specs.Types.{Epoch, Set, Creation, Waiting, State, Chunk, Host, Message}
 use Rattle.rules.specs.Chunks.{run_refusals, overdue_refusals}
 use Rattle.rules.specs.Codes.{code_of}
 use Rattle.rules.specs.Events.{all_lost, epoch_refusals}
@@ -114,7 +114,7 @@ place_message None e = absurd (omega arith)
 place_message (Some m) e = (m, refl)
 
 -- a free place is one of the network's
-pub free_inside : (places : List Place) → 0 < free_places places → place is_free places < length places
+pub free_inside : (places : List (Option Message)) → 0 < free_places places → place is_free places < length places
 unfolding free_places those place
 free_inside [] h = absurd (omega arith)
 free_inside (p ∷ ps) h = go (is_free p) h (free_inside ps)
@@ -124,19 +124,19 @@ free_inside (p ∷ ps) h = go (is_free p) h (free_inside ps)
     go false h f = let k = f h in omega arith
 
 -- a message that is sent takes one free place
-pub sent-takes-one : (places : List Place) (m : Message) → 0 < free_places places → free_places (sent places m) + 1 ≡ free_places places
+pub sent-takes-one : (places : List (Option Message)) (m : Message) → 0 < free_places places → free_places (sent places m) + 1 ≡ free_places places
 unfolding free_places sent those place
 sent-takes-one [] m h = absurd (omega arith)
 sent-takes-one (p ∷ ps) m h = go (is_free p) refl h (sent-takes-one ps m)
   where
     go : (b : Bool) → is_free p ≡ b → 0 < length (cond b (p ∷ those is_free ps) (those is_free ps))
-        → (0 < length (those is_free ps) → length (those is_free (set ps (place is_free ps) (record { slot = Some m }))) + 1 ≡ length (those is_free ps))
-        → length (those is_free (set (p ∷ ps) (cond b 0 (suc (place is_free ps))) (record { slot = Some m }))) + 1 ≡ length (cond b (p ∷ those is_free ps) (those is_free ps))
+        → (0 < length (those is_free ps) → length (those is_free (set ps (place is_free ps) (Some m))) + 1 ≡ length (those is_free ps))
+        → length (those is_free (set (p ∷ ps) (cond b 0 (suc (place is_free ps))) (Some m))) + 1 ≡ length (cond b (p ∷ those is_free ps) (those is_free ps))
     go true d h f = omega arith
     go false d h f = rw d (f h)
 
 -- so messages for which there is room each take a free place, and none is lost
-pub sent-all : (places : List Place) (ms : List Message) → length ms ≤ free_places places → free_places (fold sent places ms) + length ms ≡ free_places places
+pub sent-all : (places : List (Option Message)) (ms : List Message) → length ms ≤ free_places places → free_places (fold sent places ms) + length ms ≡ free_places places
 unfolding fold
 sent-all places [] h = omega arith
 sent-all places (m ∷ ms) h =
@@ -145,7 +145,7 @@ sent-all places (m ∷ ms) h =
     omega arith
 
 -- "so room never lacks": the place of the message itself is free for its reply
-pub reply-room : (places : List Place) (p : ℕ) → p < length places → 0 < free_places (removed places p)
+pub reply-room : (places : List (Option Message)) (p : ℕ) → p < length places → 0 < free_places (removed places p)
 unfolding free_places those
 reply-room [] p h = absurd (omega arith)
 reply-room (x ∷ xs) zero h = omega arith

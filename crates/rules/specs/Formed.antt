@@ -1,7 +1,7 @@
 -- Document 01: "A table is well formed when every number is within the ranges above, counts are within limits, waiting entries are
 -- in ascending timestamp order (equal allowed), all chunks have one epoch, the store's, and unused places are zero"
 use Rattle.std.specs.Prelude.{ℕ, ◌-◌, Bool, true, false, not, ◌&&◌, ◌||◌, List, get_or, ltb, leb, if◌then◌else◌, None, Option, Some}
-use Rattle.rules.specs.Types.{Epoch, Creation, Entry, Waiting, Record, Chunk, Operation, Queue, Attempt, Host, Header, Message, Sort, Table, Place}
+use Rattle.rules.specs.Types.{Epoch, Creation, Entry, Waiting, Record, Chunk, Operation, Queue, Attempt, Host, Header, Message, Sort, Table}
 use Rattle.rules.specs.Creation.{is_creation, of_store}
 use Rattle.rules.specs.Limits.{host_limit, chunk_limit, block_limit, operation_limit, waiting_limit, place_limit, greatest_clock, up_to}
 use Rattle.rules.specs.Messages.{header_of, sort_of}
@@ -99,7 +99,7 @@ module _ (k : Creation) where
   abbrev pub records_formed : List Record → Bool
   records_formed records = every (λ c. every (λ b. record_at c b (get_or records (at c b) no_record)) (numbers block_limit)) (numbers chunk_limit)
 
-  abbrev pub places_formed : List Place → Bool
+  abbrev pub places_formed : List (Option Message) → Bool
   places_formed places = every (λ p. slot_formed (slot_of places p)) (numbers place_limit)
 
 unfoldable pub well_formed : Table → Bool

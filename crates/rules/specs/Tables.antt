@@ -1,6 +1,6 @@
 -- The table: its parts, and the table with one part changed
 use Rattle.std.specs.Prelude.{ℕ, ◌+◌, ◌*◌, Bool, List, get_or, set, ltb, Option}
-use Rattle.rules.specs.Types.{Epoch, Set, Creation, Record, Chunk, Host, Place, Table, Message}
+use Rattle.rules.specs.Types.{Epoch, Set, Creation, Record, Chunk, Host, Table, Message}
 use Rattle.rules.specs.Limits.{chunk_limit, block_limit}
 use Rattle.rules.specs.Words.{each, joined, numbers}
 use Rattle.rules.specs.Zero.{no_set, no_chunk, no_record, no_host, zero_place}
@@ -39,8 +39,8 @@ record_of t c b = get_or t.records (at c b) no_record
 abbrev pub records_by : ((chunk block : ℕ) → Record) → List Record
 records_by f = joined (each (λ c. each (f c) (numbers block_limit)) (numbers chunk_limit))
 
-abbrev pub slot_of : List Place → ℕ → Option Message
-slot_of places p = (get_or places p zero_place).slot
+abbrev pub slot_of : List (Option Message) → ℕ → Option Message
+slot_of places p = get_or places p zero_place
 
 -- ---- the table with one part changed
 
@@ -56,7 +56,7 @@ with_chunks t x = record { creation = t.creation; epoch = t.epoch; hosts = t.hos
 abbrev pub with_records : Table → List Record → Table
 with_records t x = record { creation = t.creation; epoch = t.epoch; hosts = t.hosts; chunks = t.chunks; records = x; places = t.places }
 
-abbrev pub with_places : Table → List Place → Table
+abbrev pub with_places : Table → List (Option Message) → Table
 with_places t x = record { creation = t.creation; epoch = t.epoch; hosts = t.hosts; chunks = t.chunks; records = t.records; places = x }
 
 abbrev pub with_host : Table → ℕ → Host → Table

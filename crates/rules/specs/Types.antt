@@ -1,4 +1,5 @@
 -- The types of src/lib.rt
+pub use Rattle.rules.specs.declared.Refused.{Refused}
 pub use Rattle.rules.specs.declared.Timestamp.{Timestamp}
 pub use Rattle.rules.specs.declared.Epoch.{Epoch}
 pub use Rattle.rules.specs.declared.Set.{Set}
@@ -19,7 +20,6 @@ pub use Rattle.rules.specs.declared.Message.{Message}
 pub use Rattle.rules.specs.declared.Request.{Request}
 pub use Rattle.rules.specs.declared.Refusal.{Refusal}
 pub use Rattle.rules.specs.declared.Sort.{Sort}
-pub use Rattle.rules.specs.declared.Place.{Place}
 pub use Rattle.rules.specs.declared.Table.{Table}
 pub use Rattle.rules.specs.declared.Created.{Created}
 pub use Rattle.rules.specs.declared.Arrived.{Arrived}

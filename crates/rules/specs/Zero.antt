@@ -1,6 +1,7 @@
 -- What zero is for each type: numbers 0, bools false, an enum's first case. Unused places hold it
+use Rattle.std.specs.Prelude.{Option}
 use Rattle.std.specs.Prelude.{ℕ, ◌*◌, Bool, false, ◌&&◌, not, [], get_or, replicate, eqb, None}
-use Rattle.rules.specs.Types.{Set, Creation, Kind, Entry, Waiting, Record, State, Chunk, Action, Operation, Queue, Attempt, Host, Place, Table, Copy}
+use Rattle.rules.specs.Types.{Set, Creation, Kind, Entry, Waiting, Record, State, Chunk, Action, Operation, Queue, Attempt, Host, Table, Copy, Message}
 use Rattle.rules.specs.Built.{creation_of, entry_with, blank, copy_with, operation_of}
 use Rattle.rules.specs.Kinds.{is_read, is_normal, is_reading}
 use Rattle.rules.specs.Limits.{host_limit, chunk_limit, block_limit, operation_limit, waiting_limit, place_limit}
@@ -78,8 +79,8 @@ is_zero_host h =
 
 -- ---- a place of the network: empty
 
-abbrev pub zero_place : Place
-zero_place = record { slot = None }
+abbrev pub zero_place : Option Message
+zero_place = None
 
 -- ---- the whole table
 

@@ -25,6 +25,27 @@ pub const CLOCK_FACTOR: u64 = 8;
 
 pub const GREATEST_TIMESTAMP: u64 = 34359738367;
 
+// Why an event or a creation is refused, with the code that document 01 gives it. (0 is "done".)
+#[derive(Clone, Copy, PartialEq, Eq)]
+pub enum Refused {
+    // "number outside its range, unknown kind, unused operand not 0, or a read's chosen copy not in the block's set"
+    OutOfRange = 1,
+    // "the party isn't in the state that the step names"
+    NotInState = 2,
+    // "clock not above the host's last drawn"
+    ClockNotAbove = 3,
+    // "host already has 8 operations"
+    QueueFull = 4,
+    // "the step's messages exceed the free places"
+    NoRoom = 5,
+    // "for some block every chunk of its set is lost"
+    AllLost = 6,
+    // "epoch is 4,294,967,295"
+    LastEpoch = 7,
+    // "table not well formed"
+    NotFormed = 8,
+}
+
 // Codes, named once: what document 01 says of each.
 pub const DONE: u64 = 0;
 
@@ -53,10 +74,10 @@ pub const LAST_EPOCH: u64 = 7;
 pub const NOT_FORMED: u64 = 8;
 
 // 0 means "never".
-#[derive(Clone, Copy)]
+#[derive(Clone, Copy, PartialEq, Eq, PartialOrd, Ord)]
 pub struct Timestamp(pub u64);
 
-#[derive(Clone, Copy)]
+#[derive(Clone, Copy, PartialEq, Eq, PartialOrd, Ord)]
 pub struct Epoch(pub u64);
 
 // A set of chunks.
@@ -76,7 +97,7 @@ pub struct Creation {
 }
 
 // A waiting entry is a read, an undecided write, a committed write or an aborted write; a write has its value.
-#[derive(Clone, Copy)]
+#[derive(Clone, Copy, PartialEq, Eq)]
 pub enum Kind {
     Read,
     Undecided(u64),
@@ -108,7 +129,7 @@ pub struct Record {
     pub waiting: Waiting,
 }
 
-#[derive(Clone, Copy)]
+#[derive(Clone, Copy, PartialEq, Eq)]
 pub enum State {
     Normal,
     Nolease,
@@ -124,7 +145,7 @@ pub struct Chunk {
     pub reconcile: [bool; BLOCKS],
 }
 
-#[derive(Clone, Copy)]
+#[derive(Clone, Copy, PartialEq, Eq)]
 pub enum Action {
     Read,
     Write(u64),
@@ -272,13 +293,7 @@ pub enum Sort {
     PrewriteReply,
 }
 
-// One place of the network.
-#[derive(Clone, Copy)]
-pub struct Place {
-    pub slot: Option<Message>,
-}
-
-// The record of chunk c and block b stands at c x 16 + b.
+// The record of chunk c and block b stands at c x 16 + b; a place of the network holds a message or nothing.
 #[derive(Clone, Copy)]
 pub struct Table {
     pub creation: Creation,
@@ -286,7 +301,7 @@ pub struct Table {
     pub hosts: [Host; HOSTS],
     pub chunks: [Chunk; CHUNKS],
     pub records: [Record; RECORDS],
-    pub places: [Place; PLACES],
+    pub places: [Option<Message>; PLACES],
 }
 
 // The answer to a creation; a refused one gives no store, that is a table of zeros.
@@ -322,7 +337,7 @@ pub struct Event {
 }
 
 // What an operand is: the number of a host, a chunk, a block or a place, a clock, a time, a value; unused; of an unknown kind.
-#[derive(Clone, Copy)]
+#[derive(Clone, Copy, PartialEq, Eq)]
 pub enum Operand {
     Unknown,
     Unused,
@@ -360,4 +375,33 @@ pub struct Answer {
 pub struct Reply {
     pub code: u64,
     pub outcome: Outcome,
+}
+
+impl From<Refused> for u64 {
+    ghost use Rattle.std.specs.Prelude.{◌≡◌};
+    ghost use Rattle.rules.specs.Codes.{number_of};
+
+    ghost from_gives = { λ why code. code ≡ number_of why };
+
+    fn from(why: Refused) -> u64 {
+        why as u64
+    }
+}
+
+// A refusal has no outcome.
+impl From<Result<Outcome, Refused>> for Reply {
+    ghost use Rattle.std.specs.Prelude.{◌≡◌};
+    ghost use Rattle.rules.specs.Codes.{reply_by};
+
+    ghost from_gives = { λ answer reply. reply ≡ reply_by answer };
+
+    fn from(answer: Result<Outcome, Refused>) -> Reply {
+        match answer {
+            Ok(outcome) => Reply { code: 0, outcome },
+            Err(why) => Reply {
+                code: u64::from(why),
+                outcome: Outcome::None,
+            },
+        }
+    }
 }

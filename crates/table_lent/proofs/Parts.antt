@@ -1,4 +1,5 @@
 -- The parts of the table: where each lies, and how it is taken out and put back.
+use Rattle.std.specs.Prelude.{Option}
 use mathlib.Core.Path.{◌≡◌, refl, sym, ap, subst}
 use Prim.Native.Nat.{ℕ, ◌+◌, ◌≤◌, ◌<◌}
 use mathlib.Core.List.{List}
@@ -13,6 +14,7 @@ use borrow.Table.Elements.{at}
 use borrow.Struct.Behind.{put_at_lem}
 use borrow.Struct.Inner.{Cut-record}
 use lib.Seq.{set-get_or, set_out}
+use Rattle.rules.specs.declared.Message.{Message}
 use Rattle.rules.specs.Tables.{with_epoch, with_hosts, with_chunks, with_records, with_places}
 use Rattle.rules.specs.Zero.{zero_host, zero_chunk, zero_record, zero_place}
 use Rattle.rules.specs.contracts.Table as TableR
@@ -27,7 +29,7 @@ use Rattle.rules.specs.declared.Chunk.{Chunk}
 use Rattle.rules.specs.contracts.Chunk as ChunkR
 use Rattle.rules.specs.declared.Record.{Record}
 use Rattle.rules.specs.contracts.Record as RecordR
-use Rattle.rules.specs.declared.Place.{Place}
+
 use Rattle.rules.specs.contracts.Place as PlaceR
 use Rattle.table_lent.proofs.Hole.{Hole, within, element, sized}
 
@@ -133,15 +135,15 @@ place_same h k = ap (with_places h) (set-get_or h.places k zero_place)
 pub place-beyond : (h : Table) (k : ℕ) → length h.places ≡ 64 → 64 ≤ k → zero_place ≡ get_or h.places k zero_place
 place-beyond h k l le = sym (get_or-eq_default h.places zero_place (subst (λ (j : ℕ). j ≤ k) (sym l) le))
 
-pub place_unset : (h : Table) (k : ℕ) (x : Place) → length h.places ≡ 64 → 64 ≤ k → h ≡ with_places h (set h.places k x)
+pub place_unset : (h : Table) (k : ℕ) (x : Option Message) → length h.places ≡ 64 → 64 ≤ k → h ≡ with_places h (set h.places k x)
 place_unset h k x l le = sym (ap (with_places h) (set_out h.places k x (subst (λ (j : ℕ). j ≤ k) (sym l) le)))
 
 module _ {M : Type 1} {𝓤 : Ura M} (𝓛 : Logic 𝓤) (q : Share) where
-  places_hole : (h : Table) (xs : List Place) (b o : ℕ) → Hole 𝓛 q TableR.the_row (Array PlaceR.the_row 64) h (with_places h xs) h.places xs b o (o + 47592)
+  places_hole : (h : Table) (xs : List (Option Message)) (b o : ℕ) → Hole 𝓛 q TableR.the_row (Array PlaceR.the_row 64) h (with_places h xs) h.places xs b o (o + 47592)
   places_hole h xs b o =
       put_at_lem 𝓛 q TableR.the_type TableL.the_loose 5 47592 refl refl (b, o) h (with_places h xs) ((TableR.struct).as_values h) xs refl refl
 
-  pub place_hole : (h : Table) (k : ℕ) (x : Place) (b o : ℕ) → k < 64 → Hole 𝓛 q TableR.the_row PlaceR.the_row h (with_places h (set h.places k x)) (get_or h.places k zero_place) x b o (places-at o k)
+  pub place_hole : (h : Table) (k : ℕ) (x : Option Message) (b o : ℕ) → k < 64 → Hole 𝓛 q TableR.the_row PlaceR.the_row h (with_places h (set h.places k x)) (get_or h.places k zero_place) x b o (places-at o k)
   place_hole h k x b o lt =
       within 𝓛 q TableR.the_row (Array PlaceR.the_row 64) PlaceR.the_row h (with_places h (set h.places k x)) h.places (set h.places k x) (get_or h.places k zero_place) x b o (o + 47592) (places-at o k)
       (places_hole h (set h.places k x) b o) (element 𝓛 q PlaceR.the_row tt 64 h.places k zero_place x b (o + 47592) lt)

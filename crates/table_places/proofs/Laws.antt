@@ -10,7 +10,6 @@ use lib.Dec.{T, lit<}
 use lib.ListN.{length, drop, drop_of_length-le, get_or, set, get_or-eq_default}
 use native.Mathlib.Nat.{lt_of_le_of_lt}
 use Rattle.rules.specs.declared.Message.{Message}
-use Rattle.rules.specs.declared.Place.{Place}
 use Rattle.rules.specs.declared.Table.{Table}
 use Rattle.rules.specs.Kinds.{is_empty_slot}
 use Rattle.rules.specs.Network.{is_free, free_places, sent, replied}
@@ -19,7 +18,7 @@ use Rattle.rules.specs.Words.{those, place}
 use Rattle.rules.specs.Zero.{zero_place}
 use Rattle.rules.proofs.Loops.{drop_more, place_other, place_here, place_end, count-here, count-other, count-end}
 
-module _ (l : List Place) where
+module _ (l : List (Option Message)) where
   -- ---- `free_in`: how many are free from i on, and before i
 
   abbrev left : ℕ → ℕ
@@ -44,7 +43,7 @@ module _ (l : List Place) where
   so_far_below i c less = omega (arith, c.2)
 
   module _ (len : length l ≡ 64) (i : ℕ) where
-    pub counts_on : Counting i → i < 64 → (p : Place) → p ≡ get_or l i zero_place → (r : ℕ) → r ≡ cond (not (is_free p)) (so_far i) (so_far i + 1) → (r ≡ so_far (i + 1)) × Counting (i + 1)
+    pub counts_on : Counting i → i < 64 → (p : Option Message) → p ≡ get_or l i zero_place → (r : ℕ) → r ≡ cond (not (is_free p)) (so_far i) (so_far i + 1) → (r ≡ so_far (i + 1)) × Counting (i + 1)
     counts_on c less p p_is r r_is = go (is_free (get_or l i zero_place)) refl
       where
         more : drop i l ≡ get_or l i zero_place ∷ drop (i + 1) l
@@ -53,11 +52,11 @@ module _ (l : List Place) where
         go : (b : Bool) → is_free (get_or l i zero_place) ≡ b → (r ≡ so_far (i + 1)) × Counting (i + 1)
         go true e =
             let k = count-here is_free _ _ _ more e in
-            let z : r ≡ so_far i + 1 = r_is ∙ ap (λ (q : Place). cond (not (is_free q)) (so_far i) (so_far i + 1)) p_is ∙ ap (λ (b : Bool). cond (not b) (so_far i) (so_far i + 1)) e in
+            let z : r ≡ so_far i + 1 = r_is ∙ ap (λ (q : Option Message). cond (not (is_free q)) (so_far i) (so_far i + 1)) p_is ∙ ap (λ (b : Bool). cond (not b) (so_far i) (so_far i + 1)) e in
             (omega (arith, c.1), (omega arith, omega (arith, c.1), omega (arith, c.1, c.2)))
         go false e =
             let k = count-other is_free _ _ _ more e in
-            let z : r ≡ so_far i = r_is ∙ ap (λ (q : Place). cond (not (is_free q)) (so_far i) (so_far i + 1)) p_is ∙ ap (λ (b : Bool). cond (not b) (so_far i) (so_far i + 1)) e in
+            let z : r ≡ so_far i = r_is ∙ ap (λ (q : Option Message). cond (not (is_free q)) (so_far i) (so_far i + 1)) p_is ∙ ap (λ (b : Bool). cond (not b) (so_far i) (so_far i + 1)) e in
             (omega (arith, c.1), (omega arith, omega (arith, c.1), omega (arith, c.1, c.2)))
 
     pub counted-all : 64 ≤ i → so_far i ≡ free_places l
@@ -74,15 +73,15 @@ module _ (l : List Place) where
   pub looking_starts : Looking 0
   looking_starts = (omega arith, omega arith)
 
-  module _ (len : length l ≡ 64) (i : ℕ) (c : Looking i) (p : Place) (p_is : p ≡ get_or l i zero_place) (b : Bool) (b_is : b ≡ not (is_free p)) where
+  module _ (len : length l ≡ 64) (i : ℕ) (c : Looking i) (p : Option Message) (p_is : p ≡ get_or l i zero_place) (b : Bool) (b_is : b ≡ not (is_free p)) where
     here : b ≡ not (is_free (get_or l i zero_place))
-    here = b_is ∙ ap (λ (q : Place). not (is_free q)) p_is
+    here = b_is ∙ ap (λ (q : Option Message). not (is_free q)) p_is
 
     pub taken-below : T b → i < 64
     taken-below t = go (dec_le 64 i)
       where
         go : Dec (64 ≤ i) → i < 64
-        go (yes k) = absurd (subst T (here ∙ ap (λ (q : Place). not (is_free q)) (get_or-eq_default l zero_place (omega arith))) t)
+        go (yes k) = absurd (subst T (here ∙ ap (λ (q : Option Message). not (is_free q)) (get_or-eq_default l zero_place (omega arith))) t)
         go (no k) = omega arith
 
     pub looks_on : T b → Looking (i + 1)
@@ -113,7 +112,7 @@ unfolding replied
 sends_none h None b b_is t = refl
 sends_none h (Some m) b b_is t = absurd (subst T b_is t)
 
-pub sends : (h : Table) (s : Option Message) (b : Bool) → b ≡ is_empty_slot s → T (not b) → (i : ℕ) → i ≡ place is_free h.places → (p : Place) → p ≡ record { slot = s } → (z : Table) → z ≡ with_places h (set h.places i p)
+pub sends : (h : Table) (s : Option Message) (b : Bool) → b ≡ is_empty_slot s → T (not b) → (i : ℕ) → i ≡ place is_free h.places → (p : Option Message) → p ≡ s → (z : Table) → z ≡ with_places h (set h.places i p)
     → z ≡ with_places h (replied h.places s)
 unfolding replied sent
 sends h None b b_is t i i_is p p_is z z_is = absurd (subst (λ (c : Bool). T (not c)) b_is t)

@@ -16,7 +16,6 @@ use Rattle.rules.specs.declared.Message.{Message}
 use Rattle.rules.specs.Network.{free_places, removed, replied}
 use Rattle.rules.specs.Tables.{with_places}
 use Rattle.rules.specs.Zero.{zero_place}
-use Rattle.rules.specs.declared.Place.{Place}
 use Rattle.rules.specs.declared.Table.{Table}
 use Rattle.rules.proofs.Unique.{unique}
 use Rattle.table_places.specs.contracts.free_in as free_in_contract
@@ -25,7 +24,7 @@ use Rattle.table_places.specs.contracts.remove_in as remove_in_contract
 use Rattle.table_places.specs.contracts.send_in as send_in_contract
 
 -- what a caller of each learns
-abbrev Read : Table → (i : ℕ) → (out : Place) → Type 0
+abbrev Read : Table → (i : ℕ) → (out : Option Message) → Type 0
 Read t i out = out ≡ get_or t.places i zero_place
 
 abbrev Removed : Table → (i : ℕ) → (left : Table) → Type 0
@@ -39,7 +38,7 @@ Sent t s left = left ≡ with_places t (replied t.places s)
 
 module _ {M : Type 1} {𝓤 : Ura M} (𝓛 : Logic 𝓤) (at_mem : Memory → SProp 𝓤) (run : Routine → Fun 𝓤) (κs : Lfts 1) where
   -- it is all that the contract states
-  place_in_states : (a : Args place_in_contract.signature κs) (out : Place) (end : AtExit place_in_contract.ended κs)
+  place_in_states : (a : Args place_in_contract.signature κs) (out : Option Message) (end : AtExit place_in_contract.ended κs)
       → (place_in_contract.clauses 𝓛 at_mem run κs a).ensures tt out end ≡ fact 𝓤 (Read a.0.now a.1.0 out)
   place_in_states a out end = refl
 
@@ -55,7 +54,7 @@ module _ {M : Type 1} {𝓤 : Ura M} (𝓛 : Logic 𝓤) (at_mem : Memory → SP
       → (send_in_contract.clauses 𝓛 at_mem run κs a).ensures tt out end ≡ fact 𝓤 (Sent a.0.now a.1.0 end.0.now)
   send_in_states a out end = refl
 
-place_in-unique : (t : Table) (i : ℕ) (x y : Place) → Read t i x → Read t i y → x ≡ y
+place_in-unique : (t : Table) (i : ℕ) (x y : Option Message) → Read t i x → Read t i y → x ≡ y
 place_in-unique t i x y = unique
 
 remove_in-unique : (t : Table) (i : ℕ) (left right : Table) → Removed t i left → Removed t i right → left ≡ right

@@ -9,32 +9,26 @@ ghost use Rattle.rules.specs.Tables.{with_places};
 ghost use Rattle.rules.specs.Words.{place};
 ghost use Rattle.rules.specs.Zero.{zero_place};
 
-use rules::{Message, Place, Table};
-
-fn empty() -> Place
-    ensures { result ≡ zero_place }
-{
-    Place { slot: None }
-}
+use rules::{Message, Table};
 
 // Beyond the last place there is none: empty.
-pub fn place_in(t: &Table, i: u64) -> Place
+pub fn place_in(t: &Table, i: u64) -> Option<Message>
     ensures { result ≡ get_or t.now.places i zero_place }
 {
     let k = i as usize;
-    let places: &[Place] = &t.places;
+    let places: &[Option<Message>] = &t.places;
     if k < rules::PLACES {
         return places[k];
     }
-    empty()
+    None
 }
 
 // Beyond the last place nothing is written.
-fn put_place(t: &mut Table, i: u64, x: Place)
+fn put_place(t: &mut Table, i: u64, x: Option<Message>)
     ensures { t.new ≡ with_places t.old (set t.old.places i x) }
 {
     let at = i as usize;
-    let places: &mut [Place] = &mut t.places;
+    let places: &mut [Option<Message>] = &mut t.places;
     if at < rules::PLACES {
         places[at] = x;
     }
@@ -44,29 +38,17 @@ fn put_place(t: &mut Table, i: u64, x: Place)
 pub fn remove_in(t: &mut Table, i: u64)
     ensures { t.new ≡ with_places t.old (removed t.old.places i) }
 {
-    let none = empty();
-    put_place(t, i, none);
+    put_place(t, i, None);
 }
 
-// A slot holds a message or nothing.
-fn is_empty(s: Option<Message>) -> bool
-    ensures { result ≡ is_empty_slot s }
-{
-    match s {
-        None => true,
-        Some(_) => false,
-    }
-}
-
-fn is_taken(p: Place) -> bool
+fn is_taken(p: Option<Message>) -> bool
     ensures { result ≡ not (is_free p) }
 {
-    let s = p.slot;
-    !is_empty(s)
+    p.is_some()
 }
 
 // One place more is looked at.
-fn counted(free: u64, p: Place) -> u64
+fn counted(free: u64, p: Option<Message>) -> u64
     requires { free < 64 }
     ensures { result ≡ cond (not (is_free p)) free (free + 1) }
 {
@@ -80,7 +62,7 @@ fn counted(free: u64, p: Place) -> u64
 pub fn free_in(t: &Table) -> u64
     ensures { result ≡ free_places t.now.places }
 {
-    let _places: &[Place] = &t.places;
+    let _places: &[Option<Message>] = &t.places;
     let mut free: u64 = 0;
     let mut i: u64 = 0;
     while i < rules::PLACES as u64 {
@@ -94,7 +76,7 @@ pub fn free_in(t: &Table) -> u64
 fn lowest_in(t: &Table) -> u64
     ensures { result ≡ place is_free t.now.places }
 {
-    let _places: &[Place] = &t.places;
+    let _places: &[Option<Message>] = &t.places;
     let mut at: u64 = 0;
     while is_taken(place_in(t, at)) {
         at = at + 1;
@@ -102,20 +84,13 @@ fn lowest_in(t: &Table) -> u64
     at
 }
 
-fn holding(s: Option<Message>) -> Place
-    ensures { result ≡ (record { slot = s }) }
-{
-    Place { slot: s }
-}
-
 // "Its reply, if any, takes the lowest free place"; a full network stays as it is.
 pub fn send_in(t: &mut Table, s: Option<Message>)
     ensures { t.new ≡ with_places t.old (replied t.old.places s) }
 {
-    if is_empty(s) {
+    if s.is_none() {
         return;
     }
     let at = lowest_in(t);
-    let p = holding(s);
-    put_place(t, at, p);
+    put_place(t, at, s);
 }

@@ -1,10 +1,12 @@
 -- What the functions on parts of the table are given
+use Rattle.std.specs.Prelude.{Option}
 use Rattle.std.specs.Prelude.{ℕ, ◌/◌, ◌%◌, Bool, false, not, ◌&&◌, ◌||◌, List, [], eqb, ltb, get_or, if◌then◌else◌}
+use Rattle.rules.specs.declared.Message.{Message}
 use Rattle.rules.specs.declared.Chunk.{Chunk}
 use Rattle.rules.specs.declared.Creation.{Creation}
 use Rattle.rules.specs.declared.Epoch.{Epoch}
 use Rattle.rules.specs.declared.Host.{Host}
-use Rattle.rules.specs.declared.Place.{Place}
+
 use Rattle.rules.specs.declared.Record.{Record}
 use Rattle.rules.specs.declared.Waiting.{Waiting}
 use Rattle.rules.specs.Creation.{is_creation}
@@ -37,7 +39,7 @@ chunk_in_place n epoch chunks i = chunk_at (counted n) epoch i (get_or chunks i 
 abbrev pub record_in_place : Counts → List Record → ℕ → Bool
 record_in_place n records i = record_at (counted n) (i / block_limit) (i % block_limit) (get_or records i no_record)
 
-abbrev pub place_in_place : Counts → List Place → ℕ → Bool
+abbrev pub place_in_place : Counts → List (Option Message) → ℕ → Bool
 place_in_place n places i = slot_formed (counted n) (slot_of places i)
 
 -- ---- a record: all that the tests of one that nothing waits in, and of another, look at
