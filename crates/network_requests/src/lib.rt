@@ -52,17 +52,14 @@ fn ask_each(
     ensures { result ≡ messages_to to (request_to request host block now epoch) }
 {
     let mut out = network_places::only(None);
-    let mut c: usize = 0;
-    while c < rules::CHUNKS {
+    for c in 0..rules::CHUNKS {
         let header = Header {
-            host: host,
+            host,
             chunk: c as u64,
-            block: block,
+            block,
             timestamp: now,
         };
-        let message = ask(to.chunks[c], header, epoch, request);
-        out[c] = message;
-        c = c + 1;
+        out[c] = ask(to.chunks[c], header, epoch, request);
     }
     out
 }

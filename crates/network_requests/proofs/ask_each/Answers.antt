@@ -9,7 +9,7 @@ pub loop-c-init : goal.loop-c-init
 loop-c-init c = (omega arith, c.only-out.ensures ∙ made-blank _ zero_place 8)
 
 pub loop-c-preserved : goal.loop-c-preserved
-loop-c-preserved c = (omega arith, rw (c.loop-c.invariant.1, c.ask-message.ensures) (made-next _ _ 8 c.loop-c.c (omega arith)))
+loop-c-preserved c = (omega arith, rw (c.loop-c.invariant.1, c.ask.ensures) (made-next _ _ 8 c.loop-c.c (omega arith)))
 
 pub returns : goal.returns
 unfolding messages_to
