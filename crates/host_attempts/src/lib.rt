@@ -10,8 +10,7 @@ ghost use Rattle.rules.specs.Zero.{◌among◌};
 ghost use Rattle.host_attempts.specs.Moves.{starts, finishes};
 
 use host_keeper::{Drawn, Keeper};
-use rules::{Action, Attempt, Host, Message, Operation, Outcome, Refused, Set};
-
+use rules::{Action, Attempt, Host, Message, Operation, Outcome, Refused, Set, Timestamp};
 // What a start or a finish makes of its host, its new messages, and the outcome.
 #[derive(Clone, Copy)]
 pub struct Sent {
@@ -24,7 +23,7 @@ pub struct Sent {
 fn has_current(h: Host) -> bool
     ensures { result ≡ has_current h }
 {
-    0 < h.attempt.timestamp.0
+    h.attempt.timestamp > Timestamp(0)
 }
 
 // ".. room (5)": there are fewer free places than messages.
@@ -40,7 +39,7 @@ fn lacks_room(free: u64, to: Set) -> bool
 fn unready(h: Host) -> bool
     ensures { result ≡ (not h.working || has_current h || eqb h.queue.count 0 || not h.mapped) }
 {
-    !h.working | has_current(h) | (h.queue.count == 0) | !h.mapped
+    !h.working || has_current(h) || h.queue.count == 0 || !h.mapped
 }
 
 // The set of one chunk; empty where the number is no chunk's.
@@ -48,9 +47,9 @@ fn only(chunk: u64) -> Set
     ensures { result ≡ only chunk }
 {
     let mut out = table_zero::set();
-    let i = chunk as usize;
-    if i < rules::CHUNKS {
-        out.chunks[i] = true;
+    // array::from_fn: what its closure keeps from call to call is not known to the check
+    if chunk < rules::CHUNKS as u64 {
+        out.chunks[chunk as usize] = true;
     }
     out
 }
@@ -59,10 +58,7 @@ fn only(chunk: u64) -> Set
 fn lacks_copy(action: Action, copy: u64, holders: Set) -> bool
     ensures { result ≡ (is_reading action && not (copy among holders)) }
 {
-    match action {
-        Action::Read => !table_sets::among(copy, holders),
-        Action::Write(_) => false,
-    }
+    action == Action::Read && !table_sets::among(copy, holders)
 }
 
 // "A read sends one read to the copy; a write sends a prewrite to each chunk of the set".
