@@ -11,9 +11,6 @@ use rules::{
     Arrived, Chunk, Header, Kind, Record, Refusal, Refused, Sort, State, Timestamp, Waiting,
 };
 
-// The greatest number that an i64 holds.
-const GREATEST_SIGNED: u64 = 9223372036854775807;
-
 // "normal, head exists and isn't undecided (2); room if the head is a read (5). The head is removed; for an aborted one that is all.
 // Committed: value set, last write raised to its timestamp. Read: below last write, out of order goes to the sender; else last read is
 // raised and a read reply goes".
@@ -59,25 +56,16 @@ pub fn run(chunk: u64, block: u64, c: Chunk, r: Record, free: u64) -> Result<Arr
 
 // ---- overdue
 
-// "The difference may be below zero, and then nothing is overdue": a signed difference, of numbers that an i64 holds.
-fn signed_above(now: u64, clock: u64, age: u64) -> bool
-    requires { (now < 2 ^ 63) × (clock < 2 ^ 63) × (age < 2 ^ 63) }
-    ensures { result ≡ lt_z (pos age) (pos now -ℤ pos clock) }
-{
-    let difference = (now as i64) - (clock as i64);
-    (age as i64) < difference
-}
-
-// "now minus the head's clock above the age limit". Now and the age limit of a store have 32 bits; the promise is for every number,
-// so those that no i64 holds are compared unsigned.
+// "now minus the head's clock above the age limit. The difference may be below zero, and then nothing is overdue": a signed
+// difference. Now and the age limit of a store have 32 bits; those that no i64 holds are compared unsigned.
 fn is_overdue(now: u64, t: Timestamp, age: u64) -> bool
     ensures { result ≡ is_overdue now t age }
 {
     let clock = t.0 / rules::CLOCK_FACTOR;
-    if now <= GREATEST_SIGNED && age <= GREATEST_SIGNED {
-        return signed_above(now, clock, age);
+    match (i64::try_from(now), i64::try_from(age)) {
+        (Ok(now), Ok(age)) => age < now - clock as i64,
+        _ => clock <= now && age < now - clock,
     }
-    clock <= now && age < now - clock
 }
 
 // "normal, head undecided, and now minus the head's clock above the age limit, else 2. .. The block joins the set". (A store's block is
