@@ -20,7 +20,8 @@ use Rattle.rules.specs.Words.{those, each, joined, every, some, none, first, fol
 use Rattle.rules.specs.Zero.{zero_entry, zero_waiting, no_copy}
 use Rattle.rules.proofs.Lists.{both, walk, true_or_false, or_right, upper-left, upper_right, every-those, none-every}
 use Rattle.rules.proofs.Loops.{fold-append, every-same, every-both, first-those, those-both, those-every}
-use Rattle.epoch_settle.proofs.Chains.{some_any, every_all, those_filter, each_map, fold_is, first_find}
+use Rattle.table_sets.proofs.Chains.{some-any, every-all, those-filter, each-map}
+use Rattle.epoch_settle.proofs.Arrays.{fold_is, first_find}
 use Rattle.epoch_settle.specs.Steps.{agrees, all_agree, is_committed, latest_of, value_with, candidates, greatest_write, greatest_read, value_beside, settled_copy}
 
 -- ---- a write timestamp is agreed: every copy agrees
@@ -28,9 +29,9 @@ use Rattle.epoch_settle.specs.Steps.{agrees, all_agree, is_committed, latest_of,
 agreed-steps : (cs : List Copy) (t : Timestamp) → all_agree cs t ≡ agreed cs t
 unfolding agreed
 agreed-steps cs t =
-    sym (every_all (agrees t) cs)
+    sym (every-all (agrees t) cs)
     ∙ sym (rw (none-every (holds_aborted t), every-those (holds t) not_lost cs, every-those (λ c. not (holds_aborted t c)) not_lost cs, every-those (λ c. t above last_read c) is_lost cs, every-both, every-both)
-    (every-same _ (agrees t) (λ c. rw (← some_any, ← some_any) (go c.member c.lost (holds t c) (holds_aborted t c) (t above last_read c))) cs))
+    (every-same _ (agrees t) (λ c. rw (← some-any, ← some-any) (go c.member c.lost (holds t c) (holds_aborted t c) (t above last_read c))) cs))
   where
     go : (m l h a r : Bool) → ((not (m && not l) || h) && (not (m && not l) || not a) && (not (m && l) || r)) ≡ (not m || cond l r (h && not a))
     go true true h a r = refl
@@ -184,10 +185,10 @@ module _ (cs : List Copy) where
 
   greatest-write : greatest_write cs ≡ W cs
   unfolding W
-  greatest-write = rw (fold_is, each_map, those_filter) refl
+  greatest-write = rw (fold_is, each-map, those-filter) refl
 
   greatest-read : greatest_read cs ≡ greatest (each last_read (those in_set cs))
-  greatest-read = rw (fold_is, each_map, those_filter) refl
+  greatest-read = rw (fold_is, each-map, those-filter) refl
 
   value-beside : value_beside (W cs) cs ≡ beside_w cs
   unfolding beside_w
@@ -234,4 +235,4 @@ module _ (cs : List Copy) where
 
 pub settled_is : (cs : List Copy) → map (settled_copy (settled_record cs)) cs ≡ settled cs
 unfolding settled
-settled_is cs = sym (each_map (settled_copy (settled_record cs)) cs)
+settled_is cs = sym (each-map (settled_copy (settled_record cs)) cs)

@@ -1,3 +1,3 @@
-pub mod Chains
+pub mod Arrays
 pub mod Laws
 pub mod Unique

@@ -1,7 +1,7 @@
 use Rattle.std.proofs.Common.{rules, arith, ◌∙◌}
 use Rattle.rules.specs.Zero.{no_copy}
 use Rattle.epoch_settle.specs.Steps.{settled_copy}
-use Rattle.epoch_settle.proofs.Chains.{mapped}
+use Rattle.epoch_settle.proofs.Arrays.{mapped}
 use Rattle.epoch_settle.proofs.Laws.{settled_is}
 use Rattle.epoch_settle.proofs.settle.Goals as goal
 

@@ -6,7 +6,7 @@ use Rattle.rules.specs.declared.Copy.{Copy}
 use Rattle.rules.specs.Settlement.{in_set, last_write}
 use Rattle.rules.specs.Timestamps.{◌is◌}
 use Rattle.rules.specs.Zero.{no_copy}
-use Rattle.epoch_settle.proofs.Chains.{found}
+use Rattle.epoch_settle.proofs.Arrays.{found}
 use Rattle.epoch_settle.proofs.value_beside.Goals as goal
 
 pub returns : goal.returns

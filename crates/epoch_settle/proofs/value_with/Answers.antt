@@ -6,7 +6,7 @@ use Rattle.rules.specs.declared.Entry.{Entry}
 use Rattle.rules.specs.Kinds.{value_of}
 use Rattle.rules.specs.Settlement.{write_with}
 use Rattle.rules.specs.Zero.{zero_entry}
-use Rattle.epoch_settle.proofs.Chains.{found}
+use Rattle.epoch_settle.proofs.Arrays.{found}
 use Rattle.epoch_settle.proofs.value_with.Goals as goal
 
 pub returns : goal.returns

@@ -1,4 +1,4 @@
--- The words of the rules are std's: so a chain of an iterator's methods gives what a rule says
+-- What std's `find`, `fold` and `map` give, in the words of the rules. (Others: table_sets' Chains.)
 use Prim.Native.Nat.{ℕ, zero, suc, ◌+◌, ◌≤◌, ◌<◌}
 use native.Mathlib.Omega.{arith}
 use lib.Seq.{ext_get_or}
@@ -9,28 +9,13 @@ use mathlib.Core.Path.{◌≡◌, refl, subst, sym, ap, ◌∙◌}
 use mathlib.Core.Bool.{Bool, true, false, cond}
 use mathlib.Core.List.{List, [], ◌∷◌, map}
 use lib.ListN.{get_or, length, length-map, get_or-map}
-use Rattle.std.specs.List.{list_any, list_all, filter, find, fold as fold_from}
+use Rattle.std.specs.List.{find, fold as fold_from}
 use Rattle.std.specs.Option.{MatchOption, unwrap_or, option_map}
 use Rattle.std.specs.Prelude.{Option, Some, None}
 use denote.Ref.{Bor}
-use Rattle.rules.specs.Words.{some, every, those, each, place, first, fold}
+use Rattle.rules.specs.Words.{place, first, fold}
 
 module _ {A : Type 0} (p : A → Bool) where
-  pub some_any : (l : List A) → some p l ≡ list_any p l
-  unfolding some
-  some_any [] = refl
-  some_any (x ∷ xs) = rw (some_any xs) refl
-
-  pub every_all : (l : List A) → every p l ≡ list_all p l
-  unfolding every
-  every_all [] = refl
-  every_all (x ∷ xs) = rw (every_all xs) refl
-
-  pub those_filter : (l : List A) → those p l ≡ filter p l
-  unfolding those
-  those_filter [] = refl
-  those_filter (x ∷ xs) = rw (those_filter xs) refl
-
   pub first_find : (d : A) (l : List A) → first d p l ≡ unwrap_or (find p l) d
   unfolding place
   first_find d [] = refl
@@ -39,11 +24,6 @@ module _ {A : Type 0} (p : A → Bool) where
       go : (b : Bool) → first d p xs ≡ unwrap_or (find p xs) d → get_or (x ∷ xs) (cond b 0 (suc (place p xs))) d ≡ unwrap_or (cond b (Some x) (find p xs)) d
       go true h = refl
       go false h = h
-
-pub each_map : {A B : Type 0} (f : A → B) (l : List A) → each f l ≡ map f l
-unfolding each
-each_map f [] = refl
-each_map f (x ∷ xs) = rw (each_map f xs) refl
 
 pub fold_is : {S A : Type 0} (f : S → A → S) (s : S) (l : List A) → fold f s l ≡ fold_from f s l
 unfolding fold
