@@ -8,39 +8,12 @@ ghost use Rattle.rules.specs.Codes.{ruled};
 ghost use Rattle.rules.specs.Chunks.{run_refusals, runs, ran, is_overdue, overdue_refusals, overdue};
 
 use rules::{
-    Arrived, Chunk, Entry, Header, Kind, Record, Refusal, Refused, Sort, State, Timestamp, Waiting,
+    Arrived, Chunk, Header, Kind, Record, Refusal, Refused, Sort, State, Timestamp, Waiting,
 };
 
-// The greatest number that an i64 holds.
-const GREATEST_SIGNED: u64 = 9223372036854775807;
-
-// ---- run
-
-// "Read: below last write, out of order goes to the sender; else last read is raised and a read reply goes".
-fn run_read(chunk: u64, block: u64, c: Chunk, r: Record, e: Entry) -> Arrived
-    ensures { result ≡ runs chunk block c r e Kind.Read }
-{
-    let header = Header {
-        host: e.sender,
-        chunk,
-        block,
-        timestamp: e.timestamp,
-    };
-    let (held, sort) = if e.timestamp < r.write {
-        (r, Sort::Refusal(Refusal::OutOfOrder))
-    } else {
-        let read = r.read.max(e.timestamp);
-        (Record { read, ..r }, Sort::ReadReply(r.value))
-    };
-    Arrived {
-        chunk: c,
-        held,
-        reply: Some(network_messages::message_of(header, sort)),
-    }
-}
-
 // "normal, head exists and isn't undecided (2); room if the head is a read (5). The head is removed; for an aborted one that is all.
-// Committed: value set, last write raised to its timestamp".
+// Committed: value set, last write raised to its timestamp. Read: below last write, out of order goes to the sender; else last read is
+// raised and a read reply goes".
 #[tactic(auto, unfolding(rules::specs::Codes::code_of, rules::specs::Chunks::ran))]
 pub fn run(chunk: u64, block: u64, c: Chunk, r: Record, free: u64) -> Result<Arrived, Refused>
     ensures { result ≡ ruled (run_refusals c.state r.waiting free) (ran chunk block c r) }
@@ -49,49 +22,50 @@ pub fn run(chunk: u64, block: u64, c: Chunk, r: Record, free: u64) -> Result<Arr
         return Err(Refused::NotInState);
     }
     let e = chunk_waiting::head(r.waiting);
-    let rest = Record {
+    let mut held = Record {
         waiting: chunk_waiting::remove_head(r.waiting),
         ..r
     };
-    let held = match e.kind {
+    let sort = match e.kind {
         Kind::Undecided(_) => return Err(Refused::NotInState),
         Kind::Read if free == 0 => return Err(Refused::NoRoom),
-        Kind::Read => return Ok(run_read(chunk, block, c, rest, e)),
-        Kind::Committed(value) => Record {
-            value,
-            write: r.write.max(e.timestamp),
-            ..rest
-        },
-        Kind::Aborted(_) => rest,
+        Kind::Read if e.timestamp < r.write => Some(Sort::Refusal(Refusal::OutOfOrder)),
+        Kind::Read => {
+            held.read = r.read.max(e.timestamp);
+            Some(Sort::ReadReply(r.value))
+        }
+        Kind::Committed(value) => {
+            held.value = value;
+            held.write = r.write.max(e.timestamp);
+            None
+        }
+        Kind::Aborted(_) => None,
+    };
+    let header = Header {
+        host: e.sender,
+        chunk,
+        block,
+        timestamp: e.timestamp,
     };
     Ok(Arrived {
         chunk: c,
         held,
-        reply: None,
+        reply: sort.map(|sort| network_messages::message_of(header, sort)),
     })
 }
 
 // ---- overdue
 
-// "The difference may be below zero, and then nothing is overdue": a signed difference, of numbers that an i64 holds.
-fn signed_above(now: u64, clock: u64, age: u64) -> bool
-    requires { (now < 2 ^ 63) × (clock < 2 ^ 63) × (age < 2 ^ 63) }
-    ensures { result ≡ lt_z (pos age) (pos now -ℤ pos clock) }
-{
-    let difference = (now as i64) - (clock as i64);
-    (age as i64) < difference
-}
-
-// "now minus the head's clock above the age limit". Now and the age limit of a store have 32 bits; the promise is for every number,
-// so those that no i64 holds are compared unsigned.
+// "now minus the head's clock above the age limit. The difference may be below zero, and then nothing is overdue": a signed
+// difference. Now and the age limit of a store have 32 bits; those that no i64 holds are compared unsigned.
 fn is_overdue(now: u64, t: Timestamp, age: u64) -> bool
     ensures { result ≡ is_overdue now t age }
 {
     let clock = t.0 / rules::CLOCK_FACTOR;
-    if now <= GREATEST_SIGNED && age <= GREATEST_SIGNED {
-        return signed_above(now, clock, age);
+    match (i64::try_from(now), i64::try_from(age)) {
+        (Ok(now), Ok(age)) => age < now - clock as i64,
+        _ => clock <= now && age < now - clock,
     }
-    clock <= now && age < now - clock
 }
 
 // "normal, head undecided, and now minus the head's clock above the age limit, else 2. .. The block joins the set". (A store's block is
