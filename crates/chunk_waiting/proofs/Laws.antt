@@ -99,7 +99,7 @@ module _ (w t : Waiting) (tidy : t ≡ holding (in_order w)) (room : t.count ≤
         let len = entries-length t (in_order w) tidy in
         let none : drop (p + 1 + (7 - p)) old ≡ [] = drop_of_length-le old (omega arith) in
         let moved : set x p e ≡ take 8 (opened p e old) = rw (new, none, add-one, ← len) (shifted old e p (7 - p) (omega arith)) in
-        ap (λ (y : List Entry). record { count = t.count + 1; entries = y }) moved ∙ put
+        rw moved put
 
     -- behind the last place there is none
     pub put-beyond : 8 ≤ p → record { count = t.count + 1; entries = t.entries } ≡ inserted w e
@@ -107,7 +107,7 @@ module _ (w t : Waiting) (tidy : t ≡ holding (in_order w)) (room : t.count ≤
         let old = t.entries in
         let len = entries-length t (in_order w) tidy in
         let same : old ≡ take 8 (opened p e old) = rw (take_all p old (omega arith)) (sym (take_at old (e ∷ drop p old) 8 len)) in
-        ap (λ (y : List Entry). record { count = t.count + 1; entries = y }) same ∙ put
+        rw same put
 
   -- the entry at i is decided
   module _ (commit : Bool) (s : Timestamp) (i : ℕ) (found : i ≡ first_with s (in_order w)) where
