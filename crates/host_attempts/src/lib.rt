@@ -71,7 +71,7 @@ fn begin(h: Host, d: Drawn, to: Set) -> Host
 
 // "3 start (host, clock from 1, copy)": what it needs (2), the copy (1), the clock (3), which the host's keeper hands out or
 // refuses, and room (5). What the keeper remembers is stored only when the start is granted.
-// (number, holders, h and free go together here and in finish alone: a struct of them would be made and taken apart at each call.)
+// (number, holders, h and free go together here and in finish alone; a struct of them would be made for each call and taken apart.)
 #[tactic(auto, unfolding(crate::specs::Moves::starts, rules::specs::Words::each, rules::specs::Words::joined, rules::specs::Codes::code_of))]
 pub fn start(
     number: u64,
