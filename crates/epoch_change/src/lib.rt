@@ -2,7 +2,7 @@
 #![tactic(auto)]
 
 ghost use Rattle.std.specs.Prelude.{◌≡◌, ◌&&◌, get_or, if◌then◌else◌};
-ghost use Rattle.rules.specs.Codes.{code_of};
+ghost use Rattle.rules.specs.Codes.{ruled};
 ghost use Rattle.rules.specs.Events.{anew, renewed, all_lost, epoch_refusals};
 ghost use Rattle.rules.specs.Kinds.{is_failed};
 ghost use Rattle.rules.specs.Limits.{chunk_limit, block_limit};
@@ -10,7 +10,7 @@ ghost use Rattle.rules.specs.Tables.{is_block, set_of};
 ghost use Rattle.rules.specs.Words.{each, some, numbers};
 ghost use Rattle.rules.specs.Zero.{no_chunk};
 
-use rules::{Chunk, Creation, Epoch, Set, State};
+use rules::{Chunk, Creation, Epoch, Refused, Set, State};
 
 fn is_failed(state: State) -> bool
     ensures { result ≡ is_failed state }
@@ -71,21 +71,23 @@ fn any_all_lost(k: Creation, chunks: [Chunk; rules::CHUNKS]) -> bool
 
 // "15 epoch change: no chunk failed (2), then 7, then 6".
 #[tactic(auto, unfolding(rules::specs::Codes::code_of))]
-pub fn change_code(k: Creation, epoch: Epoch, chunks: [Chunk; rules::CHUNKS]) -> u64
-    ensures { result ≡ code_of (epoch_refusals k epoch chunks) }
+pub fn check_change(
+    k: Creation,
+    epoch: Epoch,
+    chunks: [Chunk; rules::CHUNKS],
+) -> Result<(), Refused>
+    ensures { result ≡ ruled (epoch_refusals k epoch chunks) tt }
 {
-    let failed = any_failed(chunks);
-    let last = epoch.0 == rules::GREATEST_CLOCK;
-    if failed {
-        return rules::NOT_IN_STATE;
+    if any_failed(chunks) {
+        return Err(Refused::NotInState);
     }
-    if last {
-        return rules::LAST_EPOCH;
+    if epoch.0 == rules::GREATEST_CLOCK {
+        return Err(Refused::LastEpoch);
     }
     if any_all_lost(k, chunks) {
-        return rules::ALL_LOST;
+        return Err(Refused::AllLost);
     }
-    rules::DONE
+    Ok(())
 }
 
 // A chunk that the store has begins anew in the next epoch; an unused place stays.
