@@ -1,4 +1,4 @@
-// The network, of an event: the code of an empty place, and its new messages.
+// The network, of an event: why an empty place is refused, and its new messages.
 #![tactic(auto)]
 
 ghost use Rattle.std.specs.Prelude.{◌≡◌};
@@ -19,7 +19,7 @@ pub fn check_place(s: Option<Message>) -> Result<(), Refused>
     Ok(())
 }
 
-// The new messages of an event that sends a reply at most; with an empty slot, none.
+// The new messages of an event that sends a reply at most: the reply comes first, and is the only one.
 pub fn only(s: Option<Message>) -> [Option<Message>; rules::CHUNKS]
     ensures { result ≡ only_reply s }
 {
