@@ -1,11 +1,9 @@
 // The head of a waiting list at a chunk: it runs, or its block is overdue.
 #![tactic(auto)]
 
-ghost use Rattle.std.specs.Prelude.{◌<◌, ◌^◌, ◌≡◌, pos, ◌-ℤ◌};
-ghost use Rattle.std.specs.Int.Signed.{lt_z};
-ghost use Rattle.rules.specs.declared.Kind.{Kind};
+ghost use Rattle.std.specs.Prelude.{◌≡◌};
 ghost use Rattle.rules.specs.Codes.{ruled};
-ghost use Rattle.rules.specs.Chunks.{run_refusals, runs, ran, is_overdue, overdue_refusals, overdue};
+ghost use Rattle.rules.specs.Chunks.{run_refusals, ran, is_overdue, overdue_refusals, overdue};
 
 use rules::{
     Arrived, Chunk, Header, Kind, Record, Refusal, Refused, Sort, State, Timestamp, Waiting,

@@ -1,189 +1,194 @@
--- A line that is read byte by byte says what its words say
+-- A word that is read digit by digit is the number that the definitions say, and a line that is cut at its spaces says what they say
 use Prim.Native.Nat.{ℕ, ◌+◌, ◌*◌, ◌-◌, ◌^◌, ◌≤◌, ◌<◌}
 use mathlib.Core.Path.{◌≡◌, refl, sym, ap, ◌∙◌}
-use mathlib.Core.Logic.{⊎_elim}
-use mathlib.Core.Bool.{Bool, true, false, cond, ◌&&◌}
-use mathlib.Core.List.{List, [], ◌∷◌, ◌++◌, append_assoc}
+use mathlib.Core.Bool.{Bool, true, false, cond, ◌&&◌, true≢false}
+use mathlib.Core.List.{List, [], ◌∷◌, ◌++◌, append_assoc, append-nil}
 use native.Mathlib.Omega.{arith}
-use lib.ListN.{length, length-append}
+use lib.ListN.{length, get_or, take, drop, set, length-take, replicate, drop_of_length-le, length-append}
 use lib.Dec.{eqb, ltb}
-use lib.Seq.{set_out}
-use borrow.Author.Tests.{ltb-false, le-ltb, lt-ltb, le-leb, lt-leb, eq-eqb, ne_eqb}
+use lib.Seq.{length-take-le, set_out}
+use borrow.Author.Tests.{ltb-true, ltb-false, le-ltb, lt-ltb, le-leb, lt-leb}
+use Rattle.std.specs.Prelude.{Option, Some, None}
+use Rattle.std.specs.Fn.{CalledAt}
+use Rattle.std.specs.Iterator.Adapters.{enumerate_source, enumerate_count, enumerate_steps}
+use Rattle.std.specs.List.{slice_split, onto_first, enumerate_from}
+use Rattle.std.specs.Slice.Iter.{split_rest, split_done, split_callee, split_steps}
+use Rattle.std.proofs.lemmas.Iterator.{YieldsList}
+use Rattle.std.proofs.lemmas.Iterator.Consumers.{YieldsList-at, YieldsList-from_enumerate}
+use Rattle.std.proofs.lemmas.Iterator.Splits.{YieldsList-from_slice_split}
+use Rattle.std.proofs.lemmas.List.FromFn.{length-enumerate_from, get_or-enumerate_from}
+use denote.Param.Members.{Mut}
+use denote.Ref.{Bor}
+use Rattle.std.proofs.lemmas.List.{take_more}
+use Rattle.std.proofs.lemmas.List.Splits.{length-slice_split}
 use Rattle.rules.specs.Words.{each, every, fold}
-use Rattle.rules.proofs.Lists.{true_or_false, walk, each-length, every_append}
-use Rattle.rules.proofs.Loops.{fold-append, each_append, filled_more}
+use Rattle.rules.proofs.Lists.{every_append, every-at, each-length}
+use Rattle.rules.proofs.Loops.{drop_more, each_append, filled_more}
 use Rattle.text_numbers.specs.declared.Line.{Line}
-use Rattle.text_numbers.specs.declared.Reading.{Reading}
-use Rattle.text_numbers.specs.Lines.{space, is_digit, words_after, words, value, is_number, number_limit, line_limit, is_line, bad_line, saying, line_of}
-use Rattle.text_numbers.specs.Steps.{between_words, bad_reading, new_reading, said_also, ended, continued, taken}
+use Rattle.text_numbers.specs.Lines.{space, is_digit, words_after, words, value, is_number, number_limit, line_limit, is_line, saying, line_of}
+use Rattle.text_numbers.specs.Digits.{continued, number_of}
 
--- ---- one byte
+-- ---- a word
 
--- at most one number more than r has
-abbrev OneMore : (r s : Reading) → Type 0
-OneMore r s = s.line.count ≤ r.line.count + 1
+-- what the bytes of w make of the number n that those before them say
+unfoldable pub read_on : ℕ → List ℕ → Option ℕ
+read_on n [] = Some n
+read_on n (c ∷ w) = elim (continued n c) [ None ↦ None | Some m ↦ read_on m w ]
 
-ended-count : (r : Reading) → OneMore r (ended r)
-unfolding ended
-ended-count r = walk (OneMore r) r.begun _ bad_reading (λ _. omega arith) (λ _. omega arith)
+module _ (w : List ℕ) (i n : ℕ) where
+  pub more_read : i < length w → (m : ℕ) → continued n (get_or w i 0) ≡ Some m → read_on n (drop i w) ≡ read_on m (drop (i + 1) w)
+  unfolding read_on
+  more_read h m e = rw (drop_more 0 w i h) (ap (λ (o : Option ℕ). elim o [ None ↦ None | Some k ↦ read_on k (drop (i + 1) w) ]) e)
 
-continued-count : (r : Reading) (d : ℕ) → OneMore r (continued r d)
-unfolding continued
-continued-count r d = walk (OneMore r) (ltb (r.value * 10 + d) (2 ^ 64)) _ bad_reading (λ _. omega arith) (λ _. omega arith)
+  pub none_read : i < length w → continued n (get_or w i 0) ≡ None → read_on n (drop i w) ≡ None
+  unfolding read_on
+  none_read h e = rw (drop_more 0 w i h) (ap (λ (o : Option ℕ). elim o [ None ↦ None | Some k ↦ read_on k (drop (i + 1) w) ]) e)
 
--- a number past the last place is counted only
-pub said-past : (l : Line) (n : ℕ) → length l.numbers ≤ l.count → record { good = true; count = l.count + 1; numbers = l.numbers } ≡ said_also l n
-said-past l n h = ap (λ (ns : List ℕ). record { good = true; count = l.count + 1; numbers = ns }) (sym (set_out l.numbers l.count n h))
+  pub all_read : length w ≤ i → read_on n (drop i w) ≡ Some n
+  unfolding read_on
+  all_read h = rw (drop_of_length-le w h) refl
 
-module _ (r : Reading) (d : ℕ) where
-  pub continued-over : 2 ^ 64 ≤ r.value * 10 + d → bad_reading ≡ continued r d
-  unfolding continued
-  continued-over h = rw (le-ltb (r.value * 10 + d) (2 ^ 64) h) refl
+-- what the digits of w make of n, and no digit makes it less
+abbrev value_on : ℕ → List ℕ → ℕ
+value_on n w = fold (λ n d. n * 10 + (d - 48)) n w
 
-  pub continued-fits : r.value * 10 + d < 2 ^ 64 → record { line = r.line; begun = true; value = r.value * 10 + d } ≡ continued r d
-  unfolding continued
-  continued-fits h = rw (lt-ltb (r.value * 10 + d) (2 ^ 64) h) refl
+grows : (n : ℕ) (w : List ℕ) → n ≤ value_on n w
+unfolding fold
+grows n [] = omega arith
+grows n (c ∷ w) = omega (arith, grows (n * 10 + (c - 48)) w)
 
-module _ (r : Reading) (c : ℕ) where
-  pub taken-count : OneMore r (taken r c)
-  unfolding taken
-  taken-count =
-      walk (OneMore r) r.line.good _ r
-      (λ _. walk (OneMore r) (eqb c space) (ended r) _ (λ _. ended-count r)
-      (λ _. walk (OneMore r) (is_digit c) (continued r (c - 48)) bad_reading (λ _. continued-count r (c - 48)) (λ _. omega arith)))
-      (λ _. omega arith)
+read_is : (n : ℕ) (w : List ℕ) → n < 2 ^ 64 → read_on n w ≡ cond (every is_digit w && ltb (value_on n w) (2 ^ 64)) (Some (value_on n w)) None
+unfolding read_on every fold
+read_is n [] h = rw (lt-ltb n (2 ^ 64) h) refl
+read_is n (c ∷ w) h = let m = n * 10 + (c - 48) in go m (is_digit c) (ltb m (2 ^ 64)) (every is_digit w) refl (read_is m w) (grows m w)
+  where
+    go : (m : ℕ) (a b e : Bool) → ltb m (2 ^ 64) ≡ b → (m < 2 ^ 64 → read_on m w ≡ cond (e && ltb (value_on m w) (2 ^ 64)) (Some (value_on m w)) None)
+        → m ≤ value_on m w
+        → elim (cond (a && b) (Some m) None) [ None ↦ None | Some k ↦ read_on k w ] ≡ cond ((a && e) && ltb (value_on m w) (2 ^ 64)) (Some (value_on m w)) None
+    go m false b e k r g = refl
+    go m true true e k r g = r (ltb-true m (2 ^ 64) k)
+    go m true false false k r g = refl
+    go m true false true k r g = let far = ltb-false m (2 ^ 64) k in rw (le-ltb (value_on m w) (2 ^ 64) (omega arith)) refl
 
-  pub taken_bad : r.line.good ≡ false → r ≡ taken r c
-  unfolding taken
-  taken_bad h = rw h refl
+pub word_read : (w : List ℕ) → 0 < length w → read_on 0 w ≡ number_of w
+unfolding number_of is_number value
+word_read w h = rw (lt-ltb 0 (length w) h) (read_is 0 w (omega arith))
 
-  module _ (good : r.line.good ≡ true) where
-    pub taken-space : c ≡ space → ended r ≡ taken r c
-    unfolding taken
-    taken-space h = rw (good, eq-eqb c space h) refl
+pub no_word : (w : List ℕ) → length w ≡ 0 → None ≡ number_of w
+unfolding number_of is_number
+no_word w h = rw h refl
 
-    module _ (other : c ≡ space → ⊥) where
-      pub taken-below : c < 48 → bad_reading ≡ taken r c
-      unfolding taken
-      taken-below h = rw (good, ne_eqb c space other, lt-leb 48 c h) refl
+-- ---- a line, cut at its spaces
 
-      pub taken-above : 57 < c → bad_reading ≡ taken r c
-      unfolding taken
-      taken-above h = rw (good, ne_eqb c space other, le-leb 48 c (omega arith), lt-leb c 57 h) refl
+-- the first part begins with w
+begun_with : List ℕ → List (List ℕ) → List (List ℕ)
+begun_with w [] = w ∷ []
+begun_with w (v ∷ vs) = (w ++ v) ∷ vs
 
-      pub taken_digit : 48 ≤ c → c ≤ 57 → continued r (c - 48) ≡ taken r c
-      unfolding taken
-      taken_digit h k = rw (good, ne_eqb c space other, le-leb 48 c h, le-leb c 57 k) refl
+words-after : (w l : List ℕ) → words_after w l ≡ begun_with w (slice_split (λ b. eqb b space) l)
+unfolding words_after begun_with
+words-after w [] = ap (λ (v : List ℕ). v ∷ []) (sym (append-nil w))
+words-after w (c ∷ l) = go (eqb c space) (slice_split (λ b. eqb b space) l) (some_part l) (words-after [] l) (words-after (w ++ c ∷ []) l)
+  where
+    some_part : (l : List ℕ) → 0 < length (slice_split (λ b. eqb b space) l)
+    some_part l = omega (arith, length-slice_split (λ b. eqb b space) l)
 
--- ---- all of a line's bytes
+    go : (b : Bool) (vs : List (List ℕ)) → 0 < length vs → words_after [] l ≡ begun_with [] vs → words_after (w ++ c ∷ []) l ≡ begun_with (w ++ c ∷ []) vs
+        → cond b (w ∷ words_after [] l) (words_after (w ++ c ∷ []) l) ≡ begun_with w (cond b ([] ∷ vs) (onto_first c vs))
+    go b [] h e k = absurd (omega arith)
+    go true (v ∷ vs) h e k = rw (e, append-nil w) refl
+    go false (v ∷ vs) h e k = k ∙ ap (λ (u : List ℕ). u ∷ vs) (append_assoc w (c ∷ []) v)
 
-pub value-more : (w : List ℕ) (c : ℕ) → value (w ++ c ∷ []) ≡ value w * 10 + (c - 48)
-unfolding value fold
-value-more w c = fold-append (λ n d. n * 10 + (d - 48)) 0 w (c ∷ [])
+pub words_split : (l : List ℕ) → slice_split (λ b. eqb b space) l ≡ words l
+unfolding begun_with
+words_split l = go (slice_split (λ b. eqb b space) l) (omega (arith, length-slice_split (λ b. eqb b space) l)) ∙ sym (words-after [] l)
+  where
+    go : (vs : List (List ℕ)) → 0 < length vs → vs ≡ begun_with [] vs
+    go [] h = absurd (omega arith)
+    go (v ∷ vs) h = refl
 
--- one number more
-saying-more : (ws : List (List ℕ)) (w : List ℕ) → said_also (saying ws) (value w) ≡ saying (ws ++ w ∷ [])
+-- the words come one after another, each with its place
+pub words_come : {F : Type 0} {s numbered cut : _} (g : Mut F (Bor ℕ × Unit {0}) Bool) {f : F} (l : List ℕ)
+    → s ≡ numbered → enumerate_source numbered ≡ cut → enumerate_count numbered ≡ 0 → split_rest cut ≡ l → split_done cut ≡ false → split_callee cut ≡ f
+    → ((x : ℕ) (b : Bool) (q : F) → CalledAt g f x b q → (q ≡ f) × (b ≡ eqb x space))
+    → YieldsList (enumerate_steps (split_steps g)) (λ p. (p.0, p.1.now)) s (enumerate_from 0 (words l))
+words_come g l same source count rest done callee tests =
+    rw (← words_split l) (YieldsList-at same (YieldsList-from_enumerate (YieldsList-at source (YieldsList-from_slice_split g (λ b. eqb b space) l rest done callee tests)) count))
+
+pub word_at : (ws : List (List ℕ)) (n i : ℕ) (w : List ℕ)
+    → (n < length (enumerate_from 0 ws)) × ((i, w) ≡ get_or (enumerate_from 0 ws) n (i, w)) → (i ≡ n) × ((n < length ws) × (w ≡ get_or ws n w))
+word_at ws n i w (h, e) =
+    let k : n < length ws = rw length-enumerate_from at h in
+    let p : (i, w) ≡ (n, get_or ws n w) = e ∙ get_or-enumerate_from 0 ws n (i, w) k ∙ ap (λ (m : ℕ). (m, get_or ws n w)) (omega arith) in
+    (ap (λ (q : ℕ × List ℕ). q.0) p, (k, ap (λ (q : ℕ × List ℕ). q.1) p))
+
+-- ---- the words one after another
+
+-- one number more; past the last place it is counted only
+saying-more : (ws : List (List ℕ)) (w : List ℕ) → record { count = length ws + 1; numbers = set (saying ws).numbers (length ws) (value w) } ≡ saying (ws ++ w ∷ [])
 unfolding each
 saying-more ws w =
     let n : length (ws ++ w ∷ []) ≡ length ws + 1 = length-append ws (w ∷ []) in
-    rw (n, each_append value ws (w ∷ []), ← each-length value ws) (ap (λ (l : List ℕ). record { good = true; count = length (each value ws) + 1; numbers = l }) (filled_more 0 (value w) number_limit (each value ws)))
+    rw (n, each_append value ws (w ∷ []), ← each-length value ws) (ap (λ (l : List ℕ). record { count = length (each value ws) + 1; numbers = l }) (filled_more 0 (value w) number_limit (each value ws)))
 
--- the words before the last space have been read, and of the next one w
-abbrev in_word : List (List ℕ) → List ℕ → Reading
-in_word ws w = record { line = saying ws; begun = ltb 0 (length w); value = value w }
-
--- w may become a number
-abbrev fits : List ℕ → Bool
-fits w = every is_digit w && ltb (value w) (2 ^ 64)
-
-abbrev reading_of : List (List ℕ) → List ℕ → Reading
-reading_of ws w = cond (every is_number ws && fits w) (in_word ws w) bad_reading
-
-module _ (ws : List (List ℕ)) (w : List ℕ) where
-  -- the word ends
-  ended_is : ended (reading_of ws w) ≡ reading_of (ws ++ w ∷ []) []
-  unfolding ended value fold every is_number
-  ended_is =
-      rw (every_append is_number ws (w ∷ []), ← saying-more ws w)
-      (go (every is_number ws) (ltb 0 (length w)) (every is_digit w) (ltb (value w) (2 ^ 64)))
+module _ (w : List ℕ) where
+  number_some : (m : ℕ) → number_of w ≡ Some m → (is_number w ≡ true) × (value w ≡ m)
+  unfolding number_of
+  number_some m h = go (is_number w) h
     where
-      go : (a b c d : Bool) → ended (cond (a && (c && d)) (record { line = saying ws; begun = b; value = value w }) bad_reading)
-          ≡ cond ((a && (b && c && d && true)) && (true && ltb 0 (2 ^ 64))) (between_words (said_also (saying ws) (value w))) bad_reading
-      go false b c d = refl
-      go true true true true = refl
-      go true true true false = refl
-      go true true false d = refl
-      go true false true true = refl
-      go true false true false = refl
-      go true false false d = refl
+      go : (b : Bool) → cond b (Some (value w)) None ≡ Some m → (b ≡ true) × (value w ≡ m)
+      go true e = (refl, cc)
+      go false e = cc
 
-  module _ (c : ℕ) where
-    -- by a space
-    space_is : eqb c space ≡ true → taken (reading_of ws w) c ≡ reading_of (ws ++ w ∷ []) []
-    unfolding taken ended
-    space_is h = go (every is_number ws && fits w) ∙ ended_is
-      where
-        go : (b : Bool) → taken (cond b (in_word ws w) bad_reading) c ≡ ended (cond b (in_word ws w) bad_reading)
-        go true = rw h refl
-        go false = refl
+  number_none : number_of w ≡ None → is_number w ≡ false
+  unfolding number_of
+  number_none h = go (is_number w) h
+    where
+      go : (b : Bool) → cond b (Some (value w)) None ≡ None → b ≡ false
+      go true e = cc
+      go false e = refl
 
-    module _ (other : eqb c space ≡ false) where
-      -- a digit goes to the word
-      digit_is : is_digit c ≡ true → taken (reading_of ws w) c ≡ reading_of ws (w ++ c ∷ [])
-      unfolding taken continued every
-      digit_is k =
-          let n : ltb 0 (length w + 1) ≡ true = lt-ltb 0 (length w + 1) (omega arith) in
-          rw (every_append is_digit w (c ∷ []), value-more w c, length-append w (c ∷ []), n)
-          (go (every is_number ws) (every is_digit w) (ltb (value w) (2 ^ 64)) (λ h. le-ltb (value w * 10 + (c - 48)) (2 ^ 64) (omega (arith, ltb-false (value w) (2 ^ 64) h))))
-        where
-          go : (a b d : Bool) → (d ≡ false → ltb (value w * 10 + (c - 48)) (2 ^ 64) ≡ false)
-              → taken (cond (a && (b && d)) (in_word ws w) bad_reading) c
-              ≡ cond (a && ((b && (is_digit c && true)) && ltb (value w * 10 + (c - 48)) (2 ^ 64))) (record { line = saying ws; begun = true; value = value w * 10 + (c - 48) }) bad_reading
-          go false b d h = refl
-          go true false d h = refl
-          go true true false h = rw (k, h refl) refl
-          go true true true h = rw (other, k) refl
+-- word n of a line
+module _ (ws : List (List ℕ)) (n : ℕ) (w : List ℕ) (is : (n < length ws) × (w ≡ get_or ws n w)) where
+  next_take : take (n + 1) ws ≡ take n ws ++ w ∷ []
+  next_take = take_more ws n w is.0 ∙ ap (λ (v : List ℕ). take n ws ++ v ∷ []) (sym is.1)
 
-      -- anything else spoils it
-      bad_is : is_digit c ≡ false → taken (reading_of ws w) c ≡ reading_of ws (w ++ c ∷ [])
-      unfolding taken every
-      bad_is k =
-          rw (every_append is_digit w (c ∷ []))
-          (go (every is_number ws) (every is_digit w) (fits w))
-        where
-          go : (a b d : Bool) → taken (cond (a && d) (in_word ws w) bad_reading) c
-              ≡ cond (a && ((b && (is_digit c && true)) && ltb (value (w ++ c ∷ [])) (2 ^ 64))) (in_word ws (w ++ c ∷ [])) bad_reading
-          go false b d = refl
-          go true true true = rw (other, k) refl
-          go true true false = rw k refl
-          go true false true = rw (other, k) refl
-          go true false false = refl
+  next_said : (m : ℕ) → number_of w ≡ Some m → record { count = (saying (take n ws)).count + 1; numbers = set (saying (take n ws)).numbers n m } ≡ saying (take (n + 1) ws)
+  next_said m e =
+      let k : length (take n ws) ≡ n = length-take-le n ws (omega arith) in
+      let v = (number_some w m e).1 in
+      let s = saying-more (take n ws) w in
+      let t = next_take in
+      cc
 
-      other_is : taken (reading_of ws w) c ≡ reading_of ws (w ++ c ∷ [])
-      other_is = ⊎_elim digit_is bad_is (true_or_false (is_digit c))
+  module _ (i m : ℕ) (at : i ≡ n) (e : number_of w ≡ Some m) (l k : Line) (said : l ≡ saying (take n ws)) where
+    pub next_put : k ≡ record { count = l.count; numbers = set l.numbers i m } → record { count = k.count + 1; numbers = k.numbers } ≡ saying (take (n + 1) ws)
+    next_put put = rw (put, said, at) (next_said m e)
 
-reading-words : (l : List ℕ) (ws : List (List ℕ)) (w : List ℕ) → ended (fold taken (reading_of ws w) l) ≡ reading_of (ws ++ words_after w l) []
-unfolding fold words_after
-reading-words [] ws w = ended_is ws w
-reading-words (c ∷ l) ws w = go (eqb c space) refl (reading-words l (ws ++ w ∷ []) []) (reading-words l ws (w ++ c ∷ []))
-  where
-    go : (b : Bool) → eqb c space ≡ b → ended (fold taken (reading_of (ws ++ w ∷ []) []) l) ≡ reading_of ((ws ++ w ∷ []) ++ words_after [] l) []
-        → ended (fold taken (reading_of ws (w ++ c ∷ [])) l) ≡ reading_of (ws ++ words_after (w ++ c ∷ []) l) []
-        → ended (fold taken (taken (reading_of ws w) c) l) ≡ reading_of (ws ++ cond b (w ∷ words_after [] l) (words_after (w ++ c ∷ []) l)) []
-    go true e h k = ap (λ (r : Reading). ended (fold taken r l)) (space_is ws w c e) ∙ h ∙ ap (λ (v : List (List ℕ)). reading_of v []) (append_assoc ws (w ∷ []) (words_after [] l))
-    go false e h k = ap (λ (r : Reading). ended (fold taken r l)) (other_is ws w c e) ∙ k
+    pub next_past : number_limit ≤ i → k ≡ l → record { count = k.count + 1; numbers = k.numbers } ≡ saying (take (n + 1) ws)
+    next_past h same =
+        let far : length l.numbers ≤ n = rw said (omega (arith, length-take number_limit (each value (take n ws) ++ replicate number_limit 0))) in
+        next_put (same ∙ ap (λ (ns : List ℕ). record { count = l.count; numbers = ns }) (rw at (sym (set_out l.numbers n m far))))
+
+  pub next_good : (m : ℕ) → number_of w ≡ Some m → every is_number (take n ws) ≡ true → every is_number (take (n + 1) ws) ≡ true
+  unfolding every
+  next_good m e h = rw (next_take, every_append is_number (take n ws) (w ∷ []), h, (number_some w m e).0) refl
+
+-- ---- all the words of a line
 
 module _ (l : List ℕ) where
-  pub line_read : length l ≤ line_limit → (ended (fold taken new_reading l)).line ≡ line_of l
-  unfolding line_of is_line value every fold
-  line_read h =
-      ap (λ (r : Reading). r.line) (reading-words l [] [])
-      ∙ rw (le-leb (length l) line_limit h) (go (every is_number (words l)))
-    where
-      go : (b : Bool) → (cond (b && true) (between_words (saying (words l))) bad_reading).line ≡ cond b (saying (words l)) bad_line
-      go true = refl
-      go false = refl
+  pub line_good : length l ≤ line_limit → every is_number (words l) ≡ true → Some (saying (words l)) ≡ line_of l
+  unfolding line_of is_line
+  line_good h k = rw (le-leb (length l) line_limit h, k) refl
 
-  pub line_long : line_limit < length l → bad_line ≡ line_of l
+  pub line_bad : length l ≤ line_limit → (n : ℕ) (w : List ℕ) → (n < length (words l)) × (w ≡ get_or (words l) n w) → number_of w ≡ None → None ≡ line_of l
+  unfolding line_of is_line
+  line_bad h n w is e = rw (le-leb (length l) line_limit h) (go (every is_number (words l)) refl)
+    where
+      go : (b : Bool) → every is_number (words l) ≡ b → None ≡ cond b (Some (saying (words l))) None
+      go true k = absurd (true≢false (sym (every-at is_number (words l) n w k is.0) ∙ ap is_number (sym is.1) ∙ number_none w e))
+      go false k = refl
+
+  pub line_long : line_limit < length l → None ≡ line_of l
   unfolding line_of is_line
   line_long h = rw (lt-leb (length l) line_limit h) refl

@@ -1,5 +1,5 @@
 -- Document 01, "One session, whole": a line of input, and the numbers that it says
-use Rattle.std.specs.Prelude.{ℕ, ◌+◌, ◌*◌, ◌-◌, ◌^◌, Bool, true, false, ◌&&◌, List, [], ◌∷◌, ◌++◌, length, replicate, eqb, leb, ltb, if◌then◌else◌}
+use Rattle.std.specs.Prelude.{ℕ, ◌+◌, ◌*◌, ◌-◌, ◌^◌, Bool, ◌&&◌, List, [], ◌∷◌, ◌++◌, length, eqb, leb, ltb, if◌then◌else◌, Option, Some, None}
 use Rattle.rules.specs.Limits.{block_limit}
 use Rattle.rules.specs.Words.{each, every, fold, filled}
 use Rattle.text_numbers.specs.declared.Line.{Line}
@@ -49,13 +49,10 @@ is_line l = leb (length l) line_limit && every is_number (words l)
 abbrev pub number_limit : ℕ
 number_limit = block_limit
 
-abbrev pub bad_line : Line
-bad_line = record { good = false; count = 0; numbers = replicate number_limit 0 }
-
 -- the numbers of the words, and how many words there are
 abbrev pub saying : List (List ℕ) → Line
-saying ws = record { good = true; count = length ws; numbers = filled number_limit 0 (each value ws) }
+saying ws = record { count = length ws; numbers = filled number_limit 0 (each value ws) }
 
 -- what a line of input says, given without its newline; a bad one says nothing
-unfoldable pub line_of : List ℕ → Line
-line_of l = if is_line l then saying (words l) else bad_line
+unfoldable pub line_of : List ℕ → Option Line
+line_of l = if is_line l then Some (saying (words l)) else None

@@ -2,9 +2,9 @@
 // Document 01, "One session, whole".
 #![tactic(auto)]
 
-ghost use Rattle.std.specs.Prelude.{◌<◌, ◌≡◌};
-ghost use Rattle.text_numbers.specs.Lines.{bad_line, line_of};
-ghost use Rattle.text_numbers.specs.Steps.{between_words, bad_reading, new_reading, said_also, ended, continued, taken};
+ghost use Rattle.std.specs.Prelude.{◌≡◌};
+ghost use Rattle.text_numbers.specs.Lines.{line_of};
+ghost use Rattle.text_numbers.specs.Digits.{continued, number_of};
 
 // "longer than 120 bytes"
 pub const LIMIT: usize = 120;
@@ -12,155 +12,56 @@ pub const LIMIT: usize = 120;
 // The second line has the most numbers: one a block.
 pub const NUMBERS: usize = rules::BLOCKS;
 
-const SPACE: u8 = 32;
-
-// What a line says: how many numbers, and the first 16 of them, the unused places 0. A bad line is all zero.
+// What a good line says: how many numbers, and the first 16 of them, the unused places 0.
 #[derive(Clone, Copy)]
 pub struct Line {
-    pub good: bool,
     pub count: u64,
     pub numbers: [u64; NUMBERS],
 }
 
-// A line while it is read: the numbers so far, and the one that has begun, if one has.
-#[derive(Clone, Copy)]
-struct Reading {
-    line: Line,
-    begun: bool,
-    value: u64,
-}
-
-fn bad_line() -> Line
-    ensures { result ≡ bad_line }
+// One digit more, as long as the number fits 64 bits; any other byte is no digit.
+fn add_digit(value: u64, byte: u8) -> Option<u64>
+    ensures { result ≡ continued value byte }
 {
-    Line {
-        good: false,
-        count: 0,
-        numbers: [0; NUMBERS],
+    match byte {
+        b'0'..=b'9' => value.checked_mul(10)?.checked_add(u64::from(byte - b'0')),
+        _ => None,
     }
 }
 
-// A line while it is read, with no word begun.
-fn between(l: Line) -> Reading
-    ensures { result ≡ between_words l }
+// The number that a word is; "not a number, a number above 64 bits" is none.
+#[tactic(auto, using(crate::proofs::Laws::more_read, crate::proofs::Laws::none_read, crate::proofs::Laws::all_read, crate::proofs::Laws::word_read, crate::proofs::Laws::no_word))]
+fn number(word: &[u8]) -> Option<u64>
+    ensures { result ≡ number_of word.now }
 {
-    Reading {
-        line: l,
-        begun: false,
-        value: 0,
+    if word.is_empty() {
+        return None;
     }
-}
-
-fn bad_reading() -> Reading
-    ensures { result ≡ bad_reading }
-{
-    between(bad_line())
-}
-
-// Before the first byte.
-#[tactic(auto, unfolding(rules::specs::Words::each))]
-fn new_reading() -> Reading
-    ensures { result ≡ new_reading }
-{
-    let l = Line {
-        good: true,
-        count: 0,
-        numbers: [0; NUMBERS],
-    };
-    between(l)
-}
-
-// A line with one number more.
-fn say_also(l: Line, n: u64) -> Line
-    requires { l.count < 1000 }
-    ensures { result ≡ said_also l n }
-{
-    let i = l.count as usize;
-    let mut out = l;
-    out.good = true;
-    out.count = l.count + 1;
-    if i < NUMBERS {
-        out.numbers[i] = n;
+    let mut value = 0;
+    for &byte in word {
+        value = add_digit(value, byte)?;
     }
-    out
-}
-
-// A space or the line's end: the word that has begun is a number more.
-#[tactic(auto, unfolding(crate::specs::Steps::ended))]
-fn end_word(r: Reading) -> Reading
-    requires { r.line.count < 1000 }
-    ensures { result ≡ ended r }
-{
-    if !r.begun {
-        return bad_reading();
-    }
-    let l = r.line;
-    between(say_also(l, r.value))
-}
-
-// A digit, as long as the number fits 64 bits.
-#[tactic(auto, unfolding(crate::specs::Steps::continued))]
-fn add_digit(r: Reading, d: u64) -> Reading
-    requires { d < 10 }
-    ensures { result ≡ continued r d }
-{
-    let v = r.value;
-    if u64::MAX / 10 < v {
-        return bad_reading();
-    }
-    if u64::MAX - v * 10 < d {
-        return bad_reading();
-    }
-    let l = r.line;
-    Reading {
-        line: l,
-        begun: true,
-        value: v * 10 + d,
-    }
-}
-
-fn wide(byte: u8) -> u64
-    ensures { result ≡ byte }
-{
-    byte as u64
-}
-
-// One byte of a line. A bad line stays bad.
-#[tactic(auto, unfolding(crate::specs::Steps::taken))]
-fn take_byte(r: Reading, byte: u8) -> Reading
-    requires { r.line.count < 1000 }
-    ensures { result ≡ taken r byte }
-{
-    let l = r.line;
-    if !l.good {
-        return r;
-    }
-    if byte == SPACE {
-        return end_word(r);
-    }
-    if byte < 48 {
-        return bad_reading();
-    }
-    if 57 < byte {
-        return bad_reading();
-    }
-    add_digit(r, wide(byte) - 48)
+    Some(value)
 }
 
 // What a line says; one that is longer than 120 bytes is not looked at.
-pub fn parse(line: &[u8]) -> Line
+#[tactic(auto, unfolding(rules::specs::Words::each, rules::specs::Words::every))]
+pub fn parse(line: &[u8]) -> Option<Line>
     ensures { result ≡ line_of line.now }
 {
     if LIMIT < line.len() {
-        return bad_line();
+        return None;
     }
-    let mut r = new_reading();
-    let mut i: usize = 0;
-    while i < line.len() {
-        let next = take_byte(r, line[i]);
-        r = next;
-        i = i + 1;
+    let mut said = Line {
+        count: 0,
+        numbers: [0; NUMBERS],
+    };
+    for (i, word) in line.split(|byte| *byte == b' ').enumerate() {
+        let n = number(word)?;
+        if i < NUMBERS {
+            said.numbers[i] = n;
+        }
+        said.count += 1;
     }
-    let last = end_word(r);
-    last.line
+    Some(said)
 }
