@@ -12,5 +12,5 @@ returns c =
     let k = c.args.k.now in
     let chunks = c.args.chunks.now in
     any_from_yields_List (λ (s : Set). all_lost s chunks) _ _ _ c.any.ensures.ran
-    (YieldsList-from_take k.blocks (YieldsList-from_slice k.sets (cc)) (cc)) (λ x b q h. search (rules, tests))
+    (YieldsList-from_take k.blocks (YieldsList-from_slice k.sets (cc)) c.take.ensures.count) (λ x b q h. search (rules, tests))
     ∙ sym (some_lost k chunks (omega arith))
