@@ -221,7 +221,7 @@ fn renew_in(t: &mut Table, next: Epoch)
 pub fn change_in(t: &mut Table, next: Epoch) -> Result<(), Refused>
     ensures { (result ≡ ruled (epoch_refusals t.old.creation t.old.epoch t.old.chunks) tt) × (t.new ≡ changed_to next t.old) }
 {
-    epoch_change::check_change(t.creation, t.epoch, t.chunks)?;
+    epoch_change::change_code(t.creation, t.epoch, t.chunks)?;
     settle_in(t);
     renew_in(t, next);
     Ok(())

@@ -16,7 +16,7 @@ use Rattle.rules.specs.declared.Refused.{Refused}
 use Rattle.rules.specs.Events.{EventKind, unknown_kind, kind_of, ranges}
 use Rattle.rules.specs.Operands.{in_range}
 use Rattle.rules.specs.Words.{Numbered, those, each, place, under}
-use Rattle.rules.proofs.Lists.{Others, three, under-other}
+use Rattle.rules.proofs.Lists.{◌&◌, end, Others, three, under-number, under-other}
 use Rattle.event_operands.specs.declared.Step.{Step}
 use Rattle.event_operands.specs.Steps.{number_of_step, steps, step_named}
 use Rattle.event_operands.specs.Address.{◌is_a◌, operands_of, the}
@@ -26,6 +26,18 @@ use Rattle.event_operands.specs.Address.{◌is_a◌, operands_of, the}
 -- no step has another number
 pub no_step : (kind : ℕ) → Others (Unit {0}) kind steps → Err Refused.OutOfRange ≡ step_named kind
 no_step kind o = sym (under-other (Err Refused.OutOfRange) kind (Unit {0}) steps o)
+
+-- a named step has the number
+abbrev numbered : (kind : ℕ) → Result Step Refused → Type 0
+numbered kind (Ok s) = kind ≡ number_of_step s
+numbered kind (Err why) = Unit {0}
+
+pub number-named : (kind : ℕ) (s : Step) → step_named kind ≡ Ok s → kind ≡ number_of_step s
+number-named kind s named =
+    rw named at (under-number (Err Refused.OutOfRange) kind (numbered kind) steps (
+    (λ h. h) & (λ h. h) & (λ h. h) & (λ h. h) & (λ h. h) & (λ h. h) & (λ h. h) & (λ h. h)
+    & (λ h. h) & (λ h. h) & (λ h. h) & (λ h. h) & (λ h. h) & (λ h. h) & (λ h. h) & (λ h. h)
+    & end) tt)
 
 -- what f makes of what stands under a number stands under it in the table that f makes
 pub under-each : {A B : Type 0} (f : A → B) (d : A) (l : List (Numbered A)) (n : ℕ)
@@ -45,12 +57,17 @@ under-each {A = A} {B = B} f d (x ∷ xs) n = go (eqb x.number n) (under-each f 
 
 -- the kind under a number is the named step's
 abbrev pub kind_by : Result Step Refused → EventKind
-kind_by (Ok step) = kind_of (number_of_step step)
+kind_by (Ok s) = kind_of (number_of_step s)
 kind_by (Err why) = unknown_kind
 
 pub kind_named : (kind : ℕ) → kind_by (step_named kind) ≡ kind_of kind
 unfolding each kind_of place
 kind_named kind = under-each kind_by (Err Refused.OutOfRange) steps kind
+
+-- no number is in the range of a kind that names no step
+pub unknown-outside : (k : Creation) (e : Event) (why : Refused) → step_named e.kind ≡ Err why → ranges k e ≡ false
+unfolding ranges
+unknown-outside k e why named = rw (sym (rw named at (kind_named e.kind))) refl
 
 -- ---- the operand of a sort
 

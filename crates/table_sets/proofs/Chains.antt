@@ -6,14 +6,15 @@ use mathlib.Core.Path.{◌≡◌, refl, sym, ap, ◌∙◌}
 use mathlib.Core.Bool.{Bool, true, false, cond, beq, ◌&&◌, ◌||◌}
 use mathlib.Core.List.{List, [], ◌∷◌, map}
 use lib.ListN.{length, get_or}
-use Rattle.std.specs.List.{filter, list_all, list_any, count_by, position_or_len, range_with_len, enumerate_from}
-use Rattle.std.proofs.Common.{add-one, one-add, zero-add}
+use Rattle.std.specs.List.{filter, list_all, list_any, count_by, position, position_or_len, range_with_len, enumerate_from}
+use Rattle.std.specs.Prelude.{None, Some, unwrap_or, nat_lt}
+use Rattle.std.proofs.Common.{arith, add-one, one-add, zero-add}
 use Rattle.std.proofs.lemmas.List.Recursion.{is_position_or_len, same_from_clauses}
 use Rattle.std.proofs.lemmas.List.Sums.{length-filter}
 use Rattle.std.proofs.lemmas.List.FromFn.{length-enumerate_from, get_or-enumerate_from}
 use Rattle.rules.specs.Words.{those, each, every, some, place, from, numbers}
 use Rattle.rules.proofs.Lists.{each-length}
-use Rattle.rules.proofs.Loops.{each_of}
+use Rattle.rules.proofs.Loops.{each_of, place-le}
 
 -- ---- over the list itself
 
@@ -37,6 +38,14 @@ module _ {A : Type 0} (p : A → Bool) where
       at : (b : Bool) (n : ℕ) → cond b 0 (suc n) ≡ cond b 0 (1 + n)
       at true n = refl
       at false n = sym (one-add n)
+
+  -- `position(..).unwrap_or(n)`
+  pub position_or : (l : List A) (n : ℕ) → length l ≡ n → unwrap_or (position p l) n ≡ place p l
+  position_or l n h = go (nat_lt (position_or_len p l) (length l)) refl ∙ sym (place-position l)
+    where
+      go : (b : Bool) → nat_lt (position_or_len p l) (length l) ≡ b → unwrap_or (cond b (Some (position_or_len p l)) None) n ≡ position_or_len p l
+      go true k = refl
+      go false k = grind (arith, k, h, place-le p l, place-position l)
 
   pub length-those : (l : List A) → length (those p l) ≡ count_by p l
   length-those l = ap length (those-filter l) ∙ length-filter p l
