@@ -7,7 +7,7 @@ ghost use Rattle.rules.specs.Formed.{queue_formed, attempt_formed, host_formed, 
 ghost use Rattle.rules.specs.Limits.{block_limit};
 ghost use Rattle.rules.specs.Words.{every, numbers};
 ghost use Rattle.rules.specs.Zero.{is_empty, is_zero_entry, is_zero_record, is_zero_chunk, is_zero_operation, is_zero_attempt, is_zero_host};
-ghost use Rattle.table_sound.specs.Parts.{counted, counts_of, record_of_number};
+ghost use Rattle.table_sound.specs.Parts.{counted, record_of_number};
 ghost use Rattle.table_sound.specs.Places.{LooksAtEvery};
 
 use rules::{
@@ -15,8 +15,8 @@ use rules::{
     Record, Set, Sort, State, Table, Timestamp, Waiting,
 };
 
-// Every place of an array is formed, by its number and what stands there. All are looked at, with no way out of the loop: so it is
-// unrolled, and what stands there is read where it lies.
+// Every place of an array is formed, as a test says of its number and what stands there. All are looked at, with no way out of the
+// loop: so it is unrolled.
 fn every_place<T, F: Fn(u64, &T) -> bool>(places: &[T], formed: F) -> bool
     requires { (i : ℕ) (x : _) → i < length places.now → F.pre formed i x }
     ensures { LooksAtEvery F.Fn formed places.now result }
@@ -101,17 +101,22 @@ struct Counts {
     blocks: u64,
 }
 
-impl Counts {
-    fn of(k: &Creation) -> Self
-        ensures { result ≡ counts_of k.now }
-    {
+impl From<&Creation> for Counts {
+    ghost use Rattle.std.specs.Prelude.{◌≡◌};
+    ghost use Rattle.table_sound.specs.Parts.{counts_of};
+
+    ghost from_gives = { λ k n. n ≡ counts_of k.now };
+
+    fn from(k: &Creation) -> Counts {
         Counts {
             hosts: k.hosts,
             chunks: k.chunks,
             blocks: k.blocks,
         }
     }
+}
 
+impl Counts {
     // Every chunk in the set is one of the store's.
     fn of_store(self, s: &Set) -> bool
         ensures { result ≡ of_store (counted self) s.now }
@@ -197,7 +202,7 @@ impl Counts {
                 &w.entries,
                 |i, e| if i < w.count {
                     let ahead = w.entries[i.saturating_sub(1) as usize].timestamp;
-                    self.entry_formed(e) & !(e.timestamp < ahead)
+                    self.entry_formed(e) & (ahead <= e.timestamp)
                 } else {
                     is_zero_entry(e)
                 },
@@ -295,7 +300,7 @@ impl Counts {
 fn sets_formed(k: &Creation) -> bool
     ensures { result ≡ every (is_set_of k.now) (numbers block_limit) }
 {
-    let n = Counts::of(k);
+    let n = Counts::from(k);
     every_place(&k.sets, |b, s| n.is_set_of(b, s))
 }
 
@@ -312,11 +317,10 @@ pub fn is_creation(k: Creation) -> bool
 }
 
 // Each part is read where it lies, and none of the table's arrays is copied.
-#[tactic(auto, unfolding(rules::specs::Formed::well_formed))]
 pub fn sound_in(t: &Table) -> bool
     ensures { result ≡ well_formed t.now }
 {
-    let n = Counts::of(&t.creation);
+    let n = Counts::from(&t.creation);
     is_creation(t.creation)
         & (t.epoch.0 <= rules::GREATEST_CLOCK)
         & n.hosts_formed(&t.hosts)

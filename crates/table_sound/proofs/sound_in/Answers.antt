@@ -4,4 +4,4 @@ use Rattle.table_sound.proofs.sound_in.Goals as goal
 
 pub returns : goal.returns
 unfolding well_formed
-returns c = rw (c.is_creation.ensures, c.hosts_formed.ensures, c.chunks_formed.ensures, c.records_formed.ensures, c.places_formed.ensures, c.of-n.ensures) refl
+returns c = rw (c.is_creation.ensures, c.hosts_formed.ensures, c.chunks_formed.ensures, c.records_formed.ensures, c.places_formed.ensures, c.from-n.ensures) refl
