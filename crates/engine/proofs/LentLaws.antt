@@ -1,11 +1,12 @@
 -- What the proofs of engine cite: what each way of an event answers and leaves is the rules' step
 use Rattle.std.specs.Prelude.{Result, Ok, Err}
-use Prim.Native.Nat.{ℕ, zero, suc, ◌<◌, ◌≤◌}
+use Prim.Native.Nat.{ℕ, ◌<◌, ◌≤◌}
 use mathlib.Core.Path.{◌≡◌, refl, sym, ap, ◌∙◌}
 use mathlib.Core.Bool.{Bool, true, false, cond}
-use mathlib.Core.List.{List, [], ◌∷◌}
+use mathlib.Core.List.{List}
 use native.Mathlib.Omega.{arith}
 use Rattle.std.proofs.lemmas.Bool.Decides.{nat_tests}
+use Rattle.std.proofs.lemmas.List.{get_or_default}
 use lib.Dec.{eqb}
 use lib.ListN.{length, get_or}
 use borrow.Author.Tests.{eqb-true, eqb-false, lt-ltb, leb-true}
@@ -30,11 +31,10 @@ use Rattle.epoch_lent.specs.Steps.{changed, changed_to}
 use Rattle.event_operands.specs.declared.Step.{Step}
 use Rattle.event_operands.specs.Steps.{step_named}
 use Rattle.event_operands.proofs.Laws.{number-named}
-use Rattle.event_parts.specs.declared.Acted.{Acted}
 use Rattle.event_parts.specs.Acts.{granting}
 use Rattle.event_lent.specs.declared.Here.{Here}
 use Rattle.event_lent.specs.Touches.{removed_at, here_in, parts_in, keeping, storing, left_of, acted_on}
-use Rattle.engine.proofs.Touches.{slot_here, host_here, chunk_here, block_here, parts_of, effect_of}
+use Rattle.engine.proofs.Touches.{slot_here, host_here, chunk_here, block_here, parts_of}
 use Rattle.engine.proofs.PartLaws.{acts, host-below, chunk-below, block-below}
 
 -- ---- a refusal's number
@@ -112,11 +112,6 @@ epoch-fits t ok = leb-true t.epoch.0 greatest_clock (formed t ok).epoch
 
 -- ---- an event on the parts that it touches
 
-default_none : {A : Type 0} (d e : A) (l : List A) (i : ℕ) → i < length l → get_or l i d ≡ get_or l i e
-default_none d e [] i h = absurd (omega arith)
-default_none d e (x ∷ l) zero h = refl
-default_none d e (x ∷ l) (suc i) h = default_none d e l i (omega arith)
-
 module _ (t : Table) (e : Event) (ok : well_formed t ≡ true) (near : ranges t.creation e ≡ true)
     (hosts : length t.hosts ≡ 8) (chunks : length t.chunks ≡ 8) (records : length t.records ≡ 128) (places : length t.places ≡ 64) where
   abbrev i : ℕ
@@ -129,7 +124,7 @@ module _ (t : Table) (e : Event) (ok : well_formed t ≡ true) (near : ranges t.
   b = block_here t e
 
   host-here : get_or t.hosts i zero_host ≡ host_of t i
-  host-here = default_none zero_host no_host t.hosts i (rw hosts (host-below t e ok near))
+  host-here = get_or_default t.hosts i zero_host no_host (rw hosts (host-below t e ok near))
 
   abbrev chunk_in : c < chunk_limit
   chunk_in = chunk-below t e ok near
@@ -138,10 +133,10 @@ module _ (t : Table) (e : Event) (ok : well_formed t ≡ true) (near : ranges t.
   block_in = block-below t e ok near
 
   chunk-here : get_or t.chunks c zero_chunk ≡ chunk_of t c
-  chunk-here = default_none zero_chunk no_chunk t.chunks c (rw chunks chunk_in)
+  chunk-here = get_or_default t.chunks c zero_chunk no_chunk (rw chunks chunk_in)
 
   record_here : get_or t.records (at c b) zero_record ≡ record_of t c b
-  record_here = default_none zero_record no_record t.records (at c b) (let x = chunk_in in let y = block_in in rw records (omega arith))
+  record_here = get_or_default t.records (at c b) zero_record no_record (let x = chunk_in in let y = block_in in rw records (omega arith))
 
   abbrev here : Here
   here = record { slot = slot_here t e; host = i; chunk = c; block = b; «record» = at c b; place = removed_at e }
@@ -153,10 +148,6 @@ module _ (t : Table) (e : Event) (ok : well_formed t ≡ true) (near : ranges t.
   parts_are : parts_in t here ≡ parts_of t e
   unfolding parts_in
   parts_are = rw (host-here, chunk-here, record_here, lt-ltb b block_limit block_in) refl
-
-  keeps : (a : Acted) → record { table = storing t here a; outcome = a.outcome } ≡ effect_of t e a
-  unfolding storing keeping
-  keeps a = refl
 
   acted_on_is : (s : Step) → step_named e.kind ≡ Ok s → (s ≡ Step.Fail → ⊥) → (s ≡ Step.EpochChange → ⊥)
       → acted_on t e ≡ ruled (rule_of t e).refusals (rule_of t e).effect

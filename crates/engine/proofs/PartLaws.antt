@@ -50,7 +50,7 @@ event n a b c = record { kind = n; a = a; b = b; c = c }
 
 -- ---- what is granted
 
-pub granted_by : {A B : Type 0} (f : A → B) (rows : List Row) (x : A) → granting f (ruled rows x) ≡ ruled rows (f x)
+granted_by : {A B : Type 0} (f : A → B) (rows : List Row) (x : A) → granting f (ruled rows x) ≡ ruled rows (f x)
 granted_by {A = A} {B = B} f rows x = go (eqb (code_of rows) 0)
   where
     go : (g : Bool) → granting f (cond g (Ok x) (Err (refused_by (code_of rows)))) ≡ cond g (Ok (f x)) (Err (refused_by (code_of rows)))

@@ -33,7 +33,6 @@ pub fn create(k: Creation) -> Created
 // ---- the event, where the table lies
 
 // "Code 8 is looked for first, then ranges (1), then the order in each event". Failure and epoch change touch more than one record.
-// An event on parts asks how long the arrays are, so they are named as slices: their lengths are known there.
 fn try_step(t: &mut Table, e: Event) -> Result<Outcome, Refused>
     ensures { (reply_by result ≡ reply_of (step t.old e)) × (t.new ≡ (step t.old e).table) }
 {
@@ -54,6 +53,7 @@ fn try_step(t: &mut Table, e: Event) -> Result<Outcome, Refused>
             Ok(Outcome::None)
         }
         _ => {
+            // That act_in is the rules' step asks for the arrays' lengths: a proof knows them where they are named as slices (tried without).
             let _hosts: &[Host] = &t.hosts;
             let _chunks: &[Chunk] = &t.chunks;
             let _records: &[Record] = &t.records;
