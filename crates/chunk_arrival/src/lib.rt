@@ -1,151 +1,93 @@
 // A message arrives at a chunk: what it makes of the chunk and its record of the block, and the reply.
 #![tactic(auto)]
 
-ghost use Rattle.std.specs.Prelude.{◌≡◌};
-ghost use Rattle.rules.specs.Chunks.{answering, refusing, silent, is_out_of_order, waits, arrived, decides, at_chunk, arrives};
-ghost use Rattle.rules.specs.Messages.{header_of, sort_of};
+ghost use Rattle.std.specs.Prelude.{◌≡◌, ltb, if◌then◌else◌};
+ghost use Rattle.rules.specs.Chunks.{with_waiting, arrived, arrives};
+ghost use Rattle.rules.specs.Waiting.{marked};
+ghost use Rattle.chunk_arrival.specs.Replies.{answered};
 
-use rules::{
-    Arrived, Chunk, Entry, Epoch, Header, Kind, Message, Record, Refusal, Message, Sort, Timestamp,
-};
+use rules::{Arrived, Chunk, Entry, Epoch, Header, Kind, Message, Record, Refusal, Sort, State};
 
-// The chunk and its record, with a reply.
-fn answering(c: Chunk, r: Record, header: Header, sort: Sort) -> Arrived
-    ensures { result ≡ answering c r header sort }
-{
-    let m = network_messages::message_of(header, sort);
-    Arrived {
-        chunk: c,
-        held: r,
-        reply: Some(m),
-    }
-}
-
-// Both as they were, and the sender hears why.
-fn refusing(c: Chunk, r: Record, header: Header, why: Refusal) -> Arrived
-    ensures { result ≡ refusing c r header why }
-{
-    answering(c, r, header, Sort::Refusal(why))
-}
-
-// The chunk and its record, with no reply.
-fn silent(c: Chunk, r: Record) -> Arrived
-    ensures { result ≡ silent c r }
-{
-    Arrived {
-        chunk: c,
-        held: r,
-        reply: None,
-    }
-}
-
-// "timestamp below last write (a prewrite: or below last read), out of order".
-fn is_out_of_order(k: Kind, t: Timestamp, r: Record) -> bool
-    ensures { result ≡ is_out_of_order k t r }
-{
-    (t.0 < r.write.0) | (!table_kinds::is_read(k) & (t.0 < r.read.0))
-}
-
-// "else it waits, after its equals, and a prewrite is answered with a prewrite reply".
-fn waits(c: Chunk, r: Record, header: Header, epoch: Epoch, kind: Kind) -> Arrived
-    ensures { result ≡ waits c r header epoch kind }
-{
-    let t = header.timestamp;
-    let e = Entry {
-        timestamp: t,
-        sender: header.host,
-        epoch: epoch,
-        kind: kind,
-    };
-    let w = r.waiting;
-    let now = chunk_waiting::insert(w, e);
-    let mut out = r;
-    out.waiting = now;
-    if table_kinds::is_read(kind) {
-        return silent(c, out);
-    }
-    answering(c, out, header, Sort::PrewriteReply)
-}
-
-// "Read or prewrite at a chunk, in this order": version mismatch, error, out of order, busy; else it waits.
+// "Read or prewrite at a chunk, in this order": version mismatch, error, out of order, busy; "else it waits, after its equals".
 #[tactic(auto, unfolding(rules::specs::Chunks::arrived))]
-fn read_or_prewrite(
+fn wait(
     blocks: u64,
     c: Chunk,
     r: Record,
     header: Header,
     epoch: Epoch,
     kind: Kind,
-) -> Arrived
-    ensures { result ≡ arrived blocks c r header epoch kind }
+) -> Result<Record, Refusal>
+    ensures { answered c r header kind result ≡ arrived blocks c r header epoch kind }
 {
-    if epoch.0 != c.epoch.0 {
-        return refusing(c, r, header, Refusal::Mismatch);
-    }
-    if blocks <= header.block {
-        return refusing(c, r, header, Refusal::Error);
-    }
     let t = header.timestamp;
-    if is_out_of_order(kind, t, r) {
-        return refusing(c, r, header, Refusal::OutOfOrder);
+    if epoch != c.epoch {
+        return Err(Refusal::Mismatch);
     }
-    let w = r.waiting;
-    if rules::WAITING as u64 <= w.count {
-        return refusing(c, r, header, Refusal::Busy);
+    if header.block >= blocks {
+        return Err(Refusal::Error);
     }
-    waits(c, r, header, epoch, kind)
+    if t < r.write || kind != Kind::Read && t < r.read {
+        return Err(Refusal::OutOfOrder);
+    }
+    if r.waiting.count >= rules::WAITING as u64 {
+        return Err(Refusal::Busy);
+    }
+    let entry = Entry {
+        timestamp: t,
+        sender: header.host,
+        epoch,
+        kind,
+    };
+    Ok(Record {
+        waiting: chunk_waiting::insert(r.waiting, entry),
+        ..r
+    })
 }
 
 // "Commit and abort ignore the epoch"; "for a block outside, nothing changes".
-#[tactic(auto, unfolding(rules::specs::Chunks::decides))]
-fn commit_or_abort(blocks: u64, c: Chunk, r: Record, header: Header, commit: bool) -> Arrived
-    ensures { result ≡ decides blocks c r header commit }
+fn decide(blocks: u64, r: Record, header: Header, commit: bool) -> Record
+    ensures { result ≡ (if ltb header.block blocks then with_waiting r (marked commit header.timestamp r.waiting) else r) }
 {
-    if blocks <= header.block {
-        return silent(c, r);
+    if header.block >= blocks {
+        return r;
     }
-    let t = header.timestamp;
-    let w = r.waiting;
-    let now = chunk_waiting::mark(w, t, commit);
-    let mut out = r;
-    out.waiting = now;
-    silent(c, out)
-}
-
-// A message at a chunk that takes notice. (Replies go to hosts.)
-#[tactic(auto, unfolding(rules::specs::Chunks::at_chunk))]
-fn at_chunk(blocks: u64, c: Chunk, r: Record, m: Message) -> Arrived
-    ensures { result ≡ at_chunk blocks c r (header_of m) (sort_of m) }
-{
-    let header = network_messages::header_of(m);
-    match m {
-        Message::Read { epoch, .. } => read_or_prewrite(blocks, c, r, header, epoch, Kind::Read),
-        Message::Prewrite { epoch, value, .. } => read_or_prewrite(
-            blocks,
-            c,
-            r,
-            header,
-            epoch,
-            Kind::Undecided(value),
-        ),
-        Message::Commit { .. } => commit_or_abort(blocks, c, r, header, true),
-        Message::Abort { .. } => commit_or_abort(blocks, c, r, header, false),
-        Message::Mismatch { .. } => silent(c, r),
-        Message::Error { .. } => silent(c, r),
-        Message::OutOfOrder { .. } => silent(c, r),
-        Message::Busy { .. } => silent(c, r),
-        Message::ReadReply { .. } => silent(c, r),
-        Message::PrewriteReply { .. } => silent(c, r),
+    Record {
+        waiting: chunk_waiting::mark(r.waiting, header.timestamp, commit),
+        ..r
     }
 }
 
-// A message at a chunk, with its record of the message's block. "A failed or nolease chunk .. take no notice".
+// A message at a chunk, with its record of the message's block. "A failed or nolease chunk .. take no notice". (Replies go to hosts.)
+#[tactic(auto, unfolding(rules::specs::Chunks::at_chunk, rules::specs::Chunks::decides))]
 pub fn arrive(blocks: u64, c: Chunk, r: Record, m: Message) -> Arrived
     ensures { result ≡ arrives blocks c r m }
 {
-    let state = c.state;
-    if table_kinds::is_normal(state) {
-        return at_chunk(blocks, c, r, m);
+    let header = network_messages::header_of(m);
+    let (held, sort) = match m {
+        _ if c.state != State::Normal => (r, None),
+        Message::Read { epoch, .. } => match wait(blocks, c, r, header, epoch, Kind::Read) {
+            Ok(held) => (held, None),
+            Err(why) => (r, Some(Sort::Refusal(why))),
+        },
+        Message::Prewrite { epoch, value, .. } => {
+            match wait(blocks, c, r, header, epoch, Kind::Undecided(value)) {
+                Ok(held) => (held, Some(Sort::PrewriteReply)),
+                Err(why) => (r, Some(Sort::Refusal(why))),
+            }
+        }
+        Message::Commit { .. } => (decide(blocks, r, header, true), None),
+        Message::Abort { .. } => (decide(blocks, r, header, false), None),
+        Message::Mismatch { .. }
+        | Message::Error { .. }
+        | Message::OutOfOrder { .. }
+        | Message::Busy { .. }
+        | Message::ReadReply { .. }
+        | Message::PrewriteReply { .. } => (r, None),
+    };
+    Arrived {
+        chunk: c,
+        held,
+        reply: sort.map(|sort| network_messages::message_of(header, sort)),
     }
-    silent(c, r)
 }

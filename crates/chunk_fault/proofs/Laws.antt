@@ -1,27 +1,28 @@
 -- The records of a chunk emptied one after the other are all of them emptied
 use Prim.Native.Nat.{ℕ, zero, suc, ◌+◌, ◌≤◌, ◌<◌}
-use mathlib.Core.Path.{◌≡◌, refl, sym, ap, subst, ◌∙◌}
-use mathlib.Core.Bool.{Bool, true, false, cond, ◌&&◌, not, and-true, and-false}
+use mathlib.Core.Path.{◌≡◌, refl, ap, ◌∙◌}
+use mathlib.Core.Bool.{Bool, true, false, cond, ◌&&◌, and-true, and-false}
 use mathlib.Core.List.{List, [], ◌∷◌}
 use native.Mathlib.Decide.{dec_le, ℕ_discrete}
 use native.Mathlib.Omega.{arith}
 use lib.ListN.{length, get_or, set, length-set}
-use lib.Dec.{T, eqb, ltb}
+use lib.Dec.{eqb, ltb}
+use Rattle.std.specs.Prelude.{Ok, Err}
+use Rattle.std.proofs.lemmas.List.{get_or_default}
 use lib.Seq.{get_or-set_same, get_or-set_other, set_out}
 use borrow.Author.Tests.{lt-ltb, le-ltb, eq-eqb, ne_eqb}
 use Rattle.rules.specs.declared.Record.{Record}
 use Rattle.rules.specs.declared.Chunk.{Chunk}
-use Rattle.rules.specs.declared.State.{State}
+use Rattle.rules.specs.declared.Refused.{Refused}
 use Rattle.rules.specs.declared.Table.{Table}
 use Rattle.rules.specs.Chunks.{fail_refusals, failed, emptied}
-use Rattle.rules.specs.Codes.{code_of, unless_refused}
+use Rattle.rules.specs.Codes.{Row, code_of, ruled, refused_by}
 use Rattle.rules.specs.Events.{without_waiting}
 use Rattle.rules.specs.Limits.{chunk_limit, block_limit}
-use Rattle.rules.specs.Tables.{at, records_by, chunk_of, with_chunk, with_chunks, with_records}
+use Rattle.rules.specs.Tables.{at, records_by, chunk_of, with_records}
 use Rattle.rules.specs.Zero.{zero_chunk, zero_record, no_chunk, no_record}
 use Rattle.rules.proofs.Lists.{grid-at}
 use Rattle.rules.proofs.Loops.{below_next, grid-length, grid_of, grid-same}
-use Rattle.chunk_alone.specs.declared.Changed.{Changed}
 use Rattle.table_records.specs.Numbers.{record_number}
 use Rattle.chunk_fault.specs.Steps.{with_emptied, failed_to}
 
@@ -30,12 +31,6 @@ default_part : {A B : Type 0} (f : A → B) (d e : A) → f d ≡ f e → (l : L
 default_part f d e h [] i = h
 default_part f d e h (x ∷ l) zero = refl
 default_part f d e h (x ∷ l) (suc i) = default_part f d e h l i
-
--- inside, the default is not looked at
-default_none : {A : Type 0} (d e : A) (l : List A) (i : ℕ) → i < length l → get_or l i d ≡ get_or l i e
-default_none d e [] i h = absurd (omega arith)
-default_none d e (x ∷ l) zero h = refl
-default_none d e (x ∷ l) (suc i) h = default_none d e l i (omega arith)
 
 pub block_is : (t z : Table) (chunk b i : ℕ) (held none : Record) → i ≡ record_number chunk b → held ≡ get_or t.records i zero_record → none ≡ emptied held
     → z ≡ with_records t (set t.records i none) → z ≡ with_emptied chunk t b
@@ -73,7 +68,7 @@ module _ (h : Table) (len : length h.records ≡ 128) (chunk : ℕ) where
     here k =
         let j : at chunk i < length now = rw size (omega arith) in
         let e : get_or now (at chunk i) zero_record ≡ old chunk i =
-        default_none zero_record no_record now (at chunk i) j ∙ held chunk i k inside ∙ rw (le-ltb i i (omega arith), and-false (eqb chunk chunk)) refl in
+        get_or_default now (at chunk i) zero_record no_record j ∙ held chunk i k inside ∙ rw (le-ltb i i (omega arith), and-false (eqb chunk chunk)) refl in
         rw e (grid_of chunk_limit block_limit no_record (empty_to (i + 1)) (set now (at chunk i) (emptied (old chunk i))) (length-set now (at chunk i) (emptied (old chunk i)) ∙ size)
         (λ c b l m. go j c b l m (ℕ_discrete c chunk) (ℕ_discrete b i)))
       where
@@ -101,38 +96,19 @@ module _ (h : Table) (len : length h.records ≡ 128) (chunk : ℕ) where
       let e : i ≡ 16 = omega arith in
       ap table_to e ∙ ap (with_records h) (grid-same chunk_limit block_limit no_record (empty_to 16) (λ c b. cond (eqb c chunk) (emptied (old c b)) (old c b)) (λ c b _ m. rw (lt-ltb b 16 m, and-true (eqb c chunk)) refl))
 
--- ---- the event
+-- ---- a chunk that may not fail
 
-module _ (t : Table) (len : length t.chunks ≡ 8) (chunk : ℕ) (c : Chunk) (x : Changed) (code : ℕ) (y : Chunk) (b : Bool)
-    (hc : c ≡ get_or t.chunks chunk zero_chunk) (hx : x ≡ record { code = code_of (fail_refusals c.state); chunk = unless_refused (fail_refusals c.state) c (failed c) }) (hcode : code ≡ x.code) (hy : y ≡ x.chunk) (tells : b ≡ not (eqb code 0)) where
-  abbrev Fails : ℕ → Table → Type 0
-  Fails r z = (r ≡ code_of (fail_refusals (chunk_of t chunk).state)) × (z ≡ failed_to chunk t)
+-- where there is an error, there is for any effect, and nothing is done
+ruled_err : {A B : Type 0} (rows : List Row) (x : A) (y : B) (why : Refused) → ruled rows x ≡ Err why → (Err why ≡ ruled rows y) × (eqb (code_of rows) 0 ≡ false)
+ruled_err rows x y why = go (eqb (code_of rows) 0) refl
+  where
+    go : (b : Bool) → eqb (code_of rows) 0 ≡ b → cond b (Ok x) (Err (refused_by (code_of rows))) ≡ Err why → (Err why ≡ ruled rows y) × (eqb (code_of rows) 0 ≡ false)
+    go true e h = absurd cc
+    go false e h = let k : why ≡ refused_by (code_of rows) = cc in (rw (e, k) refl, e)
 
-  is_code : code ≡ code_of (fail_refusals (chunk_of t chunk).state)
-  is_code =
-      hcode ∙ ap (λ (z : Changed). z.code) hx ∙ ap (λ (s : State). code_of (fail_refusals s)) (ap (λ (z : Chunk). z.state) hc ∙ default_part (λ (z : Chunk). z.state) zero_chunk no_chunk refl t.chunks chunk)
-
-  pub is_refused : T b → Fails code t
-  is_refused h = (is_code, go (eqb code 0) refl (subst T tells h))
-    where
-      go : (e : Bool) → eqb code 0 ≡ e → T (not e) → t ≡ failed_to chunk t
-      go true q k = absurd k
-      go false q k = rw (← is_code, q) refl
-
-  -- beyond the last chunk nothing is written
-  put_same : with_chunk t chunk (failed (get_or t.chunks chunk zero_chunk)) ≡ with_chunk t chunk (failed (chunk_of t chunk))
-  put_same = go (dec_le 8 chunk)
-    where
-      go : Dec (8 ≤ chunk) → with_chunk t chunk (failed (get_or t.chunks chunk zero_chunk)) ≡ with_chunk t chunk (failed (chunk_of t chunk))
-      go (yes k) = ap (with_chunks t) (set_out t.chunks chunk (failed (get_or t.chunks chunk zero_chunk)) (omega arith) ∙ sym (set_out t.chunks chunk (failed (chunk_of t chunk)) (omega arith)))
-      go (no k) = ap (λ (z : Chunk). with_chunk t chunk (failed z)) (default_none zero_chunk no_chunk t.chunks chunk (omega arith))
-
-  pub is_failed_lem : T (not b) → (u z : Table) → u ≡ with_chunk t chunk y → z ≡ with_records u (without_waiting u.records chunk) → Fails code z
-  is_failed_lem h u z hu hz = (is_code, go (eqb code 0) refl (subst (λ (x : Bool). T (not x)) tells h))
-    where
-      new : eqb code 0 ≡ true → y ≡ failed (get_or t.chunks chunk zero_chunk)
-      new q = hy ∙ ap (λ (z : Changed). z.chunk) hx ∙ rw (← ap (λ (z : Changed). z.code) hx, ← hcode, q) (ap failed hc)
-
-      go : (e : Bool) → eqb code 0 ≡ e → T (not (not e)) → z ≡ failed_to chunk t
-      go true q k = rw (← is_code, q) (hz ∙ ap (λ (v : Table). with_records v (without_waiting v.records chunk)) (hu ∙ ap (with_chunk t chunk) (new q) ∙ put_same))
-      go false q k = absurd k
+pub stays : (t : Table) (chunk : ℕ) (c : Chunk) (why : Refused) → c ≡ get_or t.chunks chunk zero_chunk → ruled (fail_refusals c.state) (failed c) ≡ Err why
+    → (Err why ≡ ruled (fail_refusals (chunk_of t chunk).state) (tt {0})) × (t ≡ failed_to chunk t)
+stays t chunk c why is h =
+    let e : c.state ≡ (chunk_of t chunk).state = ap (λ (c : Chunk). c.state) is ∙ default_part (λ (c : Chunk). c.state) zero_chunk no_chunk refl t.chunks chunk in
+    let r = ruled_err (fail_refusals c.state) (failed c) (tt {0}) why h in
+    (rw (← e) r.0, rw (← e, r.1) refl)

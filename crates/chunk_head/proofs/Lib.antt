@@ -1,3 +1,1 @@
-pub mod Difference
-pub mod Laws
 pub mod Unique

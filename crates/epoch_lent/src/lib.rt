@@ -4,7 +4,7 @@
 #![tactic(auto)]
 
 ghost use Rattle.std.specs.Prelude.{◌≡◌, not, [], ◌∷◌, eqb};
-ghost use Rattle.rules.specs.Codes.{code_of};
+ghost use Rattle.rules.specs.Codes.{ruled};
 ghost use Rattle.rules.specs.Events.{settled_in, renewed, epoch_refusals};
 ghost use Rattle.rules.specs.Limits.{chunk_limit};
 ghost use Rattle.rules.specs.Settlement.{settled};
@@ -13,7 +13,7 @@ ghost use Rattle.rules.specs.Words.{each, numbers};
 ghost use Rattle.rules.specs.Zero.{◌among◌};
 ghost use Rattle.epoch_lent.specs.Steps.{copy_of, copy_at, copies_at, held_at, with_held, with_block, chunk_at, with_chunk_at, changed_to};
 
-use rules::{Chunk, Copy, Creation, Epoch, Record, Table};
+use rules::{Chunk, Copy, Creation, Epoch, Record, Refused, Table};
 
 // The copies of one block, one a chunk.
 #[derive(Clone, Copy)]
@@ -155,13 +155,6 @@ fn ranked(
     Chunks { chunks: chunks }
 }
 
-fn code_of(k: Creation, epoch: Epoch, x: Chunks) -> u64
-    ensures { result ≡ code_of (epoch_refusals k epoch x.chunks) }
-{
-    let chunks = x.chunks;
-    epoch_change::change_code(k, epoch, chunks)
-}
-
 fn renew_chunks(k: Creation, next: Epoch, x: Chunks) -> Chunks
     ensures { result ≡ record { chunks = each (renewed k next x.chunks) (numbers chunk_limit) } }
 {
@@ -181,12 +174,6 @@ fn chunk_at(x: Chunks, c: u64) -> Chunk
     table_zero::chunk()
 }
 
-fn is_refused(code: u64) -> bool
-    ensures { result ≡ not (eqb code 0) }
-{
-    !(code == 0)
-}
-
 fn chunks_in(t: &Table) -> Chunks
     ensures { result ≡ record { chunks = t.now.chunks } }
 {
@@ -200,15 +187,6 @@ fn chunks_in(t: &Table) -> Chunks
     let c6 = table_chunks::chunk_in(t, 6);
     let c7 = table_chunks::chunk_in(t, 7);
     ranked(c0, c1, c2, c3, c4, c5, c6, c7)
-}
-
-fn change_code_in(t: &Table) -> u64
-    ensures { result ≡ code_of (epoch_refusals t.now.creation t.now.epoch t.now.chunks) }
-{
-    let k = table_numbers::creation_in(t);
-    let epoch = table_numbers::epoch_in(t);
-    let x = chunks_in(t);
-    code_of(k, epoch, x)
 }
 
 fn store_chunk_in(t: &mut Table, x: Chunks, c: u64)
@@ -238,17 +216,13 @@ fn renew_in(t: &mut Table, next: Epoch)
 
 // ---- the event
 
-// Its code; where it is refused the table stays as found. next is the epoch that begins.
-pub fn change_in(t: &mut Table, next: Epoch) -> u64
-    ensures { (result ≡ code_of (epoch_refusals t.old.creation t.old.epoch t.old.chunks)) × (t.new ≡ changed_to next t.old) }
+// Where it is refused the table stays as found. next is the epoch that begins.
+#[tactic(auto, unfolding(rules::specs::Codes::code_of))]
+pub fn change_in(t: &mut Table, next: Epoch) -> Result<(), Refused>
+    ensures { (result ≡ ruled (epoch_refusals t.old.creation t.old.epoch t.old.chunks) tt) × (t.new ≡ changed_to next t.old) }
 {
-    let code = change_code_in(&*t);
-    let refused = is_refused(code);
-    if refused {
-        return code;
-    } else {
-        settle_in(&mut *t);
-        renew_in(&mut *t, next);
-        return code;
-    }
+    epoch_change::check_change(t.creation, t.epoch, t.chunks)?;
+    settle_in(t);
+    renew_in(t, next);
+    Ok(())
 }

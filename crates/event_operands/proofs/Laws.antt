@@ -1,62 +1,115 @@
--- The table of operands, the operand of a sort, and how many a kind has
-use Prim.Native.Nat.{ℕ, ◌+◌}
-use mathlib.Core.Path.{◌≡◌, refl, sym, ap, ◌∙◌}
-use mathlib.Core.Bool.{Bool, true, false, cond}
-use mathlib.Core.List.{[], ◌∷◌}
+-- Steps by their numbers, the operand of a sort, and how many operands a kind has
+use Rattle.std.specs.Prelude.{Result, Ok, Err, Some, find, count_by}
+use Rattle.std.specs.List.{list_all}
+use Rattle.std.specs.Option.{option_map_or}
+use Prim.Native.Nat.{ℕ, suc, ◌+◌}
+use mathlib.Core.Path.{◌≡◌, refl, sym}
+use mathlib.Core.Bool.{Bool, true, false, cond, ◌&&◌}
+use mathlib.Core.List.{List, [], ◌∷◌}
+use native.Mathlib.Omega.{arith}
+use lib.Dec.{eqb}
 use lib.ListN.{length, get_or}
-use borrow.Author.Tests.{eqb-true}
 use Rattle.rules.specs.declared.Creation.{Creation}
 use Rattle.rules.specs.declared.Event.{Event}
 use Rattle.rules.specs.declared.Operand.{Operand}
-use Rattle.rules.specs.declared.Operands.{Operands}
-use Rattle.rules.specs.Events.{EventKind, event_kinds, unknown_kind, kind_of, ranges}
-use Rattle.rules.specs.Operands.{in_range, is_own, own_of}
-use Rattle.rules.specs.Words.{those}
-use Rattle.rules.proofs.Lists.{Others, three, walk, under-other}
-use Rattle.event_operands.specs.Address.{sort_number, ◌is_a◌, operands_of, the}
+use Rattle.rules.specs.declared.Refused.{Refused}
+use Rattle.rules.specs.Events.{EventKind, unknown_kind, kind_of, ranges}
+use Rattle.rules.specs.Operands.{in_range}
+use Rattle.rules.specs.Words.{Numbered, those, each, place, under}
+use Rattle.rules.proofs.Lists.{◌&◌, end, Others, three, under-number, under-other}
+use Rattle.event_operands.specs.declared.Step.{Step}
+use Rattle.event_operands.specs.Steps.{number_of_step, steps, step_named}
+use Rattle.event_operands.specs.Address.{◌is_a◌, operands_of, the}
 
--- no event has another number
-pub no_kind : (kind : ℕ) → Others (Unit {0}) kind event_kinds → unknown_kind.operands ≡ (kind_of kind).operands
-unfolding kind_of
-no_kind kind o = ap (λ (k : EventKind). k.operands) (sym (under-other unknown_kind kind (Unit {0}) event_kinds o))
+-- ---- steps by their numbers
 
--- two sorts with one number are one
-pub same-sort : (o sort : Operand) → o is_a sort ≡ true → o ≡ sort
-same-sort o sort h = sym (back o) ∙ ap sort_under (eqb-true (sort_number o) (sort_number sort) h) ∙ back sort
+-- no step has another number
+pub no_step : (kind : ℕ) → Others (Unit {0}) kind steps → Err Refused.OutOfRange ≡ step_named kind
+no_step kind o = sym (under-other (Err Refused.OutOfRange) kind (Unit {0}) steps o)
+
+-- a named step has the number
+abbrev numbered : (kind : ℕ) → Result Step Refused → Type 0
+numbered kind (Ok s) = kind ≡ number_of_step s
+numbered kind (Err why) = Unit {0}
+
+pub number-named : (kind : ℕ) (s : Step) → step_named kind ≡ Ok s → kind ≡ number_of_step s
+number-named kind s named =
+    rw named at (under-number (Err Refused.OutOfRange) kind (numbered kind) steps (
+    (λ h. h) & (λ h. h) & (λ h. h) & (λ h. h) & (λ h. h) & (λ h. h) & (λ h. h) & (λ h. h)
+    & (λ h. h) & (λ h. h) & (λ h. h) & (λ h. h) & (λ h. h) & (λ h. h) & (λ h. h) & (λ h. h)
+    & end) tt)
+
+-- what f makes of what stands under a number stands under it in the table that f makes
+pub under-each : {A B : Type 0} (f : A → B) (d : A) (l : List (Numbered A)) (n : ℕ)
+    → f (under d l n) ≡ under (f d) (each (λ (x : Numbered A). record { number = x.number; entry = f x.entry }) l) n
+unfolding each place
+under-each f d [] n = refl
+under-each {A = A} {B = B} f d (x ∷ xs) n = go (eqb x.number n) (under-each f d xs n)
   where
-    sort_under : ℕ → Operand
-    sort_under n =
-        get_or (Operand.Unknown ∷ Operand.Unused ∷ Operand.Host ∷ Operand.Chunk ∷ Operand.Block ∷ Operand.Place ∷ Operand.Clock ∷ Operand.Now ∷ Operand.Value ∷ []) n
-        Operand.Unknown
+    rest : List (Numbered B)
+    rest = each (λ (x : Numbered A). record { number = x.number; entry = f x.entry }) xs
 
-    back : (o : Operand) → sort_under (sort_number o) ≡ o
-    back Operand.Unknown = refl
-    back Operand.Unused = refl
-    back Operand.Host = refl
-    back Operand.Chunk = refl
-    back Operand.Block = refl
-    back Operand.Place = refl
-    back Operand.Clock = refl
-    back Operand.Now = refl
-    back Operand.Value = refl
+    go : (b : Bool) → f (under d xs n) ≡ under (f d) rest n
+        → f (get_or (x ∷ xs) (cond b 0 (suc (place (λ (y : Numbered A). eqb y.number n) xs))) (record { number = n; entry = d })).entry
+        ≡ (get_or (record { number = x.number; entry = f x.entry } ∷ rest) (cond b 0 (suc (place (λ (y : Numbered B). eqb y.number n) rest))) (record { number = n; entry = f d })).entry
+    go true e = refl
+    go false e = e
+
+-- the kind under a number is the named step's
+abbrev pub kind_by : Result Step Refused → EventKind
+kind_by (Ok s) = kind_of (number_of_step s)
+kind_by (Err why) = unknown_kind
+
+pub kind_named : (kind : ℕ) → kind_by (step_named kind) ≡ kind_of kind
+unfolding each kind_of place
+kind_named kind = under-each kind_by (Err Refused.OutOfRange) steps kind
+
+-- no number is in the range of a kind that names no step
+pub unknown-outside : (k : Creation) (e : Event) (why : Refused) → step_named e.kind ≡ Err why → ranges k e ≡ false
+unfolding ranges
+unknown-outside k e why named = rw (sym (rw named at (kind_named e.kind))) refl
+
+-- ---- the operand of a sort
+
+-- a sort is itself alone
+pub same-sort : (o sort : Operand) → o is_a sort ≡ true → o ≡ sort
+same-sort o sort h = grind arith
 
 -- what holds of 0, and of every number in the range of a sort, holds of an event's operand of that sort
 pub of_sort : (P : ℕ → Type 0) (k : Creation) (e : Event) (sort : Operand) → ranges k e ≡ true → P 0 → ((n : ℕ) → in_range k sort n ≡ true → P n) → P (the sort e)
-unfolding ranges
+unfolding ranges operands_of
 of_sort P k e sort inside none some =
-    let o = operands_of e in
+    let o = (kind_of e.kind).operands in
     let r = three (in_range k o.0 e.a) (in_range k o.1 e.b) (in_range k o.2 e.c) inside in
-    walk P (o.0 is_a sort) _ _ (λ h. some e.a (rw (same-sort o.0 sort h) at r.0))
-    (λ _. walk P (o.1 is_a sort) _ _ (λ h. some e.b (rw (same-sort o.1 sort h) at r.1))
-    (λ _. walk P (o.2 is_a sort) _ _ (λ h. some e.c (rw (same-sort o.2 sort h) at r.2)) (λ _. none)))
-
--- each operand that is the kind's own counts one
-pub own-all : (o : Operands) → cond (is_own o.0) 1 0 + cond (is_own o.1) 1 0 + cond (is_own o.2) 1 0 ≡ length (own_of o)
-unfolding those
-own-all o = go (is_own o.0) (is_own o.1) (is_own o.2)
+    first o.0 e.a ((o.1, e.b) ∷ (o.2, e.c) ∷ []) r.0 (first o.1 e.b ((o.2, e.c) ∷ []) r.1 (first o.2 e.c [] r.2 none))
   where
-    go : (a b c : Bool) → cond a 1 0 + cond b 1 0 + cond c 1 0
-        ≡ length (cond a (o.0 ∷ cond b (o.1 ∷ cond c (o.2 ∷ []) []) (cond c (o.2 ∷ []) [])) (cond b (o.1 ∷ cond c (o.2 ∷ []) []) (cond c (o.2 ∷ []) [])))
+    first : (o : Operand) (n : ℕ) (rest : List (Operand × ℕ)) → in_range k o n ≡ true
+        → P (option_map_or (λ x. x.1) (find (λ x. x.0 is_a sort) rest) 0) → P (option_map_or (λ x. x.1) (find (λ x. x.0 is_a sort) ((o, n) ∷ rest)) 0)
+    first o n rest h other = go (o is_a sort) refl
+      where
+        go : (b : Bool) → o is_a sort ≡ b → P (option_map_or (λ x. x.1) (cond b (Some (o, n)) (find (λ x. x.0 is_a sort) rest)) 0)
+        go true same = some n (rw (same-sort o sort same) at h)
+        go false _ = other
+
+-- ---- the operands of an event, one after the other
+
+pub all-in-range : (k : Creation) (e : Event) → list_all (λ (x : Operand × ℕ). in_range k x.0 x.1) (operands_of e) ≡ ranges k e
+unfolding ranges operands_of
+all-in-range k e = let o = (kind_of e.kind).operands in go (in_range k o.0 e.a) (in_range k o.1 e.b) (in_range k o.2 e.c)
+  where
+    go : (a b c : Bool) → (a && (b && (c && true))) ≡ ((a && b) && c)
+    go true true true = refl
+    go true true false = refl
+    go true false c = refl
+    go false b c = refl
+
+-- .. those that are p are as many as there are
+pub count-those : {A : Type 0} (p : A → Bool) (x y z : A) → count_by p (x ∷ y ∷ z ∷ []) ≡ length (those p (x ∷ y ∷ z ∷ []))
+unfolding those
+count-those {A = A} p x y z = go (p x) (p y) (p z)
+  where
+    go : (a b c : Bool) → 0 + cond a 1 0 + cond b 1 0 + cond c 1 0
+        ≡ length (cond a (x ∷ cond b (y ∷ cond c (z ∷ []) []) (cond c (z ∷ []) [])) (cond b (y ∷ cond c (z ∷ []) []) (cond c (z ∷ []) [])))
     go true true true = refl
     go true true false = refl
     go true false true = refl

@@ -1,49 +1,42 @@
 -- Which place, host, chunk and block an event is about
-use Rattle.std.specs.Prelude.{ℕ, Bool, ◌||◌, eqb, if◌then◌else◌, None, Option, Some}
+use Rattle.std.specs.Prelude.{ℕ, Bool, true, false, List, [], ◌∷◌, find, if◌then◌else◌, None, Option, Some}
+use Rattle.std.specs.List.{list_any}
+use Rattle.std.specs.Option.{option_map_or}
 use Rattle.rules.specs.declared.Message.{Message}
 use Rattle.rules.specs.declared.Host.{Host}
 use Rattle.rules.specs.declared.Header.{Header}
 use Rattle.rules.specs.declared.Event.{Event}
 use Rattle.rules.specs.declared.Operand.{Operand}
-use Rattle.rules.specs.declared.Operands.{Operands}
 use Rattle.rules.specs.Events.{kind_of}
 use Rattle.rules.specs.Hosts.{front}
 use Rattle.rules.specs.Timestamps.{never}
 use Rattle.rules.specs.Messages.{header_of, headed}
 
--- ---- the sorts of operands, told apart by a number each
-
-abbrev pub sort_number : Operand → ℕ
-sort_number Operand.Unknown = 0
-sort_number Operand.Unused = 1
-sort_number Operand.Host = 2
-sort_number Operand.Chunk = 3
-sort_number Operand.Block = 4
-sort_number Operand.Place = 5
-sort_number Operand.Clock = 6
-sort_number Operand.Now = 7
-sort_number Operand.Value = 8
+-- ---- the operand of a sort
 
 infix 40 ◌is_a◌
 abbrev pub ◌is_a◌ : Operand → Operand → Bool
-o is_a sort = eqb (sort_number o) (sort_number sort)
+Operand.Unknown is_a Operand.Unknown = true
+Operand.Unused is_a Operand.Unused = true
+Operand.Host is_a Operand.Host = true
+Operand.Chunk is_a Operand.Chunk = true
+Operand.Block is_a Operand.Block = true
+Operand.Place is_a Operand.Place = true
+Operand.Clock is_a Operand.Clock = true
+Operand.Now is_a Operand.Now = true
+Operand.Value is_a Operand.Value = true
+_ is_a _ = false
 
--- ---- the operand of a sort
-
-abbrev pub operands_of : Event → Operands
-operands_of e = (kind_of e.kind).operands
+-- each operand with its number
+unfoldable pub operands_of : Event → List (Operand × ℕ)
+operands_of e = let o = (kind_of e.kind).operands in (o.0, e.a) ∷ (o.1, e.b) ∷ (o.2, e.c) ∷ []
 
 abbrev pub has_a : Event → (sort : Operand) → Bool
-has_a e sort = let o = operands_of e in o.0 is_a sort || o.1 is_a sort || o.2 is_a sort
+has_a e sort = list_any (λ x. x.0 is_a sort) (operands_of e)
 
 -- 0 where the event has none
 abbrev pub the : (sort : Operand) → Event → ℕ
-the sort e =
-    let o = operands_of e in
-    if o.0 is_a sort then e.a else
-    if o.1 is_a sort then e.b else
-    if o.2 is_a sort then e.c else
-    0
+the sort e = option_map_or (λ x. x.1) (find (λ x. x.0 is_a sort) (operands_of e)) 0
 
 -- ---- whom an event is about: an event of a place is about whom its message names
 

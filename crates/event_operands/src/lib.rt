@@ -1,37 +1,107 @@
 // An event's operands: are they in their ranges, how many has it, and which place, host, chunk and block is it about?
 #![tactic(auto)]
 
-ghost use Rattle.std.specs.Prelude.{◌≤◌, ◌≡◌, length, if◌then◌else◌};
+ghost use Rattle.std.specs.Prelude.{◌≡◌, [], ◌∷◌, length};
 ghost use Rattle.rules.specs.Events.{kind_of, ranges};
 ghost use Rattle.rules.specs.Operands.{in_range, is_own, own_of};
-ghost use Rattle.event_operands.specs.Address.{sort_number, ◌is_a◌, has_a, the, address_of, place_at, host_at, chunk_at, block_at};
+ghost use Rattle.event_operands.specs.Steps.{number_of_step, step_named};
+ghost use Rattle.event_operands.specs.Address.{operands_of, has_a, the, address_of, place_at, host_at, chunk_at, block_at};
 
-use rules::{Creation, Event, Header, Host, Message, Operand, Operands, Timestamp};
+use rules::{Creation, Event, Header, Host, Message, Operand, Operands, Refused, Timestamp};
+
+// The step that an event's kind names, with document 01's number.
+#[derive(Clone, Copy, PartialEq, Eq)]
+pub enum Step {
+    Read = 1,
+    Write,
+    Start,
+    Deliver,
+    Drop,
+    Finish,
+    Timeout,
+    Refresh,
+    Run,
+    Stop,
+    Fail,
+    Recover,
+    TakeLease,
+    GiveLease,
+    EpochChange,
+    Overdue,
+}
+
+// "unknown kind"
+impl TryFrom<u64> for Step {
+    type Error = Refused;
+
+    ghost try_from_gives = { λ kind step. step ≡ step_named kind };
+
+    #[tactic(auto, unfolding(rules::specs::Words::place))]
+    fn try_from(kind: u64) -> Result<Step, Refused> {
+        match kind {
+            1 => Ok(Step::Read),
+            2 => Ok(Step::Write),
+            3 => Ok(Step::Start),
+            4 => Ok(Step::Deliver),
+            5 => Ok(Step::Drop),
+            6 => Ok(Step::Finish),
+            7 => Ok(Step::Timeout),
+            8 => Ok(Step::Refresh),
+            9 => Ok(Step::Run),
+            10 => Ok(Step::Stop),
+            11 => Ok(Step::Fail),
+            12 => Ok(Step::Recover),
+            13 => Ok(Step::TakeLease),
+            14 => Ok(Step::GiveLease),
+            15 => Ok(Step::EpochChange),
+            16 => Ok(Step::Overdue),
+            _ => Err(Refused::OutOfRange),
+        }
+    }
+}
+
+impl Step {
+    #[tactic(auto, unfolding(rules::specs::Events::kind_of, rules::specs::Words::place))]
+    fn operands(self) -> Operands
+        ensures { result ≡ (kind_of (number_of_step self)).operands }
+    {
+        match self {
+            Step::Read => Operands(Operand::Host, Operand::Block, Operand::Unused),
+            Step::Write => Operands(Operand::Host, Operand::Block, Operand::Value),
+            Step::Start => Operands(Operand::Host, Operand::Clock, Operand::Chunk),
+            Step::Deliver | Step::Drop => {
+                Operands(Operand::Place, Operand::Unused, Operand::Unused)
+            }
+            Step::Finish | Step::Timeout | Step::Refresh | Step::Stop => {
+                Operands(Operand::Host, Operand::Unused, Operand::Unused)
+            }
+            Step::Run => Operands(Operand::Chunk, Operand::Block, Operand::Unused),
+            Step::Fail | Step::Recover | Step::TakeLease | Step::GiveLease => {
+                Operands(Operand::Chunk, Operand::Unused, Operand::Unused)
+            }
+            Step::EpochChange => Operands(Operand::Unused, Operand::Unused, Operand::Unused),
+            Step::Overdue => Operands(Operand::Chunk, Operand::Block, Operand::Now),
+        }
+    }
+}
 
 // What the operands of a kind are; no number is in the range of an unknown one's.
-#[tactic(auto, unfolding(rules::specs::Events::kind_of, rules::specs::Words::place))]
 fn operands_of(kind: u64) -> Operands
     ensures { result ≡ (kind_of kind).operands }
 {
-    match kind {
-        1 => Operands(Operand::Host, Operand::Block, Operand::Unused), // read
-        2 => Operands(Operand::Host, Operand::Block, Operand::Value), // write
-        3 => Operands(Operand::Host, Operand::Clock, Operand::Chunk), // start
-        4 => Operands(Operand::Place, Operand::Unused, Operand::Unused), // deliver
-        5 => Operands(Operand::Place, Operand::Unused, Operand::Unused), // drop
-        6 => Operands(Operand::Host, Operand::Unused, Operand::Unused), // finish
-        7 => Operands(Operand::Host, Operand::Unused, Operand::Unused), // timeout
-        8 => Operands(Operand::Host, Operand::Unused, Operand::Unused), // refresh
-        9 => Operands(Operand::Chunk, Operand::Block, Operand::Unused), // run
-        10 => Operands(Operand::Host, Operand::Unused, Operand::Unused), // stop
-        11 => Operands(Operand::Chunk, Operand::Unused, Operand::Unused), // fail
-        12 => Operands(Operand::Chunk, Operand::Unused, Operand::Unused), // recover
-        13 => Operands(Operand::Chunk, Operand::Unused, Operand::Unused), // take lease
-        14 => Operands(Operand::Chunk, Operand::Unused, Operand::Unused), // give lease
-        15 => Operands(Operand::Unused, Operand::Unused, Operand::Unused), // epoch change
-        16 => Operands(Operand::Chunk, Operand::Block, Operand::Now), // overdue
-        _ => Operands(Operand::Unknown, Operand::Unknown, Operand::Unknown),
+    match Step::try_from(kind) {
+        Ok(step) => step.operands(),
+        Err(_) => Operands(Operand::Unknown, Operand::Unknown, Operand::Unknown),
     }
+}
+
+// Each operand of an event with its number.
+#[tactic(auto, unfolding(crate::specs::Address::operands_of))]
+fn operands_in(e: Event) -> [(Operand, u64); 3]
+    ensures { result ≡ operands_of e }
+{
+    let Operands(a, b, c) = operands_of(e.kind);
+    [(a, e.a), (b, e.b), (c, e.c)]
 }
 
 // ---- ranges
@@ -46,106 +116,51 @@ fn fits(k: Creation, o: Operand, n: u64) -> bool
         Operand::Chunk => n < k.chunks,
         Operand::Block => n < k.blocks,
         Operand::Place => n < rules::PLACES as u64,
-        Operand::Clock => (1 <= n) & (n <= rules::GREATEST_CLOCK),
+        Operand::Clock => (1..=rules::GREATEST_CLOCK).contains(&n),
         Operand::Now => n <= rules::GREATEST_CLOCK,
         Operand::Value => true,
     }
 }
 
 // "number outside its range, unknown kind, unused operand not 0".
-#[tactic(auto, unfolding(rules::specs::Events::ranges))]
 pub fn in_range(k: Creation, e: Event) -> bool
     ensures { result ≡ ranges k e }
 {
-    let o = operands_of(e.kind);
-    let a = o.0;
-    let b = o.1;
-    let c = o.2;
-    fits(k, a, e.a) & fits(k, b, e.b) & fits(k, c, e.c)
+    operands_in(e).iter().all(|&(o, n)| fits(k, o, n))
 }
 
 // ---- how many operands a line has
 
-// 1 where the operand is the event's own.
-fn own(o: Operand) -> u64
-    ensures { (result ≡ (if is_own o then 1 else 0)) × (result ≤ 1) }
+fn is_own(o: Operand) -> bool
+    ensures { result ≡ is_own o }
 {
-    match o {
-        Operand::Unknown => 0,
-        Operand::Unused => 0,
-        Operand::Host => 1,
-        Operand::Chunk => 1,
-        Operand::Block => 1,
-        Operand::Place => 1,
-        Operand::Clock => 1,
-        Operand::Now => 1,
-        Operand::Value => 1,
-    }
+    !matches!(o, Operand::Unknown | Operand::Unused)
 }
 
 // "its number and then only its own operands".
 pub fn count(kind: u64) -> u64
     ensures { result ≡ length (own_of (kind_of kind).operands) }
 {
-    let o = operands_of(kind);
-    let a = o.0;
-    let b = o.1;
-    let c = o.2;
-    own(a) + own(b) + own(c)
+    let Operands(a, b, c) = operands_of(kind);
+    [a, b, c].iter().filter(|&&o| is_own(o)).count() as u64
 }
 
 // ---- the operand of a sort
 
-fn sort_number(o: Operand) -> u64
-    ensures { result ≡ sort_number o }
-{
-    match o {
-        Operand::Unknown => 0,
-        Operand::Unused => 1,
-        Operand::Host => 2,
-        Operand::Chunk => 3,
-        Operand::Block => 4,
-        Operand::Place => 5,
-        Operand::Clock => 6,
-        Operand::Now => 7,
-        Operand::Value => 8,
-    }
-}
-
-fn is_a(o: Operand, sort: Operand) -> bool
-    ensures { result ≡ o is_a sort }
-{
-    sort_number(o) == sort_number(sort)
-}
-
 fn has_a(e: Event, sort: Operand) -> bool
     ensures { result ≡ has_a e sort }
 {
-    let o = operands_of(e.kind);
-    let a = o.0;
-    let b = o.1;
-    let c = o.2;
-    is_a(a, sort) | is_a(b, sort) | is_a(c, sort)
+    operands_in(e).iter().any(|&(o, _)| o == sort)
 }
 
 // 0 where the event has none.
 fn the(sort: Operand, e: Event) -> u64
     ensures { result ≡ the sort e }
 {
-    let o = operands_of(e.kind);
-    let a = o.0;
-    if is_a(a, sort) {
-        return e.a;
-    }
-    let b = o.1;
-    if is_a(b, sort) {
-        return e.b;
-    }
-    let c = o.2;
-    if is_a(c, sort) {
-        return e.c;
-    }
-    0
+    operands_in(e)
+        .iter()
+        .find(|&&(o, _)| o == sort)
+        .map_or(0, |&(_, n)| n)
 }
 
 // ---- whom an event is about: an event of a place is about whom its message names
@@ -154,15 +169,13 @@ fn the(sort: Operand, e: Event) -> u64
 fn address(s: Option<Message>) -> Header
     ensures { result ≡ address_of s }
 {
-    match s {
-        None => Header {
-            host: 0,
-            chunk: 0,
-            block: 0,
-            timestamp: Timestamp(0),
-        },
-        Some(m) => network_messages::header_of(m),
-    }
+    let nobody = Header {
+        host: 0,
+        chunk: 0,
+        block: 0,
+        timestamp: Timestamp(0),
+    };
+    s.map_or(nobody, network_messages::header_of)
 }
 
 pub fn place_at(e: Event) -> u64
@@ -175,20 +188,20 @@ pub fn host_at(e: Event, s: Option<Message>) -> u64
     ensures { result ≡ host_at e s }
 {
     if has_a(e, Operand::Place) {
-        let to = address(s);
-        return to.host;
+        address(s).host
+    } else {
+        the(Operand::Host, e)
     }
-    the(Operand::Host, e)
 }
 
 pub fn chunk_at(e: Event, s: Option<Message>) -> u64
     ensures { result ≡ chunk_at e s }
 {
     if has_a(e, Operand::Place) {
-        let to = address(s);
-        return to.chunk;
+        address(s).chunk
+    } else {
+        the(Operand::Chunk, e)
     }
-    the(Operand::Chunk, e)
 }
 
 // An event that names no block is about the block of the host's front operation.
@@ -196,12 +209,10 @@ pub fn block_at(e: Event, s: Option<Message>, h: Host) -> u64
     ensures { result ≡ block_at e s h }
 {
     if has_a(e, Operand::Place) {
-        let to = address(s);
-        return to.block;
+        address(s).block
+    } else if has_a(e, Operand::Block) {
+        the(Operand::Block, e)
+    } else {
+        host_operations::front(h).block
     }
-    if has_a(e, Operand::Block) {
-        return the(Operand::Block, e);
-    }
-    let o = host_operations::front(h);
-    o.block
 }

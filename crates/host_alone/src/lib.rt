@@ -1,142 +1,70 @@
-// One host by itself: operations come in, it times out, refreshes its map, stops.
-#![tactic(auto)]
+// One host by itself: operations come in, it times out, refreshes its map, stops. Each event gives the host after it, or why it is
+// refused.
+#![tactic(auto, unfolding(rules::specs::Codes::code_of))]
 
 ghost use Rattle.std.specs.Prelude.{◌≡◌};
-ghost use Rattle.rules.specs.Codes.{code_of, unless_refused};
+ghost use Rattle.rules.specs.Codes.{ruled};
 ghost use Rattle.rules.specs.Hosts.{intake_refusals, appended, timeout_refusals, timed_out, working_refusals, refreshed, stopped};
 
-use rules::{Epoch, Host, Operation};
+use rules::{Attempt, Epoch, Host, Operation, Refused};
 
-// What an event makes of its host: 0 and the host after it, or a refusal's code and the host as it was.
-#[derive(Clone, Copy)]
-pub struct Moved {
-    pub code: u64,
-    pub host: Host,
-}
-
-// ---- intake
-
-// "Stopped: 2. Full: 4".
-#[tactic(auto, unfolding(rules::specs::Codes::code_of))]
-fn intake_code(h: Host) -> u64
-    ensures { result ≡ code_of (intake_refusals h) }
+// "1 read (host, block); 2 write (host, block, value). Stopped: 2. Full: 4. Else appended".
+#[tactic(auto, unfolding(rules::specs::Codes::code_of, rules::specs::Hosts::appended))]
+pub fn intake(h: Host, o: Operation) -> Result<Host, Refused>
+    ensures { result ≡ ruled (intake_refusals h) (appended h o) }
 {
     if !h.working {
-        return rules::NOT_IN_STATE;
+        return Err(Refused::NotInState);
     }
-    if rules::OPERATIONS as u64 <= h.queue.count {
-        return rules::QUEUE_FULL;
+    if h.queue.count >= rules::OPERATIONS as u64 {
+        return Err(Refused::QueueFull);
     }
-    rules::DONE
+    Ok(Host {
+        queue: host_operations::with_last(h.queue, o),
+        ..h
+    })
 }
 
-// "1 read (host, block); 2 write (host, block, value) .. Else appended".
-#[tactic(auto, unfolding(rules::specs::Hosts::appended))]
-pub fn intake(h: Host, o: Operation) -> Moved
-    ensures { result ≡ record { code = code_of (intake_refusals h); host = unless_refused (intake_refusals h) h (appended h o) } }
+// "needs working, something outstanding (2). Okay false, nothing outstanding".
+pub fn time_out(h: Host) -> Result<Host, Refused>
+    ensures { result ≡ ruled (timeout_refusals h) (timed_out h) }
 {
-    let code = intake_code(h);
-    if code != rules::DONE {
-        return Moved {
-            code: code,
-            host: h,
-        };
+    if !h.working || table_sets::is_empty(h.attempt.outstanding) {
+        return Err(Refused::NotInState);
     }
-    let q = h.queue;
-    let longer = host_operations::with_last(q, o);
-    let mut out = h;
-    out.queue = longer;
-    Moved {
-        code: rules::DONE,
-        host: out,
-    }
+    Ok(Host {
+        attempt: Attempt {
+            okay: false,
+            outstanding: table_zero::set(),
+            ..h.attempt
+        },
+        ..h
+    })
 }
 
-// ---- timeout, refresh, stop
-
-// "needs working, something outstanding (2)".
-#[tactic(auto, unfolding(rules::specs::Codes::code_of))]
-fn timeout_code(h: Host) -> u64
-    ensures { result ≡ code_of (timeout_refusals h) }
+// "8 refresh (host): working (2). Epoch known becomes the store's, map current".
+pub fn refresh(h: Host, epoch: Epoch) -> Result<Host, Refused>
+    ensures { result ≡ ruled (working_refusals h) (refreshed h epoch) }
 {
     if !h.working {
-        return rules::NOT_IN_STATE;
+        return Err(Refused::NotInState);
     }
-    if table_sets::is_empty(h.attempt.outstanding) {
-        return rules::NOT_IN_STATE;
-    }
-    rules::DONE
+    Ok(Host {
+        epoch,
+        mapped: true,
+        ..h
+    })
 }
 
-// "Okay false, nothing outstanding".
-pub fn time_out(h: Host) -> Moved
-    ensures { result ≡ record { code = code_of (timeout_refusals h); host = unless_refused (timeout_refusals h) h (timed_out h) } }
-{
-    let code = timeout_code(h);
-    if code != rules::DONE {
-        return Moved {
-            code: code,
-            host: h,
-        };
-    }
-    let none = table_zero::set();
-    let mut a = h.attempt;
-    a.okay = false;
-    a.outstanding = none;
-    let mut out = h;
-    out.attempt = a;
-    Moved {
-        code: rules::DONE,
-        host: out,
-    }
-}
-
-// "8 refresh (host): working (2)"; "10 stop (host), once".
-#[tactic(auto, unfolding(rules::specs::Codes::code_of))]
-fn working_code(h: Host) -> u64
-    ensures { result ≡ code_of (working_refusals h) }
+// "10 stop (host), once; its other fields stay".
+pub fn stop(h: Host) -> Result<Host, Refused>
+    ensures { result ≡ ruled (working_refusals h) (stopped h) }
 {
     if !h.working {
-        return rules::NOT_IN_STATE; // stopped: no refresh, and no second stop
+        return Err(Refused::NotInState);
     }
-    rules::DONE
-}
-
-// "Epoch known becomes the store's, map current".
-pub fn refresh(h: Host, epoch: Epoch) -> Moved
-    ensures { result ≡ record { code = code_of (working_refusals h); host = unless_refused (working_refusals h) h (refreshed h epoch) } }
-{
-    let code = working_code(h);
-    if code != rules::DONE {
-        return Moved {
-            code: code,
-            host: h,
-        };
-    }
-    let mut out = h;
-    out.epoch = epoch;
-    out.mapped = true;
-    Moved {
-        code: rules::DONE,
-        host: out,
-    }
-}
-
-// "its other fields stay".
-pub fn stop(h: Host) -> Moved
-    ensures { result ≡ record { code = code_of (working_refusals h); host = unless_refused (working_refusals h) h (stopped h) } }
-{
-    let code = working_code(h);
-    if code != rules::DONE {
-        return Moved {
-            code: code,
-            host: h,
-        };
-    }
-    let mut out = h;
-    out.working = false;
-    Moved {
-        code: rules::DONE,
-        host: out,
-    }
+    Ok(Host {
+        working: false,
+        ..h
+    })
 }

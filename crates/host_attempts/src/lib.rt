@@ -2,23 +2,21 @@
 #![tactic(auto)]
 
 ghost use Rattle.std.specs.Prelude.{◌≡◌, ◌&&◌, ◌||◌, not, eqb, ltb};
-ghost use Rattle.rules.specs.Codes.{code_of};
 ghost use Rattle.rules.specs.Hosts.{has_current, only, opening_to, started};
-ghost use Rattle.rules.specs.Hosts.{finish_refusals, closing_to, done_as, failed_as, finish_outcome, finished};
+ghost use Rattle.rules.specs.Hosts.{closing_to, done_as, failed_as, finish_outcome, finished};
 ghost use Rattle.rules.specs.Kinds.{is_reading};
 ghost use Rattle.rules.specs.Network.{how_many};
 ghost use Rattle.rules.specs.Zero.{◌among◌};
-ghost use Rattle.host_attempts.specs.Moves.{refused, starts, finishes};
+ghost use Rattle.host_attempts.specs.Moves.{starts, finishes};
 
 use host_keeper::{Drawn, Keeper};
-use rules::{Action, Attempt, Host, Operation, Outcome, Place, Set, Message};
+use rules::{Action, Attempt, Host, Message, Operation, Outcome, Refused, Set};
 
-// What a start or a finish makes of its host, its new messages, and the outcome; a refusal has no messages.
+// What a start or a finish makes of its host, its new messages, and the outcome.
 #[derive(Clone, Copy)]
 pub struct Sent {
-    pub code: u64,
     pub host: Host,
-    pub messages: [Place; rules::CHUNKS],
+    pub messages: [Option<Message>; rules::CHUNKS],
     pub outcome: Outcome,
 }
 
@@ -34,19 +32,6 @@ fn lacks_room(free: u64, to: Set) -> bool
     ensures { result ≡ ltb free (how_many to) }
 {
     free < table_sets::how_many(to)
-}
-
-// "same table, zeros".
-fn refuse(code: u64, h: Host) -> Sent
-    ensures { result ≡ refused code h }
-{
-    let none = network_places::only(None);
-    Sent {
-        code: code,
-        host: h,
-        messages: none,
-        outcome: Outcome::None,
-    }
 }
 
 // ---- start
@@ -95,79 +80,56 @@ fn opening_to(action: Action, copy: u64, holders: Set) -> Set
 fn begin(h: Host, d: Drawn, to: Set) -> Host
     ensures { result ≡ started h d.timestamp d.keeper.last to }
 {
-    let now = d.timestamp;
-    let a = Attempt {
-        timestamp: now,
-        outstanding: to,
-        okay: true,
-        restart: true,
-        result: 0,
-    };
-    let mut out = h;
-    out.attempt = a;
-    out.clock = d.keeper.last;
-    out
+    Host {
+        attempt: Attempt {
+            timestamp: d.timestamp,
+            outstanding: to,
+            okay: true,
+            restart: true,
+            result: 0,
+        },
+        clock: d.keeper.last,
+        ..h
+    }
 }
 
 // "3 start (host, clock from 1, copy)": what it needs (2), the copy (1), the clock (3), which the host's keeper hands out or
 // refuses, and room (5). What the keeper remembers is stored only when the start is granted.
-#[tactic(auto, unfolding(crate::specs::Moves::starts, rules::specs::Words::each, rules::specs::Codes::code_of))]
-pub fn start(number: u64, clock: u64, copy: u64, holders: Set, h: Host, free: u64) -> Sent
+#[tactic(auto, unfolding(crate::specs::Moves::starts, rules::specs::Words::each, rules::specs::Words::joined, rules::specs::Codes::code_of))]
+pub fn start(
+    number: u64,
+    clock: u64,
+    copy: u64,
+    holders: Set,
+    h: Host,
+    free: u64,
+) -> Result<Sent, Refused>
     ensures { result ≡ starts number clock copy holders h free }
 {
     if unready(h) {
-        return refuse(rules::NOT_IN_STATE, h);
+        return Err(Refused::NotInState);
     }
     let o = host_operations::front(h);
-    let action = o.action;
-    if lacks_copy(action, copy, holders) {
-        return refuse(rules::OUT_OF_RANGE, h);
+    if lacks_copy(o.action, copy, holders) {
+        return Err(Refused::OutOfRange);
     }
-    let k = Keeper {
+    let keeper = Keeper {
         host: number,
         last: h.clock,
     };
-    let d = host_keeper::draw_from(k, clock);
-    if d.code != rules::DONE {
-        return refuse(d.code, h);
-    }
-    let to = opening_to(action, copy, holders);
+    let drawn = host_keeper::draw_from(keeper, clock)?;
+    let to = opening_to(o.action, copy, holders);
     if lacks_room(free, to) {
-        return refuse(rules::NO_ROOM, h);
+        return Err(Refused::NoRoom);
     }
-    let now = d.timestamp;
-    let epoch = h.epoch;
-    let messages = network_requests::open(to, number, o.block, now, epoch, action);
-    let new = begin(h, d, to);
-    Sent {
-        code: rules::DONE,
-        host: new,
-        messages: messages,
+    Ok(Sent {
+        host: begin(h, drawn, to),
+        messages: network_requests::open(to, number, o.block, drawn.timestamp, h.epoch, o.action),
         outcome: Outcome::None,
-    }
+    })
 }
 
 // ---- finish
-
-// "Needs working, a current operation, nothing outstanding (2); room for a write's messages (5)".
-#[tactic(auto, unfolding(rules::specs::Codes::code_of))]
-fn finish_code(h: Host, free: u64, to: Set) -> u64
-    ensures { result ≡ code_of (finish_refusals h free (how_many to)) }
-{
-    if !h.working {
-        return rules::NOT_IN_STATE;
-    }
-    if !has_current(h) {
-        return rules::NOT_IN_STATE;
-    }
-    if !table_sets::is_empty(h.attempt.outstanding) {
-        return rules::NOT_IN_STATE;
-    }
-    if lacks_room(free, to) {
-        return rules::NO_ROOM;
-    }
-    rules::DONE
-}
 
 // A write's messages go to each chunk of the set; a read has none.
 fn closing_to(action: Action, holders: Set) -> Set
@@ -180,20 +142,13 @@ fn closing_to(action: Action, holders: Set) -> Set
 }
 
 // "Okay write: .. write done .. Okay read: read done".
-fn done_as(host: u64, o: Operation, res: u64) -> Outcome
-    ensures { result ≡ done_as host o o.action res }
+fn done_as(host: u64, o: Operation, value: u64) -> Outcome
+    ensures { result ≡ done_as host o o.action value }
 {
-    let action = o.action;
-    match action {
-        Action::Read => Outcome::ReadDone {
-            host: host,
-            block: o.block,
-            value: res,
-        },
-        Action::Write(_) => Outcome::WriteDone {
-            host: host,
-            block: o.block,
-        },
+    let block = o.block;
+    match o.action {
+        Action::Read => Outcome::ReadDone { host, block, value },
+        Action::Write(_) => Outcome::WriteDone { host, block },
     }
 }
 
@@ -201,16 +156,10 @@ fn done_as(host: u64, o: Operation, res: u64) -> Outcome
 fn failed_as(host: u64, o: Operation) -> Outcome
     ensures { result ≡ failed_as host o o.action }
 {
-    let action = o.action;
-    match action {
-        Action::Read => Outcome::ReadFailed {
-            host: host,
-            block: o.block,
-        },
-        Action::Write(_) => Outcome::WriteFailed {
-            host: host,
-            block: o.block,
-        },
+    let block = o.block;
+    match o.action {
+        Action::Read => Outcome::ReadFailed { host, block },
+        Action::Write(_) => Outcome::WriteFailed { host, block },
     }
 }
 
@@ -221,12 +170,12 @@ fn finish_outcome(host: u64, h: Host) -> Outcome
 {
     let o = host_operations::front(h);
     if h.attempt.okay {
-        return done_as(host, o, h.attempt.result);
+        done_as(host, o, h.attempt.result)
+    } else if h.attempt.restart {
+        Outcome::None
+    } else {
+        failed_as(host, o)
     }
-    if h.attempt.restart {
-        return Outcome::None;
-    }
-    failed_as(host, o)
 }
 
 // "No current operation remains, and its fields become zero or false".
@@ -234,39 +183,36 @@ fn finish_outcome(host: u64, h: Host) -> Outcome
 fn end(h: Host) -> Host
     ensures { result ≡ finished h }
 {
-    let none = table_zero::attempt();
-    let mut out = h;
-    out.attempt = none;
-    if !h.attempt.okay & h.attempt.restart {
-        return out;
+    let ended = Host {
+        attempt: table_zero::attempt(),
+        ..h
+    };
+    if !h.attempt.okay && h.attempt.restart {
+        return ended;
     }
-    let q = h.queue;
-    let rest = host_operations::without_front(q);
-    out.queue = rest;
-    out
+    Host {
+        queue: host_operations::without_front(h.queue),
+        ..ended
+    }
 }
 
-// "6 finish (host)".
+// "6 finish (host)". "Needs working, a current operation, nothing outstanding (2); room for a write's messages (5)".
 #[tactic(auto, unfolding(crate::specs::Moves::finishes, rules::specs::Codes::code_of))]
-pub fn finish(number: u64, holders: Set, h: Host, free: u64) -> Sent
+pub fn finish(number: u64, holders: Set, h: Host, free: u64) -> Result<Sent, Refused>
     ensures { result ≡ finishes number holders h free }
 {
+    if !h.working || !has_current(h) || !table_sets::is_empty(h.attempt.outstanding) {
+        return Err(Refused::NotInState);
+    }
     let o = host_operations::front(h);
-    let action = o.action;
-    let to = closing_to(action, holders);
-    let code = finish_code(h, free, to);
-    if code != rules::DONE {
-        return refuse(code, h);
+    let to = closing_to(o.action, holders);
+    if lacks_room(free, to) {
+        return Err(Refused::NoRoom);
     }
-    let now = h.attempt.timestamp;
-    let epoch = h.epoch;
-    let new = end(h);
-    let messages = network_requests::close(to, number, o.block, now, epoch, h.attempt.okay);
-    let outcome = finish_outcome(number, h);
-    Sent {
-        code: rules::DONE,
-        host: new,
-        messages: messages,
-        outcome: outcome,
-    }
+    let a = h.attempt;
+    Ok(Sent {
+        host: end(h),
+        messages: network_requests::close(to, number, o.block, a.timestamp, h.epoch, a.okay),
+        outcome: finish_outcome(number, h),
+    })
 }

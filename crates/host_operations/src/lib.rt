@@ -1,71 +1,35 @@
-// A host's operations: up to 8 in a row, the current one at the front.
-#![tactic(auto)]
+// A host's operations: up to 8 in a row, the current one at the front. A count above 8 stands for 8 operations, and what lies in unused
+// places does not survive.
+#![tactic(auto, unfolding(rules::specs::Hosts::queue_of))]
 
-ghost use Rattle.std.specs.Prelude.{◌≤◌, ◌≡◌, [], ◌∷◌, ◌++◌, length, get_or, take, drop};
+ghost use Rattle.std.specs.Prelude.{◌≡◌, [], ◌∷◌, ◌++◌, take, drop};
 ghost use Rattle.rules.specs.Hosts.{queue_of, front};
-ghost use Rattle.rules.specs.Limits.{operation_limit};
-ghost use Rattle.rules.specs.Words.{filled};
-ghost use Rattle.rules.specs.Zero.{zero_operation};
 
 use rules::{Host, Operation, Queue};
 
-// How many there are: a count above 8 counts as 8.
-fn held(q: Queue) -> u64
-    ensures { (result ≡ length (take q.count q.operations)) × (result ≤ operation_limit) }
-{
-    if q.count < rules::OPERATIONS as u64 {
-        return q.count;
-    }
-    rules::OPERATIONS as u64
-}
-
-// Operation i; zero where there is none, whatever the unused place holds.
-fn operation(q: Queue, i: u64) -> Operation
-    ensures { result ≡ get_or (take q.count q.operations) i zero_operation }
-{
-    if i < held(q) {
-        let p = i as usize;
-        return q.operations[p];
-    }
-    table_zero::operation()
-}
-
-// The operation that is current, or would become it.
+// The operation that is current, or would become it; zero where there is none.
 pub fn front(h: Host) -> Operation
     ensures { result ≡ front h }
 {
-    let q = h.queue;
-    operation(q, 0)
-}
-
-// The operations from `first` on, moved to the front of an array whose unused places are zero.
-fn operations_from(q: Queue, first: u64) -> [Operation; rules::OPERATIONS]
-    requires { first ≤ operation_limit }
-    ensures { result ≡ filled operation_limit zero_operation (drop first (take q.count q.operations)) }
-{
-    let mut out = q.operations;
-    let mut i: usize = 0;
-    while i < rules::OPERATIONS {
-        let o = operation(q, first + i as u64);
-        out[i] = o;
-        i = i + 1;
+    if h.queue.count == 0 {
+        return table_zero::operation();
     }
-    out
+    h.queue.operations[0]
 }
 
 // One operation more; beyond the eighth it is counted and has no place.
 pub fn with_last(q: Queue, o: Operation) -> Queue
     ensures { result ≡ queue_of (take q.count q.operations ++ o ∷ []) }
 {
-    let n = held(q);
-    let mut out = operations_from(q, 0);
-    let i = n as usize;
-    if i < rules::OPERATIONS {
-        out[i] = o;
+    let n = rows::used(q.count, &q.operations);
+    let mut operations = rows::used_from(0, q.count, q.operations, table_zero::operation());
+    // with get_mut the check knows no more what the places hold
+    if n < rules::OPERATIONS as u64 {
+        operations[n as usize] = o;
     }
     Queue {
         count: n + 1,
-        operations: out,
+        operations,
     }
 }
 
@@ -73,16 +37,8 @@ pub fn with_last(q: Queue, o: Operation) -> Queue
 pub fn without_front(q: Queue) -> Queue
     ensures { result ≡ queue_of (drop 1 (take q.count q.operations)) }
 {
-    let n = held(q);
-    let out = operations_from(q, 1);
-    if n == 0 {
-        return Queue {
-            count: 0,
-            operations: out,
-        };
-    }
     Queue {
-        count: n - 1,
-        operations: out,
+        count: rows::used(q.count, &q.operations).saturating_sub(1),
+        operations: rows::used_from(1, q.count, q.operations, table_zero::operation()),
     }
 }

@@ -8,15 +8,13 @@ ghost use Rattle.rules.specs.Messages.{sort_of};
 use rules::{Attempt, Host, Message, Set, Sort};
 
 // The set with one chunk taken out.
-fn without(s: Set, chunk: u64) -> Set
+fn without(mut s: Set, chunk: u64) -> Set
     ensures { result ≡ record { chunks = set s.chunks chunk false } }
 {
-    let mut out = s;
-    let i = chunk as usize;
-    if i < rules::CHUNKS {
-        out.chunks[i] = false;
+    if chunk < rules::CHUNKS as u64 {
+        s.chunks[chunk as usize] = false;
     }
-    out
+    s
 }
 
 // "a read or prewrite reply suits the operation".
@@ -26,8 +24,7 @@ fn suits(reading: bool, sort: Sort) -> bool
     match sort {
         Sort::ReadReply(_) => reading,
         Sort::PrewriteReply => !reading,
-        Sort::Refusal(_) => true,
-        Sort::Request(_, _) => true,
+        Sort::Refusal(_) | Sort::Request(..) => true,
     }
 }
 
@@ -36,59 +33,45 @@ fn counts(h: Host, m: Message) -> bool
     ensures { result ≡ counts h m }
 {
     let header = network_messages::header_of(m);
-    let sort = network_messages::sort_of(m);
-    let attempt = h.attempt;
-    let o = host_operations::front(h);
-    let a = o.action;
-    (header.timestamp.0 == attempt.timestamp.0)
-        & table_sets::among(header.chunk, attempt.outstanding)
-        & suits(table_kinds::is_reading(a), sort)
+    let reading = table_kinds::is_reading(host_operations::front(h).action);
+    header.timestamp == h.attempt.timestamp
+        && table_sets::among(header.chunk, h.attempt.outstanding)
+        && suits(reading, network_messages::sort_of(m))
 }
 
 // "The chunk is then no longer outstanding".
 fn answered_by(a: Attempt, chunk: u64) -> Attempt
     ensures { result ≡ answered_by a chunk }
 {
-    let s = a.outstanding;
-    let rest = without(s, chunk);
-    let mut out = a;
-    out.outstanding = rest;
-    out
+    Attempt {
+        outstanding: without(a.outstanding, chunk),
+        ..a
+    }
 }
 
 // "Mismatch, out of order, busy and error clear okay; mismatch also makes the map not current; error clears restart. A
 // read reply sets the result value." (Requests go to chunks.)
-fn heard(h: Host, a: Attempt, m: Message) -> Host
+fn heard(mut h: Host, mut a: Attempt, m: Message) -> Host
     ensures { result ≡ heard h a (sort_of m) }
 {
-    let mut b = a;
-    let mut out = h;
     match m {
         Message::Mismatch { .. } => {
-            b.okay = false;
-            out.mapped = false;
+            a.okay = false;
+            h.mapped = false;
         }
-        Message::OutOfOrder { .. } => {
-            b.okay = false;
-        }
-        Message::Busy { .. } => {
-            b.okay = false;
-        }
+        Message::OutOfOrder { .. } | Message::Busy { .. } => a.okay = false,
         Message::Error { .. } => {
-            b.okay = false;
-            b.restart = false;
+            a.okay = false;
+            a.restart = false;
         }
-        Message::ReadReply { value, .. } => {
-            b.result = value;
-        }
+        Message::ReadReply { value, .. } => a.result = value,
         Message::PrewriteReply { .. } => {}
-        Message::Read { .. } => return h,
-        Message::Prewrite { .. } => return h,
-        Message::Commit { .. } => return h,
-        Message::Abort { .. } => return h,
+        Message::Read { .. }
+        | Message::Prewrite { .. }
+        | Message::Commit { .. }
+        | Message::Abort { .. } => return h,
     }
-    out.attempt = b;
-    out
+    Host { attempt: a, ..h }
 }
 
 // ".. and a stopped host take no notice"; a reply that does not count changes nothing.
@@ -96,10 +79,9 @@ fn heard(h: Host, a: Attempt, m: Message) -> Host
 pub fn at_host(h: Host, m: Message) -> Host
     ensures { result ≡ hears h m }
 {
-    if h.working & counts(h, m) {
-        let header = network_messages::header_of(m);
-        let a = h.attempt;
-        return heard(h, answered_by(a, header.chunk), m);
+    if !h.working || !counts(h, m) {
+        return h;
     }
-    h
+    let header = network_messages::header_of(m);
+    heard(h, answered_by(h.attempt, header.chunk), m)
 }

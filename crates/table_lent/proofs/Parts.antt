@@ -29,8 +29,8 @@ use Rattle.rules.specs.declared.Chunk.{Chunk}
 use Rattle.rules.specs.contracts.Chunk as ChunkR
 use Rattle.rules.specs.declared.Record.{Record}
 use Rattle.rules.specs.contracts.Record as RecordR
-
-use Rattle.rules.specs.contracts.Place as PlaceR
+use Rattle.rules.specs.contracts.Message as MessageR
+use Rattle.std.specs.contracts.option.Option as OptionR
 use Rattle.table_lent.proofs.Hole.{Hole, within, element, sized}
 
 -- ---- creation
@@ -125,7 +125,7 @@ module _ {M : Type 1} {𝓤 : Ura M} (𝓛 : Logic 𝓤) (q : Share) where
   pub records-sized : (h : Table) (b o : ℕ) → ent 𝓤 (sem 𝓛 (part_at TableR.the_row q h b o)) (guard 𝓤 (length h.records ≡ 128) (sem 𝓛 (part_at TableR.the_row q h b o)))
   records-sized h b o = sized 𝓛 q TableR.the_row RecordR.the_row tt 128 h h.records b o (o + 2536) (records_hole h h.records b o)
 
--- ---- places
+-- ---- places: each is an `Option` of a message
 abbrev pub places-at : ℕ → ℕ → ℕ
 places-at o k = at (o + 47592) 64 k
 
@@ -139,14 +139,14 @@ pub place_unset : (h : Table) (k : ℕ) (x : Option Message) → length h.places
 place_unset h k x l le = sym (ap (with_places h) (set_out h.places k x (subst (λ (j : ℕ). j ≤ k) (sym l) le)))
 
 module _ {M : Type 1} {𝓤 : Ura M} (𝓛 : Logic 𝓤) (q : Share) where
-  places_hole : (h : Table) (xs : List (Option Message)) (b o : ℕ) → Hole 𝓛 q TableR.the_row (Array PlaceR.the_row 64) h (with_places h xs) h.places xs b o (o + 47592)
+  places_hole : (h : Table) (xs : List (Option Message)) (b o : ℕ) → Hole 𝓛 q TableR.the_row (Array (OptionR.the_row MessageR.the_row) 64) h (with_places h xs) h.places xs b o (o + 47592)
   places_hole h xs b o =
       put_at_lem 𝓛 q TableR.the_type TableL.the_loose 5 47592 refl refl (b, o) h (with_places h xs) ((TableR.struct).as_values h) xs refl refl
 
-  pub place_hole : (h : Table) (k : ℕ) (x : Option Message) (b o : ℕ) → k < 64 → Hole 𝓛 q TableR.the_row PlaceR.the_row h (with_places h (set h.places k x)) (get_or h.places k zero_place) x b o (places-at o k)
+  pub place_hole : (h : Table) (k : ℕ) (x : Option Message) (b o : ℕ) → k < 64 → Hole 𝓛 q TableR.the_row (OptionR.the_row MessageR.the_row) h (with_places h (set h.places k x)) (get_or h.places k zero_place) x b o (places-at o k)
   place_hole h k x b o lt =
-      within 𝓛 q TableR.the_row (Array PlaceR.the_row 64) PlaceR.the_row h (with_places h (set h.places k x)) h.places (set h.places k x) (get_or h.places k zero_place) x b o (o + 47592) (places-at o k)
-      (places_hole h (set h.places k x) b o) (element 𝓛 q PlaceR.the_row tt 64 h.places k zero_place x b (o + 47592) lt)
+      within 𝓛 q TableR.the_row (Array (OptionR.the_row MessageR.the_row) 64) (OptionR.the_row MessageR.the_row) h (with_places h (set h.places k x)) h.places (set h.places k x) (get_or h.places k zero_place) x b o (o + 47592) (places-at o k)
+      (places_hole h (set h.places k x) b o) (element 𝓛 q (OptionR.the_row MessageR.the_row) tt 64 h.places k zero_place x b (o + 47592) lt)
 
   pub places-sized : (h : Table) (b o : ℕ) → ent 𝓤 (sem 𝓛 (part_at TableR.the_row q h b o)) (guard 𝓤 (length h.places ≡ 64) (sem 𝓛 (part_at TableR.the_row q h b o)))
-  places-sized h b o = sized 𝓛 q TableR.the_row PlaceR.the_row tt 64 h h.places b o (o + 47592) (places_hole h h.places b o)
+  places-sized h b o = sized 𝓛 q TableR.the_row (OptionR.the_row MessageR.the_row) tt 64 h h.places b o (o + 47592) (places_hole h h.places b o)

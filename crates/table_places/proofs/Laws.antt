@@ -1,5 +1,5 @@
--- Laws that the proofs of the loops and of `send_in` cite
-use Rattle.std.specs.Prelude.{None, Option, Some}
+-- Laws that the proofs of the loops cite
+use Rattle.std.specs.Prelude.{Option}
 use Prim.Native.Nat.{ℕ, ◌+◌, ◌-◌, ◌≤◌, ◌<◌, ◌^◌}
 use mathlib.Core.Path.{◌≡◌, refl, ap, subst, ◌∙◌}
 use mathlib.Core.Bool.{Bool, true, false, cond, not}
@@ -7,13 +7,10 @@ use mathlib.Core.List.{List, ◌∷◌}
 use native.Mathlib.Decide.{dec_le}
 use native.Mathlib.Omega.{arith}
 use lib.Dec.{T, lit<}
-use lib.ListN.{length, drop, drop_of_length-le, get_or, set, get_or-eq_default}
+use lib.ListN.{length, drop, drop_of_length-le, get_or, get_or-eq_default}
 use native.Mathlib.Nat.{lt_of_le_of_lt}
 use Rattle.rules.specs.declared.Message.{Message}
-use Rattle.rules.specs.declared.Table.{Table}
-use Rattle.rules.specs.Kinds.{is_empty_slot}
-use Rattle.rules.specs.Network.{is_free, free_places, sent, replied}
-use Rattle.rules.specs.Tables.{with_places}
+use Rattle.rules.specs.Network.{is_free, free_places}
 use Rattle.rules.specs.Words.{those, place}
 use Rattle.rules.specs.Zero.{zero_place}
 use Rattle.rules.proofs.Loops.{drop_more, place_other, place_here, place_end, count-here, count-other, count-end}
@@ -104,16 +101,3 @@ module _ (l : List (Option Message)) where
             at (yes k) = let z = place_end is_free zero_place l i (omega arith) in omega (arith, c.1)
             at (no k) = let z = place_here is_free zero_place l i (omega arith) e in omega (arith, c.1)
         go false e = absurd (subst (λ (f : Bool). T (not f)) (here ∙ ap not e) t)
-
--- ---- `send_in`
-
-pub sends_none : (h : Table) (s : Option Message) (b : Bool) → b ≡ is_empty_slot s → T b → h ≡ with_places h (replied h.places s)
-unfolding replied
-sends_none h None b b_is t = refl
-sends_none h (Some m) b b_is t = absurd (subst T b_is t)
-
-pub sends : (h : Table) (s : Option Message) (b : Bool) → b ≡ is_empty_slot s → T (not b) → (i : ℕ) → i ≡ place is_free h.places → (p : Option Message) → p ≡ s → (z : Table) → z ≡ with_places h (set h.places i p)
-    → z ≡ with_places h (replied h.places s)
-unfolding replied sent
-sends h None b b_is t i i_is p p_is z z_is = absurd (subst (λ (c : Bool). T (not c)) b_is t)
-sends h (Some m) b b_is t i i_is p p_is z z_is = rw (z_is, i_is, p_is) refl

@@ -85,12 +85,12 @@ fn lowest_in(t: &Table) -> u64
 }
 
 // "Its reply, if any, takes the lowest free place"; a full network stays as it is.
+#[tactic(auto, unfolding(rules::specs::Network::replied, rules::specs::Network::sent))]
 pub fn send_in(t: &mut Table, s: Option<Message>)
     ensures { t.new ≡ with_places t.old (replied t.old.places s) }
 {
-    if s.is_none() {
-        return;
+    if let Some(_) = s {
+        let at = lowest_in(t);
+        put_place(t, at, s);
     }
-    let at = lowest_in(t);
-    put_place(t, at, s);
 }

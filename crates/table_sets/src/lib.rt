@@ -11,38 +11,19 @@ use rules::Set;
 pub fn among(chunk: u64, s: Set) -> bool
     ensures { result ≡ (chunk among s) }
 {
-    let i = chunk as usize;
-    if i < rules::CHUNKS {
-        return s.chunks[i];
-    }
-    false
+    s.chunks.get(chunk as usize).copied().unwrap_or(false)
 }
 
 // No chunk is in the set.
 pub fn is_empty(s: Set) -> bool
     ensures { result ≡ is_empty s }
 {
-    let mut i: usize = 0;
-    while i < rules::CHUNKS {
-        if s.chunks[i] {
-            return false;
-        }
-        i = i + 1;
-    }
-    true
+    !s.chunks.contains(&true)
 }
 
 // How many chunks a set has, and so how many messages go to it.
 pub fn how_many(to: Set) -> u64
     ensures { result ≡ how_many to }
 {
-    let mut count: u64 = 0;
-    let mut i: usize = 0;
-    while i < rules::CHUNKS {
-        if to.chunks[i] {
-            count = count + 1;
-        }
-        i = i + 1;
-    }
-    count
+    to.chunks.iter().filter(|c| **c).count() as u64
 }

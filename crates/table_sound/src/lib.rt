@@ -11,8 +11,8 @@ ghost use Rattle.rules.specs.Zero.{is_empty, is_zero_entry, is_zero_chunk, is_ze
 ghost use Rattle.table_sound.specs.Parts.{counted, counts_of, all_formed, of_blocks, unused_entries, numbers_formed, is_of_store, is_quiet, quiet_at, busy_at, record_in_place};
 
 use rules::{
-    Attempt, Chunk, Creation, Entry, Epoch, Header, Host, Message, Operation, Place, Queue, Record,
-    Set, Message, Sort, Table, Timestamp, Waiting,
+    Attempt, Chunk, Creation, Entry, Epoch, Header, Host, Message, Operation, Queue, Record, Set,
+    Sort, Table, Timestamp, Waiting,
 };
 
 // The store's counts: all that its parts are held to.
@@ -363,11 +363,10 @@ fn message_formed(n: Counts, m: Message) -> bool
     header_formed(n, header) & sort_formed(sort)
 }
 
-fn place_formed(n: Counts, p: Place) -> bool
-    ensures { result ≡ slot_formed (counted n) p.slot }
+fn place_formed(n: Counts, p: Option<Message>) -> bool
+    ensures { result ≡ slot_formed (counted n) p }
 {
-    let s = p.slot;
-    match s {
+    match p {
         None => true,
         Some(m) => message_formed(n, m),
     }
@@ -400,8 +399,8 @@ fn chunk_next(ok: bool, n: Counts, epoch: Epoch, i: u64, c: Chunk) -> bool
     ok & chunk_at(n, epoch, i < n.chunks, c)
 }
 
-fn place_next(ok: bool, n: Counts, p: Place) -> bool
-    ensures { result ≡ ok && slot_formed (counted n) p.slot }
+fn place_next(ok: bool, n: Counts, p: Option<Message>) -> bool
+    ensures { result ≡ ok && slot_formed (counted n) p }
 {
     ok & place_formed(n, p)
 }

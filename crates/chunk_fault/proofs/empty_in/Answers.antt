@@ -1,7 +1,7 @@
-use Rattle.std.proofs.Common.{◌≡◌, ◌∙◌, length, ap, arith}
+use Rattle.std.proofs.Common.{◌≡◌, ◌∙◌, length, refl, ap, arith}
 use Rattle.rules.specs.declared.Table.{Table}
 use Rattle.chunk_fault.specs.Steps.{with_emptied}
-use Rattle.chunk_fault.proofs.Laws.{table-begins, table-next, table-ends}
+use Rattle.chunk_fault.proofs.Laws.{block_is, table-begins, table-next, table-ends}
 use Rattle.chunk_fault.proofs.empty_in.Goals as goal
 
 pub loop-b-init : goal.loop-b-init
@@ -15,7 +15,8 @@ loop-b-preserved c =
     let chunk = c.args.chunk in (
       inv.0,
       omega arith,
-      c.empty_block_in.ensures ∙ ap (λ (t : Table). with_emptied chunk t c.loop-b.b) inv.2 ∙ table-next c.args.t.now inv.0 chunk c.loop-b.b (omega arith),
+      block_is c.loop-b.t _ chunk c.loop-b.b c.record_number-i.result c.record_in-held.result _ c.record_number-i.ensures c.record_in-held.ensures (rw c.waiting.ensures refl) c.put_record.ensures
+          ∙ ap (λ (t : Table). with_emptied chunk t c.loop-b.b) inv.2 ∙ table-next c.args.t.now inv.0 chunk c.loop-b.b (omega arith),
     )
 
 pub returns : goal.returns

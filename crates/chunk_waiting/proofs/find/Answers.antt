@@ -1,5 +1,4 @@
-use Rattle.std.proofs.Common.{arith}
-use borrow.Author.Tests.{eq-eqb, ne_eqb}
+use Rattle.std.proofs.Common.{◌∙◌, sym, arith}
 use Rattle.rules.specs.Waiting.{in_order, first_with}
 use Rattle.rules.specs.Zero.{zero_entry}
 use Rattle.rules.proofs.Loops.{place_end}
@@ -8,14 +7,14 @@ use Rattle.chunk_waiting.proofs.find.Goals as goal
 
 pub loop-i-preserved : goal.loop-i-preserved
 loop-i-preserved c =
-    omega (arith, search_on (stamped c.args.t) c.args.w c.loop-i.i (omega arith) (ne_eqb _ _ c.if-e-t.false))
+    omega (arith, search_on (stamped c.args.t) c.args.w c.loop-i.i (omega arith) (sym c.eq.ensures ∙ c.if-eq.false))
 
 pub returns-then-i-n : goal.returns-then-i-n
 unfolding first_with
 returns-then-i-n c =
     omega (arith, place_end (stamped c.args.t) zero_entry (in_order c.args.w) c.loop-i.i (omega arith))
 
-pub returns-then-e-t : goal.returns-then-e-t
+pub returns-then-eq : goal.returns-then-eq
 unfolding first_with
-returns-then-e-t c =
-    omega (arith, search_ends (stamped c.args.t) c.args.w c.loop-i.i (omega arith) (eq-eqb _ _ c.if-e-t.true))
+returns-then-eq c =
+    omega (arith, search_ends (stamped c.args.t) c.args.w c.loop-i.i (omega arith) (sym c.eq.ensures ∙ c.if-eq.true))

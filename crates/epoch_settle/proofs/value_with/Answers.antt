@@ -1,19 +1,16 @@
-use Rattle.std.proofs.Common.{◌≡◌, ◌-◌, length, arith, refl, ◌∙◌}
+use Rattle.std.proofs.Common.{rules, refl}
+use Rattle.std.proofs.lemmas.Iterator.{YieldsList-from_slice}
+use Rattle.std.proofs.lemmas.Iterator.Search.{find_from_yields_List}
+use borrow.Author.Tests.{tests}
+use Rattle.rules.specs.declared.Entry.{Entry}
+use Rattle.rules.specs.Kinds.{value_of}
 use Rattle.rules.specs.Settlement.{write_with}
-use Rattle.rules.specs.Words.{place}
-use Rattle.epoch_settle.proofs.Laws.{none_left, value-front}
+use Rattle.rules.specs.Zero.{zero_entry}
+use Rattle.epoch_settle.proofs.Arrays.{found}
 use Rattle.epoch_settle.proofs.value_with.Goals as goal
 
-pub loop-i-init : goal.loop-i-init
-unfolding place
-loop-i-init c = let k = none_left c.args.q (omega arith) in (omega arith, rw k refl)
-
-pub loop-i-preserved : goal.loop-i-preserved
-loop-i-preserved c =
-    let q = c.args.q in
-    let i = c.loop-i.i in
-    let l : length q.entries ≡ 8 = omega arith in (
-      omega arith,
-      c.choose-v.ensures ∙ rw (c.value_of.ensures, c.write_with.ensures)
-          (value-front q (i - 1) i l (omega arith) (omega arith) (write_with c.args.t) c.loop-i.v c.loop-i.invariant.1),
-    )
+pub returns : goal.returns
+returns c =
+    let a = c.args in
+    let h = find_from_yields_List (write_with a.t) _ _ c.find.result c.find.ensures.ran (YieldsList-from_slice a.entries.now (cc)) (λ x b q k. search (rules, tests)) in
+    found (write_with a.t) (λ (e : Entry). value_of e.kind) zero_entry a.entries.now c.find.result h c.map_or.result 0 c.map_or.ensures refl (λ x q. search rules)

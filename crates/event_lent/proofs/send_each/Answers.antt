@@ -1,7 +1,20 @@
-use Rattle.event_lent.proofs.Laws.{sends-each}
+use Rattle.std.proofs.Common.{refl, sym, ap, ◌∙◌, ◌+◌, drop, arith}
+use Rattle.rules.specs.declared.Table.{Table}
+use Rattle.rules.specs.Words.{fold}
+use Rattle.rules.specs.Zero.{zero_place}
+use Rattle.rules.proofs.Loops.{fold_more, fold_end}
+use Rattle.event_lent.proofs.Laws.{sending, sending-all}
 use Rattle.event_lent.proofs.send_each.Goals as goal
+
+pub loop-m-init : goal.loop-m-init
+loop-m-init c = refl
+
+pub loop-m-preserved : goal.loop-m-preserved
+loop-m-preserved c =
+    ap (λ (t : Table). fold sending t (drop (c.loop-m.m-index + 1) c.args.messages)) c.send_in.ensures
+    ∙ sym (fold_more sending zero_place c.args.messages c.loop-m.m-index c.loop-m.t (omega arith))
+    ∙ c.loop-m.invariant
 
 pub returns : goal.returns
 returns c =
-    sends-each c.args.a.messages c.send_one.ensures.1 c.args.t.now _ _ _ _ _ _ _ _ c.send_one.ensures.0 c.send_one-2.ensures.0 c.send_one-3.ensures.0 c.send_one-4.ensures.0
-    c.send_one-5.ensures.0 c.send_one-6.ensures.0 c.send_one-7.ensures.0 c.send_one-8.ensures.0
+    sym (fold_end sending zero_place c.args.messages c.loop-m.m-index c.loop-m.t (omega arith)) ∙ c.loop-m.invariant ∙ sending-all c.args.t.now c.args.messages
