@@ -1,5 +1,5 @@
 -- A text that is gathered byte by byte; a number's digits
-use Prim.Native.Nat.{ℕ, suc, min, ◌-◌, ◌+◌, ◌^◌, ◌≤◌, ◌<◌}
+use Prim.Native.Nat.{ℕ, min, ◌-◌, ◌+◌, ◌^◌, ◌≤◌, ◌<◌}
 use mathlib.Core.Path.{◌≡◌, refl, sym, ap, ◌∙◌}
 use mathlib.Core.Bool.{Bool, true, false, cond}
 use mathlib.Core.List.{List, [], ◌∷◌, ◌++◌, append_assoc, append-nil}
@@ -12,10 +12,10 @@ use borrow.Author.Tests.{ltb-false, lt-ltb}
 use Rattle.std.specs.Fmt as std
 use Rattle.std.specs.List.{position_or_len}
 use Rattle.std.specs.Prelude.{Option, Some, None}
-use Rattle.std.proofs.lemmas.List.Recursion.{is_position_or_len}
 use Rattle.std.proofs.Common.{rules}
 use Rattle.std.proofs.lemmas.Fmt.{AppendsLastDigit, decimal_from_appends, length-decimal-le}
-use Rattle.rules.specs.Words.{each, place, fold}
+use Rattle.table_sets.proofs.Chains.{place-position}
+use Rattle.rules.specs.Words.{each, fold}
 use Rattle.rules.proofs.Loops.{fold_more, fold_end}
 use Rattle.text_numbers.specs.Lines.{space, newline}
 use Rattle.text_lines.specs.declared.Cut.{Cut}
@@ -51,14 +51,6 @@ text_more k (b ∷ l) = rw (followed_is k b) (text_more (k ++ b ∷ []) l) ∙ a
 
 -- ---- a block of input, up to the first newline
 
-place-position : (l : List ℕ) → place is_newline l ≡ position_or_len is_newline l
-unfolding place
-place-position = is_position_or_len (place is_newline) is_newline refl (λ x xs. at (is_newline x) (place is_newline xs))
-  where
-    at : (b : Bool) (n : ℕ) → cond b 0 (suc n) ≡ cond b 0 (1 + n)
-    at true n = refl
-    at false n = omega arith
-
 -- where `position` finds it
 abbrev found : List ℕ → Option ℕ
 found l = cond (ltb (position_or_len is_newline l) (length l)) (Some (position_or_len is_newline l)) None
@@ -76,7 +68,7 @@ rest_is block at from e = go (dec_le at (length block))
 module _ (block : List ℕ) (at : ℕ) (t u : Text) (rest : List ℕ) (is : rest ≡ drop at block) where
   pub cut_some : (n : ℕ) → Some n ≡ found rest → u ≡ fold followed t (take n rest) → ◌≡◌ {A = Cut} (record { text = u; next = Some (at + n + 1) }) (cut_at block at t)
   unfolding cut_at
-  cut_some n e g = rw (← is, place-position rest) (go (ltb (position_or_len is_newline rest) (length rest)) e)
+  cut_some n e g = rw (← is, place-position is_newline rest) (go (ltb (position_or_len is_newline rest) (length rest)) e)
     where
       go : (b : Bool) → Some n ≡ cond b (Some (position_or_len is_newline rest)) None
           → ◌≡◌ {A = Cut} (record { text = u; next = Some (at + n + 1) }) (record { text = fold followed t (take (position_or_len is_newline rest) rest); next = cond b (Some (at + position_or_len is_newline rest + 1)) None })
@@ -85,7 +77,7 @@ module _ (block : List ℕ) (at : ℕ) (t u : Text) (rest : List ℕ) (is : rest
 
   pub cut_none : None ≡ found rest → u ≡ fold followed t rest → ◌≡◌ {A = Cut} (record { text = u; next = None }) (cut_at block at t)
   unfolding cut_at
-  cut_none e g = rw (← is, place-position rest) (go (ltb (position_or_len is_newline rest) (length rest)) refl e)
+  cut_none e g = rw (← is, place-position is_newline rest) (go (ltb (position_or_len is_newline rest) (length rest)) refl e)
     where
       go : (b : Bool) → ltb (position_or_len is_newline rest) (length rest) ≡ b → None ≡ cond b (Some (position_or_len is_newline rest)) None
           → ◌≡◌ {A = Cut} (record { text = u; next = None }) (record { text = fold followed t (take (position_or_len is_newline rest) rest); next = cond b (Some (at + position_or_len is_newline rest + 1)) None })
