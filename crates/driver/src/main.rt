@@ -8,7 +8,7 @@ ghost use Rattle.rules.specs.Events.{reply_of};
 ghost use Rattle.driver.specs.Answers.{answer_to};
 
 use arrayvec::ArrayVec;
-use rules::{Event, Outcome, Reply, Table};
+use rules::{Event, Outcome, Refused, Reply, Table};
 use std::io;
 use std::io::{Read, Write};
 use text_lines::Text;
@@ -103,8 +103,8 @@ impl<W: Write> Output<W> {
 
 // "a line of hosts, chunks, blocks, age limit; a line with one number a block"
 fn store(input: &mut Input<impl Read>) -> Option<Table> {
-    let first = text_lines::parse_text(&input.next_line()?)?;
-    let second = text_lines::parse_text(&input.next_line()?)?;
+    let first = text_lines::parse_text(&input.next_line()?);
+    let second = text_lines::parse_text(&input.next_line()?);
     let made = engine::create(text_meanings::creation_of(first, second)?);
     if made.code != rules::DONE {
         return None;
@@ -119,7 +119,7 @@ fn answer_to(t: &mut Table, e: Option<Event>) -> Reply
     match e {
         Some(e) => engine::step_in(t, e),
         None => Reply {
-            code: rules::OUT_OF_RANGE,
+            code: u64::from(Refused::OutOfRange),
             outcome: Outcome::None,
         },
     }
@@ -135,7 +135,7 @@ fn run(
         let Some(line) = input.next_line() else {
             break;
         };
-        let e = text_lines::parse_text(&line).and_then(text_meanings::event_of);
+        let e = text_meanings::event_of(text_lines::parse_text(&line));
         let Reply { code, outcome } = answer_to(&mut t, e);
         output.push(&text_lines::answer_text(code, outcome))?;
     }

@@ -51,7 +51,7 @@ pub fn change_code(
     if any_failed(&chunks) {
         return Err(Refused::NotInState);
     }
-    if epoch.0 == rules::GREATEST_CLOCK {
+    if epoch == Epoch(rules::GREATEST_CLOCK) {
         return Err(Refused::LastEpoch);
     }
     if any_all_lost(&k, &chunks) {

@@ -34,10 +34,7 @@ fn only(chunk: u64) -> Set
     ensures { result ≡ only chunk }
 {
     let mut out = table_zero::set();
-    // array::from_fn(|c| c as u64 == chunk): tried; the check knows each answer only for some state of the closure
-    if chunk < rules::CHUNKS as u64 {
-        out.chunks[chunk as usize] = true;
-    }
+    arrays::put(&mut out.chunks, chunk, true);
     out
 }
 

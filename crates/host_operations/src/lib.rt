@@ -23,10 +23,7 @@ pub fn with_last(q: Queue, o: Operation) -> Queue
 {
     let n = rows::used(q.count, &q.operations);
     let mut operations = rows::used_from(0, q.count, q.operations, table_zero::operation());
-    // get_mut: tried; of an array the check knows only the length after a write through it
-    if n < rules::OPERATIONS as u64 {
-        operations[n as usize] = o;
-    }
+    arrays::put(&mut operations, n, o);
     Queue {
         count: n + 1,
         operations,

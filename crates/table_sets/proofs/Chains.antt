@@ -56,11 +56,6 @@ each-map f = same_from_clauses (each f) (map f) (λ x l. f x ∷ l) refl (λ x x
 
 -- ---- over the numbers
 
-pub from-range : (i n : ℕ) → from i n ≡ range_with_len i n
-unfolding from
-from-range i zero = refl
-from-range i (suc n) = ap (λ (t : List ℕ). i ∷ t) (from-range (suc i) n ∙ ap (λ (j : ℕ). range_with_len j n) (sym (add-one i)))
-
 -- an array of n places is what it has under each number
 pub listed : {A : Type 0} (d : A) (n : ℕ) (l : List A) → length l ≡ n → l ≡ each (λ i. get_or l i d) (numbers n)
 listed d n l h = each_of d (λ i. get_or l i d) n l h (λ i k. refl)
@@ -91,28 +86,10 @@ module _ {A : Type 0} (p : A → Bool) (d : A) (n : ℕ) (l : List A) (h : lengt
   pub some_listed : some (λ i. p (get_or l i d)) (numbers n) ≡ list_any p l
   some_listed = sym (some-each p (λ i. get_or l i d) (numbers n)) ∙ ap (some p) (sym (listed d n l h)) ∙ some-any p l
 
-  pub every_listed : every (λ i. p (get_or l i d)) (numbers n) ≡ list_all p l
-  every_listed = sym (every-each p (λ i. get_or l i d) (numbers n)) ∙ ap (every p) (sym (listed d n l h)) ∙ every-all p l
-
   pub count_listed : length (those (λ i. p (get_or l i d)) (numbers n)) ≡ count_by p l
   count_listed =
       sym (each-length (λ i. get_or l i d) (those (λ i. p (get_or l i d)) (numbers n))) ∙ ap length (sym (those-each p (λ i. get_or l i d) (numbers n)) ∙ ap (those p) (sym (listed d n l h)))
       ∙ length-those p l
-
--- .. each with its number: `iter().enumerate()`
-pub enumerated : {A : Type 0} (d : A) (n : ℕ) (l : List A) → length l ≡ n → enumerate_from 0 l ≡ each (λ i. (i, get_or l i d)) (numbers n)
-enumerated d n l h =
-    each_of (0, d) (λ i. (i, get_or l i d)) n (enumerate_from 0 l) (length-enumerate_from 0 l ∙ h)
-    (λ i k. get_or-enumerate_from 0 l i (0, d) (rw h k) ∙ ap (λ (j : ℕ). (j, get_or l i d)) (zero-add i))
-
-module _ {A : Type 0} (p : ℕ → A → Bool) (d : A) (n : ℕ) (l : List A) (h : length l ≡ n) where
-  pub some_enumerated : some (λ i. p i (get_or l i d)) (numbers n) ≡ list_any (λ x. p x.0 x.1) (enumerate_from 0 l)
-  some_enumerated =
-      sym (some-each (λ x. p x.0 x.1) (λ i. (i, get_or l i d)) (numbers n)) ∙ ap (some (λ x. p x.0 x.1)) (sym (enumerated d n l h)) ∙ some-any (λ x. p x.0 x.1) (enumerate_from 0 l)
-
-  pub every_enumerated : every (λ i. p i (get_or l i d)) (numbers n) ≡ list_all (λ x. p x.0 x.1) (enumerate_from 0 l)
-  every_enumerated =
-      sym (every-each (λ x. p x.0 x.1) (λ i. (i, get_or l i d)) (numbers n)) ∙ ap (every (λ x. p x.0 x.1)) (sym (enumerated d n l h)) ∙ every-all (λ x. p x.0 x.1) (enumerate_from 0 l)
 
 -- `contains(&true)`
 pub true_listed : (n : ℕ) (l : List Bool) → length l ≡ n → some (λ i. get_or l i false) (numbers n) ≡ list_any (λ b. beq b true) l

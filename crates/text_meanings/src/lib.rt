@@ -12,11 +12,12 @@ use text_numbers::Line;
 
 // "an event a line, its number and then only its own operands"
 #[tactic(auto, using(crate::proofs::Laws::own_few), unfolding(crate::specs::Meanings::asked_by))]
-pub fn event_of(l: Line) -> Option<Event>
+pub fn event_of(l: Option<Line>) -> Option<Event>
     ensures { result ≡ asked_by l }
 {
-    let [kind, a, b, c, ..] = l.numbers;
-    if l.count != 1 + event_operands::count(kind) {
+    let Line { count, numbers } = l?;
+    let [kind, a, b, c, ..] = numbers;
+    if count != 1 + event_operands::count(kind) {
         return None;
     }
     Some(Event { kind, a, b, c })
@@ -54,9 +55,10 @@ fn sets_of(ns: [u64; text_numbers::NUMBERS]) -> [Set; rules::BLOCKS]
 
 // "a line of hosts, chunks, blocks, age limit; a line with one number a block"
 #[tactic(auto, unfolding(crate::specs::Meanings::named_by))]
-pub fn creation_of(first: Line, second: Line) -> Option<Creation>
+pub fn creation_of(first: Option<Line>, second: Option<Line>) -> Option<Creation>
     ensures { result ≡ named_by first second }
 {
+    let (first, second) = (first?, second?);
     let [hosts, chunks, blocks, age, ..] = first.numbers;
     let ns = second.numbers;
     if first.count != 4 || second.count != blocks || !all_sums(&ns) {
