@@ -209,7 +209,7 @@ module _ {A : Type 0} (d : A) (n : ℕ) (l : List A) where
       opened_cut e p n (l ++ replicate n d)
       ∙ rw (take-append-le p l (replicate n d) h, drop-append-le p l (replicate n d) h) (ap (take n) (sym (append_assoc (take p l) (e ∷ drop p l) (replicate n d))))
 
--- ---- the whole rewritten
+-- ---- one place marked
 
 -- one place marked among n; a place beyond them marks none
 pub marked-only : (n c : ℕ) → set (replicate n false) c true ≡ each (eqb c) (numbers n)

@@ -1,18 +1,17 @@
 -- Our words (rules/specs/Words) and the library's: what an iterator's chain over an array gives, as the rules say it.
 -- The rules go over the numbers below n, and look under each in an array of n places. That the chain gives the library's word is
 -- `search rules`, or, of `any`, `all` and `position`, `search (rules, chains)` with Rattle.std.proofs.iter.runs.Made.{chains}.
-use Prim.Native.Nat.{ℕ, ◌+◌, zero, suc}
+use Prim.Native.Nat.{ℕ, ◌+◌, suc}
 use mathlib.Core.Path.{◌≡◌, refl, sym, ap, ◌∙◌}
 use mathlib.Core.Bool.{Bool, true, false, cond, beq, ◌&&◌, ◌||◌}
 use mathlib.Core.List.{List, [], ◌∷◌, map}
 use lib.ListN.{length, get_or}
-use Rattle.std.specs.List.{filter, list_all, list_any, count_by, position, position_or_len, range_with_len, enumerate_from}
+use Rattle.std.specs.List.{filter, list_all, list_any, count_by, position, position_or_len}
 use Rattle.std.specs.Prelude.{None, Some, unwrap_or, nat_lt}
-use Rattle.std.proofs.Common.{arith, add-one, one-add, zero-add}
+use Rattle.std.proofs.Common.{arith, one-add}
 use Rattle.std.proofs.lemmas.List.Recursion.{is_position_or_len, same_from_clauses}
 use Rattle.std.proofs.lemmas.List.Sums.{length-filter}
-use Rattle.std.proofs.lemmas.List.FromFn.{length-enumerate_from, get_or-enumerate_from}
-use Rattle.rules.specs.Words.{those, each, every, some, place, from, numbers}
+use Rattle.rules.specs.Words.{those, each, every, some, place, numbers}
 use Rattle.rules.proofs.Lists.{each-length}
 use Rattle.rules.proofs.Loops.{each_of, place-le}
 
