@@ -184,6 +184,7 @@ pub fn place_at(e: Event) -> u64
     the(Operand::Place, e)
 }
 
+// (Three functions for three promises: one would take the field as a closure.)
 pub fn host_at(e: Event, s: Option<Message>) -> u64
     ensures { result ≡ host_at e s }
 {

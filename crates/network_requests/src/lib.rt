@@ -35,11 +35,34 @@ fn to_each<F: Fn(u64) -> Message>(to: Set, message: F) -> [Option<Message>; rule
     requires { F.IsAlwaysCallable message }
     ensures { (m : (chunk : ℕ) → Message) → ((c : ℕ) (x : Message) → c < 8 → F.post message c x → x ≡ m c) → result ≡ messages_to to m }
 {
+    // array::from_fn: tried; a closure within it does not know that `message` may be called
     let mut out = [None; rules::CHUNKS];
     for c in 0..rules::CHUNKS {
         out[c] = to.chunks[c].then(|| message(c as u64));
     }
     out
+}
+
+// A request goes to each.
+fn ask_each(
+    to: Set,
+    host: u64,
+    block: u64,
+    timestamp: Timestamp,
+    epoch: Epoch,
+    request: Request,
+) -> [Option<Message>; rules::CHUNKS]
+    ensures { result ≡ messages_to to (λ chunk. asking (headed host chunk block timestamp) epoch request) }
+{
+    to_each(to, |chunk| {
+        let header = Header {
+            host,
+            chunk,
+            block,
+            timestamp,
+        };
+        network_messages::message_of(header, Sort::Request(epoch, request))
+    })
 }
 
 // "A read sends one read to the copy; a write sends a prewrite to each chunk of the set".
@@ -53,15 +76,7 @@ pub fn open(
 ) -> [Option<Message>; rules::CHUNKS]
     ensures { result ≡ messages_to to (λ chunk. asking (headed host chunk block now) epoch (opening action)) }
 {
-    to_each(to, |chunk| {
-        let header = Header {
-            host,
-            chunk,
-            block,
-            timestamp: now,
-        };
-        network_messages::message_of(header, Sort::Request(epoch, opening(action)))
-    })
+    ask_each(to, host, block, now, epoch, opening(action))
 }
 
 // "Okay write: commit to each chunk of the set .. Not okay: abort to each".
@@ -75,13 +90,5 @@ pub fn close(
 ) -> [Option<Message>; rules::CHUNKS]
     ensures { result ≡ messages_to to (λ chunk. asking (headed host chunk block now) epoch (closing okay)) }
 {
-    to_each(to, |chunk| {
-        let header = Header {
-            host,
-            chunk,
-            block,
-            timestamp: now,
-        };
-        network_messages::message_of(header, Sort::Request(epoch, closing(okay)))
-    })
+    ask_each(to, host, block, now, epoch, closing(okay))
 }

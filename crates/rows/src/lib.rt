@@ -21,6 +21,7 @@ pub fn used_from<T: Copy, const N: usize>(
     ensures { result ≡ filled N unused (drop first (take count row)) }
 {
     let end = used(count, &row) as usize;
+    // copy_from_slice: tried; that the whole is `filled` stays open
     let mut out = [unused; N];
     for i in first..end {
         out[i - first] = row[i];

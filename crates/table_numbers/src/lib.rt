@@ -1,4 +1,4 @@
-// The creation numbers and the epoch of a lent table, read and written where they lie.
+// The creation numbers and the epoch of a lent table, read and written where they lie. Who has the table may name the field as well.
 #![tactic(auto)]
 
 ghost use Rattle.std.specs.Prelude.{◌≡◌};

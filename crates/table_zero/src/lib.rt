@@ -1,4 +1,5 @@
 // What zero is for each type: unused places hold it, and a created store begins with it.
+// Each by hand: derived `Default`s were tried, and one of a host leaves its goal open (an array of structs in a struct).
 #![tactic(auto)]
 
 ghost use Rattle.std.specs.Prelude.{◌≡◌};
