@@ -80,8 +80,6 @@ pub fn overdue(c: Chunk, block: u64, w: Waiting, now: u64, age: u64) -> Result<C
         return Err(Refused::NotInState);
     }
     let mut reconcile = c.reconcile;
-    if block < rules::BLOCKS as u64 {
-        reconcile[block as usize] = true;
-    }
+    arrays::put(&mut reconcile, block, true);
     Ok(Chunk { reconcile, ..c })
 }

@@ -2,7 +2,7 @@
 use Rattle.std.specs.Prelude.{Result, Ok, Err}
 use Prim.Native.Nat.{ℕ, ◌<◌, ◌≤◌}
 use mathlib.Core.Path.{◌≡◌, refl, sym, ap, ◌∙◌}
-use mathlib.Core.Bool.{Bool, true, false, cond}
+use mathlib.Core.Bool.{Bool, true, false, cond, true≢false}
 use mathlib.Core.List.{List}
 use native.Mathlib.Omega.{arith}
 use Rattle.std.proofs.lemmas.Bool.Decides.{nat_tests}
@@ -29,13 +29,14 @@ use Rattle.rules.proofs.Formed.{formed}
 use Rattle.chunk_fault.specs.Steps.{failed_to}
 use Rattle.epoch_lent.specs.Steps.{changed, changed_to}
 use Rattle.event_operands.specs.declared.Step.{Step}
-use Rattle.event_operands.specs.Steps.{step_named}
-use Rattle.event_operands.proofs.Laws.{number-named}
-use Rattle.event_parts.specs.Acts.{granting}
+use Rattle.event_operands.specs.Steps.{number_of_step, step_named}
+use Rattle.event_operands.proofs.Laws.{number-named, unknown-outside}
+use Rattle.event_parts.specs.declared.Acted.{Acted}
+use Rattle.event_parts.specs.Acts.{granting, acted}
 use Rattle.event_lent.specs.declared.Here.{Here}
 use Rattle.event_lent.specs.Touches.{removed_at, here_in, parts_in, keeping, storing, left_of, acted_on}
-use Rattle.engine.proofs.Touches.{slot_here, host_here, chunk_here, block_here, parts_of}
-use Rattle.engine.proofs.PartLaws.{acts, host-below, chunk-below, block-below}
+use Rattle.engine.proofs.Touches.{slot_here, host_here, chunk_here, block_here, parts_of, effect_of}
+use Rattle.engine.proofs.PartLaws.{Acts, acts, host-below, chunk-below, block-below}
 
 -- ---- a refusal's number
 
@@ -80,6 +81,14 @@ module _ (t : Table) (e : Event) (ok : well_formed t ≡ true) (inside : ranges 
           let own = refused-own t e ok inside code refl (eqb-false code 0 h) in
           let most : code ≤ 8 = rw (sym (ap (λ (a : Answer). a.code) own)) at (code_0_to_8 t e) in
           ap (refused t) (number-back code (eqb-false code 0 h) most) ∙ own
+
+  -- .. on the parts that it touches: what is granted is stored, and what is refused leaves the table
+  module _ (x : Acts t e) where
+    pub stored_is : (left : Acted) → acted e (parts_of t e) ≡ Ok left → done (effect_of t e left) ≡ step t e
+    stored_is left is = ap (answer_by t) (sym (ap (granting (effect_of t e)) is) ∙ x) ∙ ruled-own
+
+    pub refused_is : (why : Refused) → acted e (parts_of t e) ≡ Err why → refused t (number_of why) ≡ step t e
+    refused_is why is = ap (answer_by t) (sym (ap (granting (effect_of t e)) is) ∙ x) ∙ ruled-own
 
   -- .. and no outcome
   quiet_way : (rows : List Row) → rows ≡ (rule_of t e).refusals → (new : Table) → quietly new ≡ (rule_of t e).effect
@@ -149,13 +158,23 @@ module _ (t : Table) (e : Event) (ok : well_formed t ≡ true) (near : ranges t.
   unfolding parts_in
   parts_are = rw (host-here, chunk-here, record_here, lt-ltb b block_limit block_in) refl
 
-  acted_on_is : (s : Step) → step_named e.kind ≡ Ok s → (s ≡ Step.Fail → ⊥) → (s ≡ Step.EpochChange → ⊥)
+  acted_on_ruled : (s : Step) → step_named e.kind ≡ Ok s → (s ≡ Step.Fail → ⊥) → (s ≡ Step.EpochChange → ⊥)
       → acted_on t e ≡ ruled (rule_of t e).refusals (rule_of t e).effect
   unfolding acted_on storing keeping
-  acted_on_is s named other others =
+  acted_on_ruled s named other others =
       rw (here_is, parts_are) (acts t e ok near s (number-named e.kind s named) other others)
 
   pub act_way : (s : Step) → step_named e.kind ≡ Ok s → (s ≡ Step.Fail → ⊥) → (s ≡ Step.EpochChange → ⊥)
       → (r : Result Outcome Refused) (z : Table) → (r ≡ granting (λ y. y.outcome) (acted_on t e)) × (z ≡ left_of t (acted_on t e)) → Steps t e r z
   act_way s named other others r z done_so =
-      rw (done_so.0, done_so.1) (steps t e (acted_on t e) (ap (answer_by t) (acted_on_is s named other others) ∙ ruled-own t e ok near))
+      rw (done_so.0, done_so.1) (steps t e (acted_on t e) (ap (answer_by t) (acted_on_ruled s named other others) ∙ ruled-own t e ok near))
+
+  -- the event on parts is the rules' step
+  pub acted_on_is : (e.kind ≡ 11 → ⊥) → (e.kind ≡ 15 → ⊥) → answer_by t (acted_on t e) ≡ step t e
+  acted_on_is no_fail no_change = go (step_named e.kind) refl
+    where
+      go : (r : Result Step Refused) → step_named e.kind ≡ r → answer_by t (acted_on t e) ≡ step t e
+      go (Ok s) named =
+          let kind = number-named e.kind s named in
+          ap (answer_by t) (acted_on_ruled s named (λ is. no_fail (kind ∙ ap number_of_step is)) (λ is. no_change (kind ∙ ap number_of_step is))) ∙ ruled-own t e ok near
+      go (Err why) named = absurd (true≢false (sym near ∙ unknown-outside t.creation e why named))

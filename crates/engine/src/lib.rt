@@ -19,7 +19,10 @@ pub fn create(k: Creation) -> Created
     ensures { result ≡ created k }
 {
     match table_creation::create(k) {
-        Ok(table) => Created { table, code: 0 },
+        Ok(table) => Created {
+            table,
+            code: rules::DONE,
+        },
         Err(why) => Created {
             table: table_creation::no_store(),
             code: u64::from(why),

@@ -41,7 +41,7 @@ fn any_all_lost(k: &Creation, chunks: &[Chunk; rules::CHUNKS]) -> bool
 
 // "15 epoch change: no chunk failed (2), then 7, then 6".
 #[tactic(auto, unfolding(rules::specs::Codes::code_of))]
-pub fn check_change(
+pub fn change_code(
     k: Creation,
     epoch: Epoch,
     chunks: [Chunk; rules::CHUNKS],
@@ -51,7 +51,7 @@ pub fn check_change(
     if any_failed(&chunks) {
         return Err(Refused::NotInState);
     }
-    if epoch.0 == rules::GREATEST_CLOCK {
+    if epoch == Epoch(rules::GREATEST_CLOCK) {
         return Err(Refused::LastEpoch);
     }
     if any_all_lost(&k, &chunks) {

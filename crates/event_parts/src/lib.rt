@@ -133,11 +133,11 @@ pub fn act(e: Event, p: Parts) -> Result<Acted, Refused>
             host_attempts::start(e.a, e.b, e.c, p.set, p.host, p.free)?,
         ),
         Step::Deliver => {
-            network_places::check_place(p.slot)?;
+            network_places::place_code(p.slot)?;
             deliver(p)
         }
         Step::Drop => {
-            network_places::check_place(p.slot)?;
+            network_places::place_code(p.slot)?;
             Acted::from(p)
         }
         Step::Finish => by_messages(p, host_attempts::finish(e.a, p.set, p.host, p.free)?),

@@ -11,9 +11,7 @@ use rules::{Attempt, Host, Message, Set, Sort};
 fn without(mut s: Set, chunk: u64) -> Set
     ensures { result ≡ record { chunks = set s.chunks chunk false } }
 {
-    if chunk < rules::CHUNKS as u64 {
-        s.chunks[chunk as usize] = false;
-    }
+    arrays::put(&mut s.chunks, chunk, false);
     s
 }
 

@@ -1,72 +1,13 @@
 // A message: its header, of which sort it is, and the message of a sort with a header.
 #![tactic(auto)]
 
-ghost use Rattle.std.specs.Prelude.{◌≡◌, false};
-ghost use Rattle.rules.specs.Messages.{headed, header_of, sort_of, message_of, asking, is_for_chunk};
+ghost use Rattle.std.specs.Prelude.{◌≡◌};
+ghost use Rattle.rules.specs.Messages.{header_of, sort_of, message_of, asking, is_for_chunk};
 ghost use Rattle.rules.specs.declared.Sort.{Sort};
 
-use rules::{Epoch, Header, Message, Refusal, Request, Sort, Timestamp};
+use rules::{Epoch, Header, Message, Refusal, Request, Sort};
 
-// What a message has in front.
-fn headed(host: u64, chunk: u64, block: u64, timestamp: Timestamp) -> Header
-    ensures { result ≡ headed host chunk block timestamp }
-{
-    Header {
-        host: host,
-        chunk: chunk,
-        block: block,
-        timestamp: timestamp,
-    }
-}
-
-// The header of a reply.
-fn reply_header(m: Message) -> Header
-    requires { is_for_chunk (sort_of m) ≡ false }
-    ensures { result ≡ header_of m }
-{
-    match m {
-        Message::Mismatch {
-            host,
-            chunk,
-            block,
-            timestamp,
-        } => headed(host, chunk, block, timestamp),
-        Message::Error {
-            host,
-            chunk,
-            block,
-            timestamp,
-        } => headed(host, chunk, block, timestamp),
-        Message::OutOfOrder {
-            host,
-            chunk,
-            block,
-            timestamp,
-        } => headed(host, chunk, block, timestamp),
-        Message::Busy {
-            host,
-            chunk,
-            block,
-            timestamp,
-        } => headed(host, chunk, block, timestamp),
-        Message::ReadReply {
-            host,
-            chunk,
-            block,
-            timestamp,
-            ..
-        } => headed(host, chunk, block, timestamp),
-        Message::PrewriteReply {
-            host,
-            chunk,
-            block,
-            timestamp,
-        } => headed(host, chunk, block, timestamp),
-        _ => headed(0, 0, 0, Timestamp(0)), // a request is no reply
-    }
-}
-
-// "Each has host, chunk, block and timestamp".
+// "Each has host, chunk, block and timestamp". (One match of the ten: their fields' lines make it long.)
 pub fn header_of(m: Message) -> Header
     ensures { result ≡ header_of m }
 {
@@ -77,29 +18,70 @@ pub fn header_of(m: Message) -> Header
             block,
             timestamp,
             ..
-        } => headed(host, chunk, block, timestamp),
-        Message::Prewrite {
+        }
+        | Message::Prewrite {
             host,
             chunk,
             block,
             timestamp,
             ..
-        } => headed(host, chunk, block, timestamp),
-        Message::Commit {
+        }
+        | Message::Commit {
             host,
             chunk,
             block,
             timestamp,
             ..
-        } => headed(host, chunk, block, timestamp),
-        Message::Abort {
+        }
+        | Message::Abort {
             host,
             chunk,
             block,
             timestamp,
             ..
-        } => headed(host, chunk, block, timestamp),
-        _ => reply_header(m),
+        }
+        | Message::Mismatch {
+            host,
+            chunk,
+            block,
+            timestamp,
+        }
+        | Message::Error {
+            host,
+            chunk,
+            block,
+            timestamp,
+        }
+        | Message::OutOfOrder {
+            host,
+            chunk,
+            block,
+            timestamp,
+        }
+        | Message::Busy {
+            host,
+            chunk,
+            block,
+            timestamp,
+        }
+        | Message::ReadReply {
+            host,
+            chunk,
+            block,
+            timestamp,
+            ..
+        }
+        | Message::PrewriteReply {
+            host,
+            chunk,
+            block,
+            timestamp,
+        } => Header {
+            host,
+            chunk,
+            block,
+            timestamp,
+        },
     }
 }
 
@@ -125,34 +107,39 @@ pub fn sort_of(m: Message) -> Sort
 fn request_of(header: Header, epoch: Epoch, request: Request) -> Message
     ensures { result ≡ asking header epoch request }
 {
-    let timestamp = header.timestamp;
+    let Header {
+        host,
+        chunk,
+        block,
+        timestamp,
+    } = header;
     match request {
         Request::Read => Message::Read {
-            host: header.host,
-            chunk: header.chunk,
-            block: header.block,
+            host,
+            chunk,
+            block,
             timestamp,
             epoch,
         },
         Request::Prewrite(value) => Message::Prewrite {
-            host: header.host,
-            chunk: header.chunk,
-            block: header.block,
+            host,
+            chunk,
+            block,
             timestamp,
             epoch,
             value,
         },
         Request::Commit => Message::Commit {
-            host: header.host,
-            chunk: header.chunk,
-            block: header.block,
+            host,
+            chunk,
+            block,
             timestamp,
             epoch,
         },
         Request::Abort => Message::Abort {
-            host: header.host,
-            chunk: header.chunk,
-            block: header.block,
+            host,
+            chunk,
+            block,
             timestamp,
             epoch,
         },
@@ -163,30 +150,35 @@ fn request_of(header: Header, epoch: Epoch, request: Request) -> Message
 fn refusal_of(header: Header, why: Refusal) -> Message
     ensures { result ≡ message_of header (Sort.Refusal why) }
 {
-    let timestamp = header.timestamp;
+    let Header {
+        host,
+        chunk,
+        block,
+        timestamp,
+    } = header;
     match why {
         Refusal::Mismatch => Message::Mismatch {
-            host: header.host,
-            chunk: header.chunk,
-            block: header.block,
+            host,
+            chunk,
+            block,
             timestamp,
         },
         Refusal::Error => Message::Error {
-            host: header.host,
-            chunk: header.chunk,
-            block: header.block,
+            host,
+            chunk,
+            block,
             timestamp,
         },
         Refusal::OutOfOrder => Message::OutOfOrder {
-            host: header.host,
-            chunk: header.chunk,
-            block: header.block,
+            host,
+            chunk,
+            block,
             timestamp,
         },
         Refusal::Busy => Message::Busy {
-            host: header.host,
-            chunk: header.chunk,
-            block: header.block,
+            host,
+            chunk,
+            block,
             timestamp,
         },
     }
@@ -196,21 +188,26 @@ fn refusal_of(header: Header, why: Refusal) -> Message
 pub fn message_of(header: Header, sort: Sort) -> Message
     ensures { result ≡ message_of header sort }
 {
-    let timestamp = header.timestamp;
+    let Header {
+        host,
+        chunk,
+        block,
+        timestamp,
+    } = header;
     match sort {
         Sort::Request(epoch, request) => request_of(header, epoch, request),
         Sort::Refusal(why) => refusal_of(header, why),
         Sort::ReadReply(value) => Message::ReadReply {
-            host: header.host,
-            chunk: header.chunk,
-            block: header.block,
+            host,
+            chunk,
+            block,
             timestamp,
             value,
         },
         Sort::PrewriteReply => Message::PrewriteReply {
-            host: header.host,
-            chunk: header.chunk,
-            block: header.block,
+            host,
+            chunk,
+            block,
             timestamp,
         },
     }
@@ -220,11 +217,5 @@ pub fn message_of(header: Header, sort: Sort) -> Message
 pub fn is_for_chunk(m: Message) -> bool
     ensures { result ≡ is_for_chunk (sort_of m) }
 {
-    let sort = sort_of(m);
-    match sort {
-        Sort::Request(_, _) => true,
-        Sort::Refusal(_) => false,
-        Sort::ReadReply(_) => false,
-        Sort::PrewriteReply => false,
-    }
+    matches!(sort_of(m), Sort::Request(..))
 }

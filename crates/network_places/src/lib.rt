@@ -1,4 +1,4 @@
-// The network, of an event: the code of an empty place, and its new messages.
+// The network, of an event: why an empty place is refused, and its new messages.
 #![tactic(auto)]
 
 ghost use Rattle.std.specs.Prelude.{◌≡◌};
@@ -10,7 +10,7 @@ use rules::{Message, Refused};
 
 // "4 deliver (place), 5 drop (place). Empty place: 2".
 #[tactic(auto, unfolding(rules::specs::Codes::code_of))]
-pub fn check_place(s: Option<Message>) -> Result<(), Refused>
+pub fn place_code(s: Option<Message>) -> Result<(), Refused>
     ensures { result ≡ ruled (place_refusals s) tt }
 {
     if s.is_none() {
@@ -19,7 +19,7 @@ pub fn check_place(s: Option<Message>) -> Result<(), Refused>
     Ok(())
 }
 
-// The new messages of an event that sends a reply at most; with an empty slot, none.
+// The new messages of an event that sends a reply at most: the reply comes first, and is the only one.
 pub fn only(s: Option<Message>) -> [Option<Message>; rules::CHUNKS]
     ensures { result ≡ only_reply s }
 {

@@ -1,11 +1,11 @@
 // What a host asks of each chunk of a set: a start opens its operation there, a finish closes it.
 #![tactic(auto)]
 
-ghost use Rattle.std.specs.Prelude.{◌≡◌};
+ghost use Rattle.std.specs.Prelude.{◌≡◌, ◌<◌, ℕ};
 ghost use Rattle.rules.specs.Hosts.{opening, closing};
 ghost use Rattle.rules.specs.Messages.{headed, asking};
+ghost use Rattle.rules.specs.declared.Message.{Message};
 ghost use Rattle.network_places.specs.Sending.{messages_to};
-ghost use Rattle.network_requests.specs.Steps.{request_to, sending};
 
 use rules::{Action, Epoch, Header, Message, Request, Set, Sort, Timestamp};
 
@@ -15,7 +15,7 @@ fn opening(action: Action) -> Request
 {
     match action {
         Action::Read => Request::Read,
-        Action::Write(v) => Request::Prewrite(v),
+        Action::Write(value) => Request::Prewrite(value),
     }
 }
 
@@ -24,42 +24,20 @@ fn closing(okay: bool) -> Request
     ensures { result ≡ closing okay }
 {
     if okay {
-        return Request::Commit;
+        Request::Commit
+    } else {
+        Request::Abort
     }
-    Request::Abort
 }
 
-// The request to one chunk, if it goes there.
-fn ask(goes: bool, header: Header, epoch: Epoch, request: Request) -> Option<Message>
-    ensures { result ≡ sending goes (asking header epoch request) }
+// ".. by ascending chunk": each chunk's stands at its number. (m is what `message` gives of each number.)
+fn to_each<F: Fn(u64) -> Message>(to: Set, message: F) -> [Option<Message>; rules::CHUNKS]
+    requires { F.IsAlwaysCallable message }
+    ensures { (m : (chunk : ℕ) → Message) → ((c : ℕ) (x : Message) → c < 8 → F.post message c x → x ≡ m c) → result ≡ messages_to to m }
 {
-    if goes {
-        let m = network_messages::message_of(header, Sort::Request(epoch, request));
-        return Some(m);
-    }
-    None
-}
-
-// ".. by ascending chunk": each chunk's stands at its number.
-fn ask_each(
-    to: Set,
-    request: Request,
-    host: u64,
-    block: u64,
-    now: Timestamp,
-    epoch: Epoch,
-) -> [Option<Message>; rules::CHUNKS]
-    ensures { result ≡ messages_to to (request_to request host block now epoch) }
-{
-    let mut out = network_places::only(None);
+    let mut out = [None; rules::CHUNKS];
     for c in 0..rules::CHUNKS {
-        let header = Header {
-            host,
-            chunk: c as u64,
-            block,
-            timestamp: now,
-        };
-        out[c] = ask(to.chunks[c], header, epoch, request);
+        out[c] = to.chunks[c].then(|| message(c as u64));
     }
     out
 }
@@ -75,7 +53,15 @@ pub fn open(
 ) -> [Option<Message>; rules::CHUNKS]
     ensures { result ≡ messages_to to (λ chunk. asking (headed host chunk block now) epoch (opening action)) }
 {
-    ask_each(to, opening(action), host, block, now, epoch)
+    to_each(to, |chunk| {
+        let header = Header {
+            host,
+            chunk,
+            block,
+            timestamp: now,
+        };
+        network_messages::message_of(header, Sort::Request(epoch, opening(action)))
+    })
 }
 
 // "Okay write: commit to each chunk of the set .. Not okay: abort to each".
@@ -89,5 +75,13 @@ pub fn close(
 ) -> [Option<Message>; rules::CHUNKS]
     ensures { result ≡ messages_to to (λ chunk. asking (headed host chunk block now) epoch (closing okay)) }
 {
-    ask_each(to, closing(okay), host, block, now, epoch)
+    to_each(to, |chunk| {
+        let header = Header {
+            host,
+            chunk,
+            block,
+            timestamp: now,
+        };
+        network_messages::message_of(header, Sort::Request(epoch, closing(okay)))
+    })
 }

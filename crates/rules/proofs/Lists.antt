@@ -123,15 +123,6 @@ module _ {A : Type 0} (d : A) (n : ℕ) where
       go true here other = here
       go false here other = other
 
-  -- nothing stands under a number beyond all of the table
-  pub under-beyond : (m : ℕ) (l : List (Numbered A)) → every (λ (x : Numbered A). ltb x.number m) l ≡ true → m ≤ n → under d l n ≡ d
-  unfolding every place
-  under-beyond m [] h k = refl
-  under-beyond m (x ∷ xs) h k =
-      let b = both (ltb x.number m) (every (λ (x : Numbered A). ltb x.number m) xs) h in
-      let l = ltb-true x.number m b.0 in
-      rw (ne_eqb x.number n (λ e. omega arith), under, place) (under-beyond m xs b.1 k)
-
   others-first : (X : Type 0) (l : List (Numbered A)) → Others X n l → X
   others-first X [] o = o
   others-first X (x ∷ xs) o = (others-first (X × (n ≡ x.number → ⊥)) xs o).0

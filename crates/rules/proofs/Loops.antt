@@ -1,21 +1,19 @@
 -- Loops: what a loop over an array cites, and how a word of the rules is a loop. Over any element
-use Prim.Native.Nat.compare
-use Prim.Native.Nat.{ℕ, zero, suc, ◌+◌, ◌-◌, ◌≤◌, ◌<◌, ◌*◌, ◌/◌, ◌%◌, min}
+use Prim.Native.Nat.{ℕ, zero, suc, ◌+◌, ◌≤◌, ◌<◌, ◌*◌, ◌/◌, ◌%◌, min}
 use mathlib.Core.Path.{◌≡◌, refl, sym, ap, ◌∙◌}
-use mathlib.Core.Bool.{Bool, true, false, cond, ◌&&◌, ◌||◌, true≢false}
-use mathlib.Core.List.{List, [], ◌∷◌, ◌++◌, append_assoc, append-nil}
+use mathlib.Core.Bool.{Bool, true, false, cond, ◌&&◌, true≢false}
+use mathlib.Core.List.{List, [], ◌∷◌, ◌++◌, append_assoc}
 use native.Mathlib.Nat.{mod-lt, div-lt_iff_lt-mul, suc-mul, div-add-mod'}
 use native.Mathlib.Numerals.{add-one}
 use native.Mathlib.Decide.{dec_le, ℕ_discrete}
 use native.Mathlib.Omega.{arith}
-use lib.ListN.{length, get_or, take, drop, drop_of_length-le, length-take, set, get_or-eq_default, replicate, take-append-drop, length-drop, length-append, length-replicate, get_or-replicate, length-set}
+use lib.ListN.{length, get_or, take, drop, drop_of_length-le, length-take, set, replicate, length-append, length-replicate, get_or-replicate, length-set}
 use lib.Dec.{ltb, eqb}
-use lib.Seq.{drop-cons, take-suc, take-take, take_at, append_snoc, length-take-le, set_at, get_or_at, get_or-take, get_or-drop, get_or-append-add, take-append-le, drop-append-le, set-append_left, take-set-lt, ext_get_or, take_all, get_or-set_same, get_or-set_other}
+use lib.Seq.{drop-cons, take-take, get_or-take, take-append-le, drop-append-le, set-append_left, take-set-lt, ext_get_or, take_all, get_or-set_same, get_or-set_other}
 use lib.Arith.{digits_lt, digits_div, digits_mod}
 use borrow.Author.Tests.{lt-ltb, eq-eqb, ne_eqb, le-ltb}
 use Rattle.rules.specs.Words.{those, each, joined, every, some, place, fold, from, numbers, first, filled}
-use Rattle.rules.specs.Codes.{Row, code_of, ◌gives◌⨾◌, granted}
-use Rattle.rules.proofs.Lists.{every-number, every-numbers, none_number, some_number, both, filled_at, numbers-length, numbers-at, each-length, each_number, grid-at}
+use Rattle.rules.proofs.Lists.{every-number, every-numbers, none_number, both, numbers-length, each-length, each_number, grid-at}
 
 -- ---- a loop over l by its index i: l from i on is the element at i, and l from i + 1 on
 
@@ -34,30 +32,6 @@ module _ {A : Type 0} (p : A → Bool) (d : A) (l : List A) (i : ℕ) where
   pub place_end : length l ≤ i → place p (drop i l) ≡ 0
   unfolding place
   place_end h = rw (drop_of_length-le l h) refl
-
-  pub every-other : i < length l → p (get_or l i d) ≡ true → every p (drop i l) ≡ every p (drop (i + 1) l)
-  unfolding every
-  every-other h e = rw (drop_more d l i h, e) refl
-
-  pub every_here : i < length l → p (get_or l i d) ≡ false → every p (drop i l) ≡ false
-  unfolding every
-  every_here h e = rw (drop_more d l i h, e) refl
-
-  pub every-end : length l ≤ i → every p (drop i l) ≡ true
-  unfolding every
-  every-end h = rw (drop_of_length-le l h) refl
-
-  pub some-other : i < length l → p (get_or l i d) ≡ false → some p (drop i l) ≡ some p (drop (i + 1) l)
-  unfolding some
-  some-other h e = rw (drop_more d l i h, e) refl
-
-  pub some-here : i < length l → p (get_or l i d) ≡ true → some p (drop i l) ≡ true
-  unfolding some
-  some-here h e = rw (drop_more d l i h, e) refl
-
-  pub some_end : length l ≤ i → some p (drop i l) ≡ false
-  unfolding some
-  some_end h = rw (drop_of_length-le l h) refl
 
 module _ {S A : Type 0} (f : S → A → S) (d : A) (l : List A) (i : ℕ) (s : S) where
   pub fold_more : i < length l → fold f s (drop i l) ≡ fold f (f s (get_or l i d)) (drop (i + 1) l)
@@ -90,11 +64,6 @@ unfolding fold
 fold-append f s [] l = refl
 fold-append f s (x ∷ k) l = fold-append f (f s x) k l
 
-pub fold-joined : {S A : Type 0} (f : S → A → S) (s : S) (ls : List (List A)) → fold f s (joined ls) ≡ fold (fold f) s ls
-unfolding fold joined
-fold-joined f s [] = refl
-fold-joined f s (l ∷ ls) = fold-append f s l (joined ls) ∙ fold-joined f (fold f s l) ls
-
 -- equal steps
 pub fold_same : {S A : Type 0} (f g : S → A → S) → ((m : S) (x : A) → f m x ≡ g m x) → (s : S) (l : List A) → fold f s l ≡ fold g s l
 unfolding fold
@@ -105,23 +74,6 @@ pub every-same : {A : Type 0} (p q : A → Bool) → ((x : A) → p x ≡ q x) �
 unfolding every
 every-same p q h [] = refl
 every-same p q h (x ∷ xs) = rw (h x, every-same p q h xs) refl
-
--- some one is p exactly when the place of the first is one of the list
-pub some-place : {A : Type 0} (p : A → Bool) (l : List A) → some p l ≡ ltb (place p l) (length l)
-unfolding some place
-some-place p [] = refl
-some-place p (x ∷ xs) = go (p x) (some-place p xs)
-  where
-    go : (b : Bool) → some p xs ≡ ltb (place p xs) (length xs) → (b || some p xs) ≡ ltb (cond b 0 (suc (place p xs))) (suc (length xs))
-    go true h = sym (lt-ltb 0 (suc (length xs)) (omega arith))
-    go false h = rw compare.suc-suc h
-
--- ---- the first n of an array: how many they are, and which
-pub take_count : {A : Type 0} (n : ℕ) (l : List A) (m : ℕ) → length l ≡ m → n < m → length (take n l) ≡ n
-take_count n l m h k = rw length-take (omega arith)
-
-pub take_whole : {A : Type 0} (n : ℕ) (l : List A) (m : ℕ) → length l ≡ m → m ≤ n → length (take n l) ≡ m
-take_whole n l m h k = rw length-take (omega arith)
 
 -- ---- a loop over the numbers below n that stops at the first that p refuses: its invariant is `every p (numbers i) ≡ true`;
 -- at the first that p takes: `some p (numbers i) ≡ false`
@@ -144,21 +96,6 @@ module _ (p : ℕ → Bool) where
       go : (b : Bool) → every p (numbers n) ≡ b → b ≡ false
       go true e = absurd (true≢false (sym (every-number p n e i l) ∙ h))
       go false e = refl
-
-  pub some_begin : some p (numbers 0) ≡ false
-  unfolding some from
-  some_begin = refl
-
-  pub some_next : (i : ℕ) → some p (numbers i) ≡ false → p i ≡ false → some p (numbers (i + 1)) ≡ false
-  some_next i h k = go (some p (numbers (i + 1))) refl
-    where
-      at : (j : ℕ) → j < i + 1 → Dec (i ≤ j) → p j ≡ false
-      at j l (yes q) = let e : j ≡ i = omega arith in rw e k
-      at j l (no q) = none_number p i h j (omega arith)
-
-      go : (b : Bool) → some p (numbers (i + 1)) ≡ b → b ≡ false
-      go false e = refl
-      go true e = let r = some_number p (i + 1) e in absurd (true≢false (sym r.2 ∙ at r.0 r.1 (dec_le i r.0)))
 
   pub some_stop : (n i : ℕ) → i < n → p i ≡ true → some p (numbers n) ≡ true
   some_stop n i l h = go (some p (numbers n)) refl
@@ -194,14 +131,6 @@ module _ (p : ℕ → ℕ → Bool) (m n : ℕ) (some_columns : 0 < n) where
 
 -- ---- the first that is p, and those that are; a list rewritten element by element
 
--- the first that is p, by a loop that stops at it
-module _ {A : Type 0} (p : A → Bool) (d : A) (l : List A) (i : ℕ) (far : place p l ≡ i + place p (drop i l)) where
-  pub first-here : i < length l → p (get_or l i d) ≡ true → get_or l i d ≡ first d p l
-  first-here h e = let k = place_here p d l i h e in let z : place p l ≡ i = omega arith in rw z refl
-
-  pub first-none : length l ≤ i → d ≡ first d p l
-  first-none h = let k = place_end p d l i h in sym (get_or-eq_default l d {n = place p l} (omega arith))
-
 pub first-those : {A : Type 0} (d : A) (p : A → Bool) (l : List A) → first d p l ≡ get_or (those p l) 0 d
 unfolding place those
 first-those d p [] = refl
@@ -236,55 +165,10 @@ every-both p q (x ∷ xs) = go (p x) (q x) (every p xs) (every-both p q xs)
     go true false false h = refl
     go false b e h = refl
 
--- a loop that puts f of each in its place: its invariant is that the first i are done
-abbrev pub each_to : {A : Type 0} → (A → A) → ℕ → List A → List A
-each_to f i l = each f (take i l) ++ drop i l
-
-module _ {A : Type 0} (f : A → A) (d : A) where
-  pub each_next : (l : List A) (i : ℕ) → i < length l → set (each_to f i l) i (f (get_or l i d)) ≡ each_to f (i + 1) l
-  unfolding each
-  each_next l i h = rw add-one (go l i h)
-    where
-      go : (l : List A) (i : ℕ) → i < length l → set (each_to f i l) i (f (get_or l i d)) ≡ each_to f (suc i) l
-      go [] i h = absurd (omega arith)
-      go (x ∷ xs) zero h = refl
-      go (x ∷ xs) (suc i) h = ap (λ (t : List A). f x ∷ t) (go xs i (omega arith))
-
-  pub each-end : (l : List A) (i : ℕ) → length l ≤ i → each_to f i l ≡ each f l
-  unfolding each
-  each-end [] zero h = refl
-  each-end [] (suc i) h = refl
-  each-end (x ∷ xs) zero h = absurd (omega arith)
-  each-end (x ∷ xs) (suc i) h = ap (λ (t : List A). f x ∷ t) (each-end xs i (omega arith))
-
 -- ---- an array that is rewritten in place from the front: the first i of `new`, then what `old` has from i on
 
 abbrev pub mixed : {A : Type 0} → ℕ → List A → List A → List A
 mixed i new old = take i new ++ drop i old
-
-module _ {A : Type 0} (d : A) (new old : List A) (i : ℕ) where
-  -- not yet rewritten from i on
-  pub mixed-at : i ≤ length new → (j : ℕ) → i ≤ j → get_or (mixed i new old) j d ≡ get_or old j d
-  mixed-at h j k =
-      let m : length (take i new) ≡ i = length-take-le i new h in
-      let x : j ≡ length (take i new) + (j - i) = omega arith in
-      let y : i + (j - i) ≡ j = omega arith in
-      ap (λ (n : ℕ). get_or (mixed i new old) n d) x ∙ get_or-append-add (take i new) (drop i old) (j - i) d
-      ∙ get_or-drop i old (j - i) d ∙ ap (λ (n : ℕ). get_or old n d) y
-
-  -- a store at i takes it one further
-  pub mixed-more : i < length new → i < length old → set (mixed i new old) i (get_or new i d) ≡ mixed (i + 1) new old
-  mixed-more h k =
-      rw (
-        drop-cons old i d k,
-        set_at (take i new) (get_or old i d) (drop (suc i) old) (get_or new i d) i (length-take-le i new (omega arith)),
-        add-one,
-        take-suc new i d h,
-      ) (sym (append_snoc (take i new) (get_or new i d) (drop (suc i) old)))
-
--- nothing of the old is left
-pub mixed-whole : {A : Type 0} (new old : List A) (i : ℕ) → length old ≤ i → mixed i new old ≡ take i new
-mixed-whole new old i h = rw (drop_of_length-le old h) (append-nil (take i new))
 
 pub place-le : {A : Type 0} (p : A → Bool) (l : List A) → place p l ≤ length l
 unfolding place
@@ -295,12 +179,6 @@ place-le p (x ∷ xs) = go (p x) (place-le p xs)
     go true h = omega arith
     go false h = omega arith
 
--- the first n of an array, and what stands after as many
-pub take_rest : {A : Type 0} (n : ℕ) (l : List A) → take n l ++ drop (length (take n l)) l ≡ l
-take_rest zero l = refl
-take_rest (suc n) [] = refl
-take_rest (suc n) (x ∷ xs) = ap (λ (t : List _). x ∷ t) (take_rest n xs)
-
 pub taken_at : {A : Type 0} (d : A) (n : ℕ) (l : List A) (i : ℕ) → i < length (take n l) → get_or (take n l) i d ≡ get_or l i d
 taken_at d n l i h = get_or-take n l i d (omega (arith, length-take n l))
 
@@ -308,24 +186,6 @@ taken_at d n l i h = get_or-take n l i d (omega (arith, length-take n l))
 
 abbrev pub opened : {A : Type 0} → ℕ → A → List A → List A
 opened p e l = take p l ++ e ∷ drop p l
-
-module _ {A : Type 0} (d e : A) (l : List A) (p : ℕ) (ple : p ≤ length l) where
-  pub opened-here : get_or (opened p e l) p d ≡ e
-  opened-here = get_or_at (take p l) e (drop p l) d p (length-take-le p l ple)
-
-  -- rewriting l to it starts at p: before p they agree
-  pub opened_start : l ≡ mixed p (opened p e l) l
-  opened_start = rw (take_at (take p l) (e ∷ drop p l) p (length-take-le p l ple)) (sym (take-append-drop p l))
-
-  pub opened-length : length (opened p e l) ≡ length l + 1
-  opened-length = simp (length-append, length-take-le p l ple, length-drop) (omega arith)
-
-  pub opened-later : (i : ℕ) → p ≤ i → get_or (opened p e l) (i + 1) d ≡ get_or l i d
-  opened-later i h =
-      let k : length (take p l) ≡ p = length-take-le p l ple in
-      let x : i + 1 ≡ length (take p l) + suc (i - p) = omega arith in
-      let y : p + (i - p) ≡ i = omega arith in
-      rw (x, get_or-append-add (take p l) (e ∷ drop p l) (suc (i - p)) d) (rw (get_or-drop p l (i - p) d, y) refl)
 
 -- of the first n places, those after n tell nothing
 opened_cut : {A : Type 0} (e : A) (p n : ℕ) (l : List A) → take n (opened p e (take n l)) ≡ take n (opened p e l)
@@ -349,55 +209,7 @@ module _ {A : Type 0} (d : A) (n : ℕ) (l : List A) where
       opened_cut e p n (l ++ replicate n d)
       ∙ rw (take-append-le p l (replicate n d) h, drop-append-le p l (replicate n d) h) (ap (take n) (sym (append_assoc (take p l) (e ∷ drop p l) (replicate n d))))
 
--- what is filled in tells by its elements
-pub filled-same : {A : Type 0} (d : A) (n : ℕ) (k l : List A) → ((i : ℕ) → get_or k i d ≡ get_or l i d) → filled n d k ≡ filled n d l
-filled-same d n k l h =
-    ext_get_or d (filled n d k) (filled n d l) (filled-length d n k ∙ sym (filled-length d n l))
-    (λ i m. let q : i < n = rw (filled-length d n k) at m in filled_at d n k i q ∙ h i ∙ sym (filled_at d n l i q))
-
--- ---- refusals in code, a row of early returns
-
-module _ (situation : Bool) (k : ℕ) (rest : List Row) where
-  pub refused-here : situation ≡ true → k ≡ code_of (situation gives k ⨾ rest)
-  unfolding code_of
-  refused-here h = rw h refl
-
-  pub refused-later : (n : ℕ) → situation ≡ false → n ≡ code_of rest → n ≡ code_of (situation gives k ⨾ rest)
-  unfolding code_of
-  refused-later n h e = rw h e
-
-pub refused_nowhere : 0 ≡ code_of granted
-unfolding code_of
-refused_nowhere = refl
-
--- ---- a loop that counts those that are p, and a loop over the numbers below n
-
-pub numbers_more : (n i : ℕ) → i < n → drop i (numbers n) ≡ i ∷ drop (i + 1) (numbers n)
-numbers_more n i h =
-    let k : i < length (numbers n) = omega (arith, numbers-length n) in
-    rw (numbers-at n i 0 h) at (drop_more 0 (numbers n) i k)
-
-pub numbers-end : (n i : ℕ) → n ≤ i → drop i (numbers n) ≡ []
-numbers-end n i h = let k : length (numbers n) ≤ i = omega (arith, numbers-length n) in drop_of_length-le (numbers n) k
-
-module _ {A : Type 0} (p : A → Bool) (x : A) (k l : List A) where
-  pub count-here : k ≡ x ∷ l → p x ≡ true → length (those p k) ≡ length (those p l) + 1
-  unfolding those
-  count-here h e = rw (h, e) (sym (add-one _))
-
-  pub count-other : k ≡ x ∷ l → p x ≡ false → length (those p k) ≡ length (those p l)
-  unfolding those
-  count-other h e = rw (h, e) refl
-
-pub count-end : {A : Type 0} (p : A → Bool) (l : List A) → l ≡ [] → length (those p l) ≡ 0
-unfolding those
-count-end p l h = rw h refl
-
--- ---- the whole rewritten
-
-module _ {A : Type 0} (new old : List A) (i : ℕ) where
-  pub mixed-end : length new ≤ i → length old ≤ i → mixed i new old ≡ new
-  mixed-end h k = rw (take_all i new h, drop_of_length-le old k) (append-nil new)
+-- ---- one place marked
 
 -- one place marked among n; a place beyond them marks none
 pub marked-only : (n c : ℕ) → set (replicate n false) c true ≡ each (eqb c) (numbers n)
@@ -433,20 +245,6 @@ module _ {A : Type 0} (d x : A) where
   -- a store behind the last one; where there is no place any more, nothing changes
   pub filled_more : (n : ℕ) (l : List A) → set (filled n d l) (length l) x ≡ filled n d (l ++ x ∷ [])
   filled_more n l = set_past l n n (omega arith)
-
-pub filled-whole : {A : Type 0} (d : A) (n : ℕ) (l : List A) → length l ≡ n → filled n d l ≡ l
-filled-whole d n l h = take_at l (replicate n d) n h
-
--- a loop that fills an array with f of each, by its index i
-pub each_more : {A B : Type 0} (f : A → B) (a : A) (d : B) (n : ℕ) (l : List A) (i : ℕ) → i < length l
-    → set (filled n d (each f (take i l))) i (f (get_or l i a)) ≡ filled n d (each f (take (i + 1) l))
-unfolding each
-each_more f a d n l i h =
-    let k : length (each f (take i l)) ≡ i = each-length f (take i l) ∙ length-take-le i l (omega arith) in
-    let more : take (i + 1) l ≡ take i l ++ get_or l i a ∷ [] = rw add-one (take-suc l i a h) in
-    ap (λ (j : ℕ). set (filled n d (each f (take i l))) j (f (get_or l i a))) (sym k)
-    ∙ filled_more d (f (get_or l i a)) n (each f (take i l))
-    ∙ ap (filled n d) (sym (each_append f (take i l) (get_or l i a ∷ [])) ∙ ap (each f) (sym more))
 
 -- the first n of an array of m, where n may be more
 pub take_min : {A : Type 0} (n m : ℕ) (l : List A) → length l ≡ m → take (min n m) l ≡ take n l

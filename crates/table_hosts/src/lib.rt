@@ -1,5 +1,4 @@
 // A host of a lent table, read and written where it lies.
-// An array is named as a slice where it is asked for beyond its end: so its length is known.
 #![tactic(auto)]
 
 ghost use Rattle.std.specs.Prelude.{◌≡◌, get_or};
@@ -12,21 +11,12 @@ use rules::{Host, Table};
 pub fn host_in(t: &Table, i: u64) -> Host
     ensures { result ≡ get_or t.now.hosts i zero_host }
 {
-    let k = i as usize;
-    let hosts: &[Host] = &t.hosts;
-    if k < rules::HOSTS {
-        return hosts[k];
-    }
-    table_zero::host()
+    arrays::at(&t.hosts, i, table_zero::host())
 }
 
 // Beyond the last host nothing is written.
 pub fn put_host(t: &mut Table, i: u64, x: Host)
     ensures { t.new ≡ with_host t.old i x }
 {
-    let at = i as usize;
-    let hosts: &mut [Host] = &mut t.hosts;
-    if at < rules::HOSTS {
-        hosts[at] = x;
-    }
+    arrays::put(&mut t.hosts, i, x);
 }

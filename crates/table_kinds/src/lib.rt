@@ -1,4 +1,4 @@
-// What an entry, a chunk's state or an operation is: an enum looked at case by case.
+// What an entry, a chunk's state or an operation is.
 #![tactic(auto)]
 
 ghost use Rattle.std.specs.Prelude.{◌≡◌};
@@ -10,23 +10,13 @@ use rules::{Action, Kind, State};
 pub fn is_read(k: Kind) -> bool
     ensures { result ≡ is_read k }
 {
-    match k {
-        Kind::Read => true,
-        Kind::Undecided(_) => false,
-        Kind::Committed(_) => false,
-        Kind::Aborted(_) => false,
-    }
+    k == Kind::Read
 }
 
 pub fn is_aborted(k: Kind) -> bool
     ensures { result ≡ is_aborted k }
 {
-    match k {
-        Kind::Read => false,
-        Kind::Undecided(_) => false,
-        Kind::Committed(_) => false,
-        Kind::Aborted(_) => true,
-    }
+    matches!(k, Kind::Aborted(_))
 }
 
 // A write has its value.
@@ -35,9 +25,7 @@ pub fn value_of(k: Kind) -> u64
 {
     match k {
         Kind::Read => 0,
-        Kind::Undecided(v) => v,
-        Kind::Committed(v) => v,
-        Kind::Aborted(v) => v,
+        Kind::Undecided(v) | Kind::Committed(v) | Kind::Aborted(v) => v,
     }
 }
 
@@ -45,19 +33,12 @@ pub fn value_of(k: Kind) -> u64
 pub fn is_normal(state: State) -> bool
     ensures { result ≡ is_normal state }
 {
-    match state {
-        State::Normal => true,
-        State::Nolease => false,
-        State::Failed => false,
-    }
+    state == State::Normal
 }
 
 // An operation is a read or a write.
 pub fn is_reading(a: Action) -> bool
     ensures { result ≡ is_reading a }
 {
-    match a {
-        Action::Read => true,
-        Action::Write(_) => false,
-    }
+    a == Action::Read
 }

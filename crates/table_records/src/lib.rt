@@ -1,5 +1,4 @@
 // A chunk's record of a block of a lent table, read and written where it lies.
-// An array is named as a slice where it is asked for beyond its end: so its length is known.
 #![tactic(auto)]
 
 ghost use Rattle.std.specs.Prelude.{◌≡◌, get_or, set};
@@ -13,32 +12,23 @@ use rules::{Record, Table};
 pub fn record_number(chunk: u64, block: u64) -> u64
     ensures { result ≡ record_number chunk block }
 {
-    let blocks = rules::BLOCKS as u64;
-    if (chunk < rules::CHUNKS as u64) & (block < blocks) {
-        return chunk * blocks + block;
+    if chunk < rules::CHUNKS as u64 && block < rules::BLOCKS as u64 {
+        chunk * rules::BLOCKS as u64 + block
+    } else {
+        rules::RECORDS as u64
     }
-    rules::RECORDS as u64
 }
 
 // Beyond the last record there is none: zero.
 pub fn record_in(t: &Table, i: u64) -> Record
     ensures { result ≡ get_or t.now.records i zero_record }
 {
-    let k = i as usize;
-    let records: &[Record] = &t.records;
-    if k < rules::RECORDS {
-        return records[k];
-    }
-    table_zero::record()
+    arrays::at(&t.records, i, table_zero::record())
 }
 
 // Beyond the last record nothing is written.
 pub fn put_record(t: &mut Table, i: u64, x: Record)
     ensures { t.new ≡ with_records t.old (set t.old.records i x) }
 {
-    let at = i as usize;
-    let records: &mut [Record] = &mut t.records;
-    if at < rules::RECORDS {
-        records[at] = x;
-    }
+    arrays::put(&mut t.records, i, x);
 }

@@ -1,19 +1,19 @@
 -- Our words (rules/specs/Words) and the library's: what an iterator's chain over an array gives, as the rules say it.
 -- The rules go over the numbers below n, and look under each in an array of n places. That the chain gives the library's word is
 -- `search rules`, or, of `any`, `all` and `position`, `search (rules, chains)` with Rattle.std.proofs.iter.runs.Made.{chains}.
-use Prim.Native.Nat.{ℕ, ◌+◌, zero, suc}
+use Prim.Native.Nat.{ℕ, ◌+◌, suc}
 use mathlib.Core.Path.{◌≡◌, refl, sym, ap, ◌∙◌}
 use mathlib.Core.Bool.{Bool, true, false, cond, beq, ◌&&◌, ◌||◌}
 use mathlib.Core.List.{List, [], ◌∷◌, map}
 use lib.ListN.{length, get_or}
-use Rattle.std.specs.List.{filter, list_all, list_any, count_by, position_or_len, range_with_len, enumerate_from}
-use Rattle.std.proofs.Common.{add-one, one-add, zero-add}
+use Rattle.std.specs.List.{filter, list_all, list_any, count_by, position, position_or_len}
+use Rattle.std.specs.Prelude.{None, Some, unwrap_or, nat_lt}
+use Rattle.std.proofs.Common.{arith, one-add}
 use Rattle.std.proofs.lemmas.List.Recursion.{is_position_or_len, same_from_clauses}
 use Rattle.std.proofs.lemmas.List.Sums.{length-filter}
-use Rattle.std.proofs.lemmas.List.FromFn.{length-enumerate_from, get_or-enumerate_from}
-use Rattle.rules.specs.Words.{those, each, every, some, place, from, numbers}
+use Rattle.rules.specs.Words.{those, each, every, some, place, numbers}
 use Rattle.rules.proofs.Lists.{each-length}
-use Rattle.rules.proofs.Loops.{each_of}
+use Rattle.rules.proofs.Loops.{each_of, place-le}
 
 -- ---- over the list itself
 
@@ -38,6 +38,14 @@ module _ {A : Type 0} (p : A → Bool) where
       at true n = refl
       at false n = sym (one-add n)
 
+  -- `position(..).unwrap_or(n)`
+  pub position_or : (l : List A) (n : ℕ) → length l ≡ n → unwrap_or (position p l) n ≡ place p l
+  position_or l n h = go (nat_lt (position_or_len p l) (length l)) refl ∙ sym (place-position l)
+    where
+      go : (b : Bool) → nat_lt (position_or_len p l) (length l) ≡ b → unwrap_or (cond b (Some (position_or_len p l)) None) n ≡ position_or_len p l
+      go true k = refl
+      go false k = grind (arith, k, h, place-le p l, place-position l)
+
   pub length-those : (l : List A) → length (those p l) ≡ count_by p l
   length-those l = ap length (those-filter l) ∙ length-filter p l
 
@@ -46,11 +54,6 @@ unfolding each
 each-map f = same_from_clauses (each f) (map f) (λ x l. f x ∷ l) refl (λ x xs. refl) (λ x xs. refl)
 
 -- ---- over the numbers
-
-pub from-range : (i n : ℕ) → from i n ≡ range_with_len i n
-unfolding from
-from-range i zero = refl
-from-range i (suc n) = ap (λ (t : List ℕ). i ∷ t) (from-range (suc i) n ∙ ap (λ (j : ℕ). range_with_len j n) (sym (add-one i)))
 
 -- an array of n places is what it has under each number
 pub listed : {A : Type 0} (d : A) (n : ℕ) (l : List A) → length l ≡ n → l ≡ each (λ i. get_or l i d) (numbers n)
@@ -82,28 +85,10 @@ module _ {A : Type 0} (p : A → Bool) (d : A) (n : ℕ) (l : List A) (h : lengt
   pub some_listed : some (λ i. p (get_or l i d)) (numbers n) ≡ list_any p l
   some_listed = sym (some-each p (λ i. get_or l i d) (numbers n)) ∙ ap (some p) (sym (listed d n l h)) ∙ some-any p l
 
-  pub every_listed : every (λ i. p (get_or l i d)) (numbers n) ≡ list_all p l
-  every_listed = sym (every-each p (λ i. get_or l i d) (numbers n)) ∙ ap (every p) (sym (listed d n l h)) ∙ every-all p l
-
   pub count_listed : length (those (λ i. p (get_or l i d)) (numbers n)) ≡ count_by p l
   count_listed =
       sym (each-length (λ i. get_or l i d) (those (λ i. p (get_or l i d)) (numbers n))) ∙ ap length (sym (those-each p (λ i. get_or l i d) (numbers n)) ∙ ap (those p) (sym (listed d n l h)))
       ∙ length-those p l
-
--- .. each with its number: `iter().enumerate()`
-pub enumerated : {A : Type 0} (d : A) (n : ℕ) (l : List A) → length l ≡ n → enumerate_from 0 l ≡ each (λ i. (i, get_or l i d)) (numbers n)
-enumerated d n l h =
-    each_of (0, d) (λ i. (i, get_or l i d)) n (enumerate_from 0 l) (length-enumerate_from 0 l ∙ h)
-    (λ i k. get_or-enumerate_from 0 l i (0, d) (rw h k) ∙ ap (λ (j : ℕ). (j, get_or l i d)) (zero-add i))
-
-module _ {A : Type 0} (p : ℕ → A → Bool) (d : A) (n : ℕ) (l : List A) (h : length l ≡ n) where
-  pub some_enumerated : some (λ i. p i (get_or l i d)) (numbers n) ≡ list_any (λ x. p x.0 x.1) (enumerate_from 0 l)
-  some_enumerated =
-      sym (some-each (λ x. p x.0 x.1) (λ i. (i, get_or l i d)) (numbers n)) ∙ ap (some (λ x. p x.0 x.1)) (sym (enumerated d n l h)) ∙ some-any (λ x. p x.0 x.1) (enumerate_from 0 l)
-
-  pub every_enumerated : every (λ i. p i (get_or l i d)) (numbers n) ≡ list_all (λ x. p x.0 x.1) (enumerate_from 0 l)
-  every_enumerated =
-      sym (every-each (λ x. p x.0 x.1) (λ i. (i, get_or l i d)) (numbers n)) ∙ ap (every (λ x. p x.0 x.1)) (sym (enumerated d n l h)) ∙ every-all (λ x. p x.0 x.1) (enumerate_from 0 l)
 
 -- `contains(&true)`
 pub true_listed : (n : ℕ) (l : List Bool) → length l ≡ n → some (λ i. get_or l i false) (numbers n) ≡ list_any (λ b. beq b true) l

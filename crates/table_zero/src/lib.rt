@@ -30,19 +30,18 @@ pub fn creation_of(
     ensures { result ≡ creation_of hosts chunks blocks age sets }
 {
     Creation {
-        hosts: hosts,
-        chunks: chunks,
-        blocks: blocks,
-        age: age,
-        sets: sets,
+        hosts,
+        chunks,
+        blocks,
+        age,
+        sets,
     }
 }
 
 pub fn creation() -> Creation
     ensures { result ≡ zero_creation }
 {
-    let none = set();
-    creation_of(0, 0, 0, 0, [none; rules::BLOCKS])
+    creation_of(0, 0, 0, 0, [set(); rules::BLOCKS])
 }
 
 pub fn entry() -> Entry
@@ -60,22 +59,20 @@ pub fn entry() -> Entry
 pub fn waiting() -> Waiting
     ensures { result ≡ zero_waiting }
 {
-    let e = entry();
     Waiting {
         count: 0, // none waits
-        entries: [e; rules::WAITING],
+        entries: [entry(); rules::WAITING],
     }
 }
 
 pub fn record() -> Record
     ensures { result ≡ zero_record }
 {
-    let w = waiting();
     Record {
         value: 0,
         read: Timestamp(0),
         write: Timestamp(0),
-        waiting: w,
+        waiting: waiting(),
     }
 }
 
@@ -94,10 +91,7 @@ pub fn chunk() -> Chunk
 pub fn operation_of(block: u64, action: Action) -> Operation
     ensures { result ≡ operation_of block action }
 {
-    Operation {
-        block: block,
-        action: action,
-    }
+    Operation { block, action }
 }
 
 pub fn operation() -> Operation
@@ -110,10 +104,9 @@ pub fn operation() -> Operation
 pub fn attempt() -> Attempt
     ensures { result ≡ zero_attempt }
 {
-    let none = set();
     Attempt {
         timestamp: Timestamp(0),
-        outstanding: none,
+        outstanding: set(),
         okay: false,
         restart: false,
         result: 0,
@@ -123,16 +116,13 @@ pub fn attempt() -> Attempt
 pub fn host() -> Host
     ensures { result ≡ zero_host }
 {
-    let o = operation();
-    let q = Queue {
-        count: 0,
-        operations: [o; rules::OPERATIONS],
-    };
-    let a = attempt();
     Host {
         working: false,
-        queue: q,
-        attempt: a,
+        queue: Queue {
+            count: 0,
+            operations: [operation(); rules::OPERATIONS],
+        },
+        attempt: attempt(),
         epoch: Epoch(0),
         mapped: false,
         clock: 0,

@@ -21,9 +21,10 @@ number_at l i = get_or l.numbers i 0
 abbrev pub own_count : (kind : ℕ) → ℕ
 own_count kind = length (own_of (kind_of kind).operands)
 
--- "A bad event line (wrong count, ..)" asks for none; an operand that the kind lacks is 0
-unfoldable pub asked_by : Line → Option Event
-asked_by l =
+-- "A bad event line (wrong count, not a number, ..)" asks for none; an operand that the kind lacks is 0
+unfoldable pub asked_by : Option Line → Option Event
+asked_by None = None
+asked_by (Some l) =
     if eqb l.count (1 + own_count (number_at l 0))
     then Some (record { kind = number_at l 0; a = number_at l 1; b = number_at l 2; c = number_at l 3 })
     else None
@@ -40,8 +41,10 @@ set_with n = record { chunks = each (λ c. eqb (n / 2 ^ c % 2) 1) (numbers chunk
 
 -- "bad first lines" name none: a first one without four numbers, a second one without a number a block or with one that is no sum. A
 -- line's unused places are 0, the sum over no chunk. Whether there is such a store, creation says
-unfoldable pub named_by : (first second : Line) → Option Creation
-named_by first second =
+unfoldable pub named_by : (first second : Option Line) → Option Creation
+named_by None second = None
+named_by (Some first) None = None
+named_by (Some first) (Some second) =
     if eqb first.count 4 && eqb second.count (number_at first 2) && every is_sum second.numbers
     then Some (creation_of (number_at first 0) (number_at first 1) (number_at first 2) (number_at first 3) (each set_with second.numbers))
     else None

@@ -12,21 +12,28 @@ use text_numbers::Line;
 
 // "an event a line, its number and then only its own operands"
 #[tactic(auto, using(crate::proofs::Laws::own_few), unfolding(crate::specs::Meanings::asked_by))]
-pub fn event_of(l: Line) -> Option<Event>
+pub fn event_of(l: Option<Line>) -> Option<Event>
     ensures { result ≡ asked_by l }
 {
-    let [kind, a, b, c, ..] = l.numbers;
-    if l.count != 1 + event_operands::count(kind) {
+    let Line { count, numbers } = l?;
+    let [kind, a, b, c, ..] = numbers;
+    if count != 1 + event_operands::count(kind) {
         return None;
     }
     Some(Event { kind, a, b, c })
 }
 
-// No number names a chunk above 7.
+// No sum names a chunk above 7.
+fn is_sum(n: &u64) -> bool
+    ensures { result ≡ is_sum n.now }
+{
+    *n < 256
+}
+
 fn all_sums(ns: &[u64]) -> bool
     ensures { result ≡ every is_sum ns.now }
 {
-    ns.iter().all(|n| *n < 256)
+    ns.iter().all(is_sum)
 }
 
 // The chunks c whose 2 to the power c is in the sum.
@@ -48,9 +55,10 @@ fn sets_of(ns: [u64; text_numbers::NUMBERS]) -> [Set; rules::BLOCKS]
 
 // "a line of hosts, chunks, blocks, age limit; a line with one number a block"
 #[tactic(auto, unfolding(crate::specs::Meanings::named_by))]
-pub fn creation_of(first: Line, second: Line) -> Option<Creation>
+pub fn creation_of(first: Option<Line>, second: Option<Line>) -> Option<Creation>
     ensures { result ≡ named_by first second }
 {
+    let (first, second) = (first?, second?);
     let [hosts, chunks, blocks, age, ..] = first.numbers;
     let ns = second.numbers;
     if first.count != 4 || second.count != blocks || !all_sums(&ns) {
