@@ -4,7 +4,7 @@
 ghost use Rattle.std.specs.Prelude.{◌≡◌, ltb, if◌then◌else◌};
 ghost use Rattle.rules.specs.Chunks.{with_waiting, arrived, arrives};
 ghost use Rattle.rules.specs.Waiting.{marked};
-ghost use Rattle.chunk_arrival.specs.Answers.{answered};
+ghost use Rattle.chunk_arrival.specs.Replies.{answered};
 
 use rules::{Arrived, Chunk, Entry, Epoch, Header, Kind, Message, Record, Refusal, Sort, State};
 

@@ -8,6 +8,7 @@ use native.Mathlib.Omega.{arith}
 use lib.ListN.{length, get_or, set, length-set}
 use lib.Dec.{eqb, ltb}
 use Rattle.std.specs.Prelude.{Ok, Err}
+use Rattle.std.proofs.lemmas.List.{get_or_default}
 use lib.Seq.{get_or-set_same, get_or-set_other, set_out}
 use borrow.Author.Tests.{lt-ltb, le-ltb, eq-eqb, ne_eqb}
 use Rattle.rules.specs.declared.Record.{Record}
@@ -30,12 +31,6 @@ default_part : {A B : Type 0} (f : A → B) (d e : A) → f d ≡ f e → (l : L
 default_part f d e h [] i = h
 default_part f d e h (x ∷ l) zero = refl
 default_part f d e h (x ∷ l) (suc i) = default_part f d e h l i
-
--- inside, the default is not looked at
-default_none : {A : Type 0} (d e : A) (l : List A) (i : ℕ) → i < length l → get_or l i d ≡ get_or l i e
-default_none d e [] i h = absurd (omega arith)
-default_none d e (x ∷ l) zero h = refl
-default_none d e (x ∷ l) (suc i) h = default_none d e l i (omega arith)
 
 pub block_is : (t z : Table) (chunk b i : ℕ) (held none : Record) → i ≡ record_number chunk b → held ≡ get_or t.records i zero_record → none ≡ emptied held
     → z ≡ with_records t (set t.records i none) → z ≡ with_emptied chunk t b
@@ -73,7 +68,7 @@ module _ (h : Table) (len : length h.records ≡ 128) (chunk : ℕ) where
     here k =
         let j : at chunk i < length now = rw size (omega arith) in
         let e : get_or now (at chunk i) zero_record ≡ old chunk i =
-        default_none zero_record no_record now (at chunk i) j ∙ held chunk i k inside ∙ rw (le-ltb i i (omega arith), and-false (eqb chunk chunk)) refl in
+        get_or_default now (at chunk i) zero_record no_record j ∙ held chunk i k inside ∙ rw (le-ltb i i (omega arith), and-false (eqb chunk chunk)) refl in
         rw e (grid_of chunk_limit block_limit no_record (empty_to (i + 1)) (set now (at chunk i) (emptied (old chunk i))) (length-set now (at chunk i) (emptied (old chunk i)) ∙ size)
         (λ c b l m. go j c b l m (ℕ_discrete c chunk) (ℕ_discrete b i)))
       where

@@ -1,11 +1,9 @@
 // The head of a waiting list at a chunk: it runs, or its block is overdue.
 #![tactic(auto)]
 
-ghost use Rattle.std.specs.Prelude.{◌<◌, ◌^◌, ◌≡◌, pos, ◌-ℤ◌};
-ghost use Rattle.std.specs.Int.Signed.{lt_z};
-ghost use Rattle.rules.specs.declared.Kind.{Kind};
+ghost use Rattle.std.specs.Prelude.{◌≡◌};
 ghost use Rattle.rules.specs.Codes.{ruled};
-ghost use Rattle.rules.specs.Chunks.{run_refusals, runs, ran, is_overdue, overdue_refusals, overdue};
+ghost use Rattle.rules.specs.Chunks.{run_refusals, ran, is_overdue, overdue_refusals, overdue};
 
 use rules::{
     Arrived, Chunk, Header, Kind, Record, Refusal, Refused, Sort, State, Timestamp, Waiting,
@@ -82,6 +80,7 @@ pub fn overdue(c: Chunk, block: u64, w: Waiting, now: u64, age: u64) -> Result<C
         return Err(Refused::NotInState);
     }
     let mut reconcile = c.reconcile;
+    // with get_mut the check knows no more what the set holds
     if block < rules::BLOCKS as u64 {
         reconcile[block as usize] = true;
     }

@@ -8,6 +8,8 @@ use native.Mathlib.Omega.{arith}
 use lib.ListN.{length, get_or, set, take, drop, length-set, drop_of_length-le}
 use lib.Seq.{set_out, take_all, take_at}
 use Rattle.std.specs.List.{copy_within, prefix_len}
+use Rattle.std.proofs.lemmas.List.Edits.{length-insert}
+use Rattle.std.proofs.lemmas.List.Recursion.{is_position_or_len}
 use Rattle.rules.specs.declared.Timestamp.{Timestamp}
 use Rattle.rules.specs.declared.Entry.{Entry}
 use Rattle.rules.specs.declared.Waiting.{Waiting}
@@ -17,7 +19,7 @@ use Rattle.rules.specs.Waiting.{in_order, holding, insert, inserted, first_with,
 use Rattle.rules.specs.Words.{place, filled}
 use Rattle.rules.specs.Zero.{zero_entry}
 use Rattle.rules.proofs.Lists.{filled-take, filled_at}
-use Rattle.rules.proofs.Loops.{place_other, place_here, place-le, taken_at, opened, opened-length, filled-length, filled-set, filled-opened}
+use Rattle.rules.proofs.Loops.{place_other, place_here, place-le, taken_at, opened, filled-length, filled-set, filled-opened}
 use Rattle.rules.proofs.Order.{behind, insert-place}
 
 -- an array of eight with l in its first places
@@ -62,13 +64,9 @@ module _ (t : Waiting) (l : List Entry) (tidy : t ≡ holding l) where
 -- the first that is p stands behind those that are not
 prefix-place : {A : Type 0} (p : A → Bool) (l : List A) → prefix_len (λ x. not (p x)) l ≡ place p l
 unfolding place
-prefix-place p [] = refl
-prefix-place p (x ∷ xs) = go (p x) (prefix-place p xs)
-  where
-    go : (b : Bool) → prefix_len (λ x. not (p x)) xs ≡ place p xs → cond (not b) (1 + prefix_len (λ x. not (p x)) xs) 0 ≡ cond b 0 (suc (place p xs))
-    go true h = refl
-    go false h = omega arith
+prefix-place p l = sym (is_position_or_len (place p) p refl (λ x xs. ap (cond (p x) 0) (omega arith)) l)
 
+-- what stands from p on is copied one place on, the last one over the end, and e is put at p
 shifted : {A : Type 0} (l : List A) (e : A) (p k : ℕ) → k + suc p ≡ length l → set (take (suc p) l ++ take k (drop p l) ++ []) p e ≡ take (length l) (opened p e l)
 shifted [] e p k h = absurd (omega arith)
 shifted (x ∷ xs) e zero k h = let n : k ≡ length xs = omega arith in rw n (ap (λ (r : List _). e ∷ r) (append-nil (take (length xs) (x ∷ xs))))
@@ -90,7 +88,7 @@ module _ (w t : Waiting) (tidy : t ≡ holding (in_order w)) (room : t.count ≤
         let inside : p ≤ length l = rw stands (place-le (overtakes e) l) in
         let opens : insert e l ≡ opened p e l = rw stands (insert-place e l) in
         holding_of (insert e l) (t.count + 1) (take 8 (opened p e t.entries))
-        (rw (opens, opened-length zero_entry e l p inside, n) refl)
+        (rw (opens, length-insert l p e inside, n) refl)
         (rw (opens, entries_are t l tidy) (filled-opened zero_entry 8 l e p inside))
 
     pub put_in : p < 8 → (x : List Entry) → x ≡ copy_within t.entries p 7 (p + 1) → record { count = t.count + 1; entries = set x p e } ≡ inserted w e
@@ -99,7 +97,7 @@ module _ (w t : Waiting) (tidy : t ≡ holding (in_order w)) (room : t.count ≤
         let len = entries-length t (in_order w) tidy in
         let none : drop (p + 1 + (7 - p)) old ≡ [] = drop_of_length-le old (omega arith) in
         let moved : set x p e ≡ take 8 (opened p e old) = rw (new, none, add-one, ← len) (shifted old e p (7 - p) (omega arith)) in
-        ap (λ (y : List Entry). record { count = t.count + 1; entries = y }) moved ∙ put
+        rw moved put
 
     -- behind the last place there is none
     pub put-beyond : 8 ≤ p → record { count = t.count + 1; entries = t.entries } ≡ inserted w e
@@ -107,7 +105,7 @@ module _ (w t : Waiting) (tidy : t ≡ holding (in_order w)) (room : t.count ≤
         let old = t.entries in
         let len = entries-length t (in_order w) tidy in
         let same : old ≡ take 8 (opened p e old) = rw (take_all p old (omega arith)) (sym (take_at old (e ∷ drop p old) 8 len)) in
-        ap (λ (y : List Entry). record { count = t.count + 1; entries = y }) same ∙ put
+        rw same put
 
   -- the entry at i is decided
   module _ (commit : Bool) (s : Timestamp) (i : ℕ) (found : i ≡ first_with s (in_order w)) where

@@ -21,7 +21,7 @@ fn tidy(w: Waiting) -> Waiting
     }
 }
 
-// "the first entry in waiting order with that timestamp": its index, or the count when absent.
+// "the first entry in waiting order with that timestamp": its index, or the count when absent, by break (docs/RULES.md, forms by place).
 pub fn find(w: Waiting, t: Timestamp) -> u64
     ensures { result ≡ first_with t (in_order w) }
 {
@@ -58,7 +58,7 @@ pub fn head(w: Waiting) -> Entry
     w.entries[0]
 }
 
-// "it waits, after its equals": what stands behind it goes one place on.
+// "it waits, after its equals": what stands behind it goes one place on. Beyond the eighth it is counted and has no place.
 pub fn insert(w: Waiting, e: Entry) -> Waiting
     ensures { result ≡ inserted w e }
 {

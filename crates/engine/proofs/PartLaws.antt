@@ -1,12 +1,12 @@
 -- An event on the parts that it touches: where they stand, and what is stored back, are the rule's
-use Rattle.std.specs.Prelude.{None, Option, Some}
+use Rattle.std.specs.Prelude.{None, Option, Some, Ok, Err}
 use Prim.Native.Nat.{ℕ, zero, suc, ◌<◌}
 use mathlib.Core.Path.{◌≡◌, refl, sym, ap, ◌∙◌, subst}
-use mathlib.Core.Bool.{Bool, true, false, cond, false≢true}
+use mathlib.Core.Bool.{Bool, true, false, cond}
 use mathlib.Core.List.{List}
 use native.Mathlib.Omega.{arith}
-use lib.ListN.{length}
-use lib.Seq.{set-get_or, set_out}
+use lib.Dec.{eqb}
+use lib.Seq.{set-get_or}
 use borrow.Author.Tests.{ltb-true, lt-ltb}
 use Rattle.rules.specs.declared.Set.{Set}
 use Rattle.rules.specs.declared.Creation.{Creation}
@@ -14,45 +14,61 @@ use Rattle.rules.specs.declared.Chunk.{Chunk}
 use Rattle.rules.specs.declared.Host.{Host}
 use Rattle.rules.specs.declared.Header.{Header}
 use Rattle.rules.specs.declared.Message.{Message}
-
 use Rattle.rules.specs.declared.Table.{Table}
 use Rattle.rules.specs.declared.Arrived.{Arrived}
 use Rattle.rules.specs.declared.Event.{Event}
 use Rattle.rules.specs.declared.Operand.{Operand}
 use Rattle.rules.specs.Chunks.{arrives, ran}
-use Rattle.rules.specs.Codes.{Row, code_of, unless_refused}
-use Rattle.rules.specs.Events.{EventKind, quietly, done, refused, with_arrived, chunk_takes, host_takes, takes, finish_rule, kind_of, ranges, rule_of, step}
+use Rattle.rules.specs.Codes.{Row, code_of, refused_by, ruled}
+use Rattle.rules.specs.Events.{quietly, with_arrived, chunk_takes, host_takes, takes, finish_rule, kind_of, ranges, rule_of}
 use Rattle.rules.specs.Formed.{slot_formed, well_formed}
 use Rattle.rules.specs.Hosts.{front, hears}
 use Rattle.rules.specs.Limits.{host_limit, chunk_limit, block_limit, place_limit, greatest_clock, one_to}
 use Rattle.rules.specs.Messages.{header_of, sort_of, is_for_chunk}
 use Rattle.rules.specs.Network.{free_places, removed, sent_to_each, replied}
-use Rattle.rules.specs.Operands.{all_in_range}
 use Rattle.rules.specs.Tables.{is_host, is_chunk, set_of, host_of, chunk_of, at, record_of, slot_of, with_host, with_chunk, with_record, with_places}
 use Rattle.rules.specs.Words.{place}
 use Rattle.rules.specs.Zero.{no_host, no_chunk, no_record}
-use Rattle.rules.proofs.Events.{by_kind, refused-own, granted-own}
 use Rattle.rules.proofs.Formed.{one-to, creation-facts, formed, message_facts, host-place, chunk-place, block-place, front-block, queue_of_lem}
-use Rattle.rules.proofs.Lists.{◌&◌, end, three, walk}
+use Rattle.rules.proofs.Lists.{three, walk}
 use Rattle.network_places.specs.Sending.{only_reply, no_messages, messages_to, sent_all}
 use Rattle.network_places.proofs.Laws.{sent-to-each, sent-reply}
 use Rattle.host_attempts.specs.Moves.{finishes}
 use Rattle.host_attempts.proofs.Laws.{start_ruled}
 use Rattle.event_parts.specs.declared.Acted.{Acted}
-use Rattle.event_operands.specs.Address.{has_a, address_of, place_at}
+use Rattle.event_operands.specs.Address.{operands_of, has_a, address_of, place_at}
 use Rattle.event_operands.proofs.Laws.{of_sort}
-use Rattle.event_parts.specs.Acts.{by_host, by_chunk, to_chunk, to_host, delivered, acted}
-use Rattle.event_lent.specs.Touches.{removed_at}
-use Rattle.engine.proofs.Touches.{slot_here, host_here, chunk_here, block_here, parts_of, stored}
-
--- what is to be shown of an event: what it leaves of the parts is the rule's
-pub record Acts (t : Table) (e : Event) : Type 0 where
-  pub code : (acted e (parts_of t e)).code ≡ code_of (rule_of t e).refusals
-  pub effect : (acted e (parts_of t e)).code ≡ 0
-      → record { table = stored t e (acted e (parts_of t e)); outcome = (acted e (parts_of t e)).outcome } ≡ (rule_of t e).effect
+use Rattle.event_operands.specs.declared.Step.{Step}
+use Rattle.event_operands.specs.Steps.{number_of_step}
+use Rattle.event_parts.specs.declared.Parts.{Parts}
+use Rattle.event_parts.specs.Acts.{granting, by_host, by_messages, by_chunk, by_arrived, delivered, acted}
+use Rattle.event_lent.specs.Touches.{removed_at, without}
+use Rattle.engine.proofs.Touches.{slot_here, host_here, chunk_here, block_here, parts_of, effect_of}
 
 abbrev event : (n a b c : ℕ) → Event
 event n a b c = record { kind = n; a = a; b = b; c = c }
+
+-- ---- what is granted
+
+granted_by : {A B : Type 0} (f : A → B) (rows : List Row) (x : A) → granting f (ruled rows x) ≡ ruled rows (f x)
+granted_by {A = A} {B = B} f rows x = go (eqb (code_of rows) 0)
+  where
+    go : (g : Bool) → granting f (cond g (Ok x) (Err (refused_by (code_of rows)))) ≡ cond g (Ok (f x)) (Err (refused_by (code_of rows)))
+    go true = refl
+    go false = refl
+
+-- what is to be shown of an event: what it leaves of the parts, stored back, is what its rule grants
+abbrev pub Acts : Table → Event → Type 0
+Acts t e = granting (effect_of t e) (acted e (parts_of t e)) ≡ ruled (rule_of t e).refusals (rule_of t e).effect
+
+module _ (t : Table) (e : Event) (rows : List Row) (same : rows ≡ (rule_of t e).refusals) where
+  by-rule : (a : Acted) → acted e (parts_of t e) ≡ ruled rows a → effect_of t e a ≡ (rule_of t e).effect → Acts t e
+  by-rule a acted_is effect_is =
+      ap (granting (effect_of t e)) acted_is ∙ granted_by (effect_of t e) rows a ∙ rw (same, effect_is) refl
+
+  -- .. where it makes its parts by f of what is granted
+  by-grant : {A : Type 0} (f : A → Acted) (x : A) → acted e (parts_of t e) ≡ granting f (ruled rows x) → effect_of t e (f x) ≡ (rule_of t e).effect → Acts t e
+  by-grant f x acted_is effect_is = by-rule (f x) (acted_is ∙ granted_by f rows x) effect_is
 
 -- ---- what is stored back as it was, with `left` in the network before the new messages
 
@@ -81,134 +97,123 @@ module _ (t : Table) (left : List (Option Message)) (h c b : ℕ) where
       ≡ with_arrived (with_places t left) c b x
   chunk-left x = rw (set-get_or t.hosts h no_host) (ap (with_places (with_record (with_chunk t c x.chunk) c b x.held)) (sent-reply left x.reply))
 
-module _ (t : Table) (sized : length t.places ≡ place_limit) where
+module _ (t : Table) where
   abbrev k : Creation
   k = t.creation
 
-  -- beyond the last place nothing is removed
-  none-removed : removed t.places place_limit ≡ t.places
-  none-removed = set_out t.places place_limit _ (omega arith)
-
   -- ---- the events that change one host, or one chunk, and nothing else
 
-  module _ (e : Event) (elsewhere : removed_at e ≡ place_limit) (refusals : List Row) (same : refusals ≡ (rule_of t e).refusals) where
-    untouched : removed t.places (removed_at e) ≡ t.places
-    untouched = rw elsewhere none-removed
-
-    by-host : (new : Host) → host_here t e ≡ e.a
-        → acted e (parts_of t e) ≡ by_host (parts_of t e) (record { code = code_of refusals; host = unless_refused refusals (parts_of t e).host new })
+  module _ (e : Event) (elsewhere : removed_at e ≡ None) (rows : List Row) (same : rows ≡ (rule_of t e).refusals) where
+    by-host : (new : Host) → host_here t e ≡ e.a → acted e (parts_of t e) ≡ granting (by_host (parts_of t e)) (ruled rows new)
         → quietly (with_host t e.a new) ≡ (rule_of t e).effect → Acts t e
-    by-host new here acted_is effect_is = record {
-      code = ap (λ (a : Acted). a.code) acted_is ∙ ap code_of same;
-      effect = λ z.
-          let granted : code_of refusals ≡ 0 = ap (λ (a : Acted). a.code) (sym acted_is) ∙ z in
-          ap (λ (a : Acted). record { table = stored t e a; outcome = a.outcome }) acted_is
-          ∙ ap quietly (host-heard t (removed t.places (removed_at e)) (host_here t e) (chunk_here t e) (block_here t e) _)
-          ∙ rw (untouched, here, granted) effect_is;
-    }
+    by-host new here acted_is effect_is =
+        by-grant t e rows same (by_host (parts_of t e)) new acted_is
+        (ap quietly (host-heard t (without t.places (removed_at e)) (host_here t e) (chunk_here t e) (block_here t e) new) ∙ rw (elsewhere, here) effect_is)
 
-    by-chunk : (new : Chunk) → chunk_here t e ≡ e.a
-        → acted e (parts_of t e) ≡ by_chunk (parts_of t e) (record { code = code_of refusals; chunk = unless_refused refusals (parts_of t e).chunk new })
+    by-chunk : (new : Chunk) → chunk_here t e ≡ e.a → acted e (parts_of t e) ≡ granting (by_chunk (parts_of t e)) (ruled rows new)
         → quietly (with_chunk t e.a new) ≡ (rule_of t e).effect → Acts t e
-    by-chunk new here acted_is effect_is = record {
-      code = ap (λ (a : Acted). a.code) acted_is ∙ ap code_of same;
-      effect = λ z.
-          let granted : code_of refusals ≡ 0 = ap (λ (a : Acted). a.code) (sym acted_is) ∙ z in
-          ap (λ (a : Acted). record { table = stored t e a; outcome = a.outcome }) acted_is
-          ∙ ap quietly (chunk_alone t (removed t.places (removed_at e)) (host_here t e) (chunk_here t e) (block_here t e) _)
-          ∙ rw (untouched, here, granted) effect_is;
-    }
+    by-chunk new here acted_is effect_is =
+        by-grant t e rows same (by_chunk (parts_of t e)) new acted_is
+        (ap quietly (chunk_alone t (without t.places (removed_at e)) (host_here t e) (chunk_here t e) (block_here t e) new) ∙ rw (elsewhere, here) effect_is)
 
   -- ---- start, finish and run
 
   -- a host that sends to each chunk of a set
   host-sends : (h c b : ℕ) (new : Host) (to : Set) (m : (chunk : ℕ) → Message)
-      → with_places (with_record (with_chunk (with_host t h new) c (chunk_of t c)) c b (record_of t c b)) (sent_all (removed t.places place_limit) (messages_to to m))
+      → with_places (with_record (with_chunk (with_host t h new) c (chunk_of t c)) c b (record_of t c b)) (sent_all t.places (messages_to to m))
       ≡ with_places (with_host t h new) (sent_to_each t.places to m)
-  host-sends h c b new to m =
-      host_alone t (removed t.places place_limit) h c b new (messages_to to m)
-      ∙ ap (with_places (with_host t h new)) (rw none-removed (sent-to-each t.places to m))
+  host-sends h c b new to m = host_alone t t.places h c b new (messages_to to m) ∙ ap (with_places (with_host t h new)) (sent-to-each t.places to m)
 
   -- the event's numbers are in their ranges, so the start is as the rule says it
   start_acts : (a b c : ℕ) → well_formed t ≡ true → ranges k (event 3 a b c) ≡ true → Acts t (event 3 a b c)
-  unfolding acted ranges rule_of kind_of place
+  unfolding acted ranges rule_of kind_of place operands_of
   start_acts a b c ok r =
       let operands = three (is_host k a) (one_to greatest_clock b) (is_chunk k c) r in
-      let ruled = start_ruled a b c (set_of k (front (host_of t a)).block) (host_of t a) (free_places t.places) (host-place k a operands.0 (formed t ok).creation) (one-to greatest_clock b operands.1).1 in
-      record {
-        code = rw ruled refl;
-        effect = λ z. rw (ruled, rw ruled at z) (ap quietly (host-sends a c (front (host_of t a)).block _ _ _));
-      }
+      let p = parts_of t (event 3 a b c) in
+      by-grant t (event 3 a b c) _ refl (by_messages p) _
+      (ap (granting (by_messages p)) (start_ruled a b c p.«set» p.host p.free (host-place k a operands.0 (formed t ok).creation) (one-to greatest_clock b operands.1).1))
+      (ap quietly (host-sends a c (front (host_of t a)).block _ _ _))
 
   finish_acts : (a b c : ℕ) → Acts t (event 6 a b c)
-  unfolding acted finishes rule_of kind_of place
-  finish_acts a b c = record {
-    code = refl;
-    effect = λ z. rw z (ap (λ (x : Table). record { table = x; outcome = (finish_rule t a b c).effect.outcome }) (host-sends a 0 (front (host_of t a)).block _ _ _));
-  }
+  unfolding acted finishes rule_of kind_of place operands_of
+  finish_acts a b c =
+      by-grant t (event 6 a b c) _ refl (by_messages (parts_of t (event 6 a b c))) _ refl
+      (ap (λ (x : Table). record { table = x; outcome = (finish_rule t a b c).effect.outcome }) (host-sends a 0 (front (host_of t a)).block _ _ _))
 
   run-acts : (a b c : ℕ) → Acts t (event 9 a b c)
-  unfolding acted rule_of kind_of place
-  run-acts a b c = record {
-    code = refl;
-    effect = λ z. rw z (ap quietly (chunk-left t (removed t.places place_limit) 0 a b (ran a b (chunk_of t a) (record_of t a b)) ∙ rw none-removed refl));
-  }
+  unfolding acted rule_of kind_of place operands_of
+  run-acts a b c =
+      by-grant t (event 9 a b c) _ refl (by_arrived (parts_of t (event 9 a b c))) _ refl (ap quietly (chunk-left t t.places 0 a b (ran a b (chunk_of t a) (record_of t a b))))
 
   -- ---- the network
 
-  -- what a message leaves of whom it names, stored back, is what the rule makes of the table
+  -- the parts of whom a message names
+  abbrev parts_to : Option Message → Parts
+  parts_to s = let to = address_of s in record {
+    creation = k;
+    epoch = t.epoch;
+    slot = s;
+    host = host_of t to.host;
+    chunk = chunk_of t to.chunk;
+    «set» = set_of k to.block;
+    held = record_of t to.chunk to.block;
+    free = free_places t.places;
+  }
+
+  -- what it leaves of whom it names, stored back, is what the rule makes of the table
   taken_is : (left : List (Option Message)) (s : Option Message) → let to = address_of s in
-      let d = delivered k.blocks (host_of t to.host) (chunk_of t to.chunk) (record_of t to.chunk to.block) s in
-      with_places (with_record (with_chunk (with_host t to.host d.host) to.chunk d.chunk) to.chunk to.block d.held) (sent_all left (only_reply d.reply))
-      ≡ takes (with_places t left) s
-  taken_is left None = nobody_heard t left 0 0 0
+      let d = delivered (parts_to s) s in
+      record {
+        table = with_places (with_record (with_chunk (with_host t to.host d.host) to.chunk d.chunk) to.chunk to.block d.held) (sent_all left d.messages);
+        outcome = d.outcome;
+      } ≡ quietly (takes (with_places t left) s)
+  taken_is left None = ap quietly (nobody_heard t left 0 0 0)
   taken_is left (Some m) = go (is_for_chunk (sort_of m))
     where
       go : (f : Bool) → let to = header_of m in
-          let d = cond f (to_chunk (host_of t to.host) (arrives k.blocks (chunk_of t to.chunk) (record_of t to.chunk to.block) m))
-          (to_host (hears (host_of t to.host) m) (chunk_of t to.chunk) (record_of t to.chunk to.block)) in
-          with_places (with_record (with_chunk (with_host t to.host d.host) to.chunk d.chunk) to.chunk to.block d.held) (sent_all left (only_reply d.reply))
-          ≡ cond f (chunk_takes (with_places t left) to m) (host_takes (with_places t left) to m)
-      go true = let to = header_of m in chunk-left t left to.host to.chunk to.block (arrives k.blocks (chunk_of t to.chunk) (record_of t to.chunk to.block) m)
-      go false = let to = header_of m in host-heard t left to.host to.chunk to.block (hears (host_of t to.host) m)
+          let p = parts_to (Some m) in
+          let d = cond f (by_arrived p (arrives k.blocks p.chunk p.held m)) (by_host p (hears p.host m)) in
+          record {
+            table = with_places (with_record (with_chunk (with_host t to.host d.host) to.chunk d.chunk) to.chunk to.block d.held) (sent_all left d.messages);
+            outcome = d.outcome;
+          } ≡ quietly (cond f (chunk_takes (with_places t left) to m) (host_takes (with_places t left) to m))
+      go true = let to = header_of m in ap quietly (chunk-left t left to.host to.chunk to.block (arrives k.blocks (chunk_of t to.chunk) (record_of t to.chunk to.block) m))
+      go false = let to = header_of m in ap quietly (host-heard t left to.host to.chunk to.block (hears (host_of t to.host) m))
 
   deliver-acts : (a b c : ℕ) → Acts t (event 4 a b c)
-  unfolding acted rule_of kind_of place
-  deliver-acts a b c = record { code = refl; effect = λ z. ap quietly (taken_is (removed t.places a) (slot_of t.places a)) }
+  unfolding acted rule_of kind_of place operands_of
+  deliver-acts a b c = by-rule t (event 4 a b c) _ refl _ refl (taken_is (removed t.places a) (slot_of t.places a))
 
   drop-acts : (a b c : ℕ) → Acts t (event 5 a b c)
-  unfolding acted rule_of kind_of place
+  unfolding acted rule_of kind_of place operands_of
   drop-acts a b c =
       let to = address_of (slot_of t.places a) in
-      record { code = refl; effect = λ z. ap quietly (nobody_heard t (removed t.places a) to.host to.chunk to.block) }
+      by-rule t (event 5 a b c) _ refl _ refl (ap quietly (nobody_heard t (removed t.places a) to.host to.chunk to.block))
 
 -- ---- every event but failure and epoch change
 
-module _ (t : Table) (e : Event) (sized : length t.places ≡ place_limit) (ok : well_formed t ≡ true) (inside : ranges t.creation e ≡ true) where
+module _ (t : Table) (e : Event) (ok : well_formed t ≡ true) (inside : ranges t.creation e ≡ true) where
   here : (n : ℕ) → (ranges t.creation (event n e.a e.b e.c) ≡ true → Acts t (event n e.a e.b e.c)) → e.kind ≡ n → Acts t e
   here n f h = subst (λ (k : ℕ). Acts t (event k e.a e.b e.c)) (sym h) (f (rw h at inside))
 
-  pub acts : (e.kind ≡ 11 → ⊥) → (e.kind ≡ 15 → ⊥) → Acts t e
-  unfolding acted ranges rule_of kind_of place
-  acts n11 n15 =
-      by_kind (λ (k : EventKind). all_in_range t.creation k.operands e.a e.b e.c ≡ true → Acts t e) e.kind (
-      (λ h _. here 1 (λ _. by-host t sized _ refl _ refl _ refl refl refl) h)
-      & (λ h _. here 2 (λ _. by-host t sized _ refl _ refl _ refl refl refl) h)
-      & (λ h _. here 3 (start_acts t sized _ _ _ ok) h)
-      & (λ h _. here 4 (λ _. deliver-acts t sized _ _ _) h)
-      & (λ h _. here 5 (λ _. drop-acts t sized _ _ _) h)
-      & (λ h _. here 6 (λ _. finish_acts t sized _ _ _) h)
-      & (λ h _. here 7 (λ _. by-host t sized _ refl _ refl _ refl refl refl) h)
-      & (λ h _. here 8 (λ _. by-host t sized _ refl _ refl _ refl refl refl) h)
-      & (λ h _. here 9 (λ _. run-acts t sized _ _ _) h)
-      & (λ h _. here 10 (λ _. by-host t sized _ refl _ refl _ refl refl refl) h)
-      & (λ h _. absurd (n11 h))
-      & (λ h _. here 12 (λ _. by-chunk t sized _ refl _ refl _ refl refl refl) h)
-      & (λ h _. here 13 (λ _. by-chunk t sized _ refl _ refl _ refl refl refl) h)
-      & (λ h _. here 14 (λ _. by-chunk t sized _ refl _ refl _ refl refl refl) h)
-      & (λ h _. absurd (n15 h))
-      & (λ h _. here 16 (λ _. by-chunk t sized _ refl _ refl _ refl refl refl) h)
-      & end) (λ r. absurd (false≢true r)) inside
+  pub acts : (s : Step) → e.kind ≡ number_of_step s → (s ≡ Step.Fail → ⊥) → (s ≡ Step.EpochChange → ⊥) → Acts t e
+  unfolding acted rule_of kind_of place operands_of
+  acts Step.Read h _ _ = here 1 (λ _. by-host t (event 1 e.a e.b e.c) refl _ refl _ refl refl refl) h
+  acts Step.Write h _ _ = here 2 (λ _. by-host t (event 2 e.a e.b e.c) refl _ refl _ refl refl refl) h
+  acts Step.Start h _ _ = here 3 (start_acts t e.a e.b e.c ok) h
+  acts Step.Deliver h _ _ = here 4 (λ _. deliver-acts t e.a e.b e.c) h
+  acts Step.Drop h _ _ = here 5 (λ _. drop-acts t e.a e.b e.c) h
+  acts Step.Finish h _ _ = here 6 (λ _. finish_acts t e.a e.b e.c) h
+  acts Step.Timeout h _ _ = here 7 (λ _. by-host t (event 7 e.a e.b e.c) refl _ refl _ refl refl refl) h
+  acts Step.Refresh h _ _ = here 8 (λ _. by-host t (event 8 e.a e.b e.c) refl _ refl _ refl refl refl) h
+  acts Step.Run h _ _ = here 9 (λ _. run-acts t e.a e.b e.c) h
+  acts Step.Stop h _ _ = here 10 (λ _. by-host t (event 10 e.a e.b e.c) refl _ refl _ refl refl refl) h
+  acts Step.Fail _ other _ = absurd (other refl)
+  acts Step.Recover h _ _ = here 12 (λ _. by-chunk t (event 12 e.a e.b e.c) refl _ refl _ refl refl refl) h
+  acts Step.TakeLease h _ _ = here 13 (λ _. by-chunk t (event 13 e.a e.b e.c) refl _ refl _ refl refl refl) h
+  acts Step.GiveLease h _ _ = here 14 (λ _. by-chunk t (event 14 e.a e.b e.c) refl _ refl _ refl refl refl) h
+  acts Step.EpochChange _ _ other = absurd (other refl)
+  acts Step.Overdue h _ _ = here 16 (λ _. by-chunk t (event 16 e.a e.b e.c) refl _ refl _ refl refl refl) h
 
 -- ---- where the parts of an event stand: in the arrays
 
@@ -265,14 +270,3 @@ module _ (t : Table) (e : Event) (ok : well_formed t ≡ true) (inside : ranges 
       (λ _. walk (λ (n : ℕ). n < block_limit) (has_a e Operand.Block) _ _
       (λ _. of_sort (λ n. n < block_limit) creation e Operand.Block inside (omega arith) (λ n h. block-place creation n h (formed t ok).creation))
       (λ _. front_below (host_here t e) host_ours))
-
-  -- what is stored back is the rules' step, where the event acts as its rule says
-  module _ (x : Acts t e) where
-    abbrev left : Acted
-    left = acted e (parts_of t e)
-
-    pub refused_is : (left.code ≡ 0 → ⊥) → refused t left.code ≡ step t e
-    refused_is = refused-own t e ok inside left.code x.code
-
-    pub stored_is : left.code ≡ 0 → done (record { table = stored t e left; outcome = left.outcome }) ≡ step t e
-    stored_is z = ap done (x.effect z) ∙ granted-own t e ok inside (sym x.code ∙ z)

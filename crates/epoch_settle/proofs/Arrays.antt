@@ -1,8 +1,8 @@
--- What std's `find`, `fold` and `map` give, in the words of the rules. (Others: table_sets' Chains.)
+-- What std's `find`, `fold`, `map` and `from_fn` give, in the words of the rules. (Others: table_sets' Chains.)
 use Prim.Native.Nat.{ℕ, zero, suc, ◌+◌, ◌≤◌, ◌<◌}
 use native.Mathlib.Omega.{arith}
 use lib.Seq.{ext_get_or}
-use Rattle.std.specs.Array.{IsMapOf, MapsFrom}
+use Rattle.std.specs.Array.{IsMapOf, MapsFrom, IsFromFnResult, IsFromFnResultFrom}
 use Rattle.std.specs.Fn.{Called, Mut}
 use native.Mathlib.Decide.{dec_le}
 use mathlib.Core.Path.{◌≡◌, refl, subst, sym, ap, ◌∙◌}
@@ -13,7 +13,8 @@ use Rattle.std.specs.List.{find, fold as fold_from}
 use Rattle.std.specs.Option.{MatchOption, unwrap_or, option_map}
 use Rattle.std.specs.Prelude.{Option, Some, None}
 use denote.Ref.{Bor}
-use Rattle.rules.specs.Words.{place, first, fold}
+use Rattle.rules.specs.Words.{each, place, first, fold, numbers}
+use Rattle.rules.proofs.Loops.{each_of}
 
 module _ {A : Type 0} (p : A → Bool) where
   pub first_find : (d : A) (l : List A) → first d p l ≡ unwrap_or (find p l) d
@@ -52,3 +53,18 @@ module _ {F A B : Type 0} (g : Mut F (A × Unit {0}) B) (h : A → B) where
   mapped d f xs ys n m l call =
       ext_get_or (h d) ys (map h xs) (m.long ∙ sym (length-map xs h ∙ l))
       (λ k b. let c : k < n = rw m.long at b in maps-at f xs ys d (h d) call n 0 m.each k (omega arith) (omega arith) ∙ sym (get_or-map h xs k d))
+
+-- an array's `from_fn`, by a closure that stays as it is and gives h of each number
+module _ {F B : Type 0} (g : Mut F (ℕ × Unit {0}) B) (h : ℕ → B) where
+  calls-at : (f : F) (ys : List B) (e : B) → ((i : ℕ) (y : B) (q : F) → Called g f (i, tt) y q → (q ≡ f) × (y ≡ h i)) → (n i : ℕ) → IsFromFnResultFrom g f ys i n
+      → (k : ℕ) → i ≤ k → k < i + n → get_or ys k e ≡ h k
+  calls-at f ys e call zero i m k a b = absurd (omega arith)
+  calls-at f ys e call (suc n) i (q, y, hy, c, rest) k a b =
+      go (dec_le (i + 1) k) (λ l. calls-at f ys e call n (i + 1) (subst (λ (s : F). IsFromFnResultFrom g s ys (i + 1) n) (call i y q c).0 rest) k l (omega arith))
+    where
+      go : Dec (i + 1 ≤ k) → (i + 1 ≤ k → get_or ys k e ≡ h k) → get_or ys k e ≡ h k
+      go (yes l) later = later l
+      go (no l) later = let z : k ≡ i = omega arith in rw z (hy.1 e ∙ (call i y q c).1)
+
+  pub made_by : (f : F) (ys : List B) (n : ℕ) → IsFromFnResult g f ys n → ((i : ℕ) (y : B) (q : F) → Called g f (i, tt) y q → (q ≡ f) × (y ≡ h i)) → ys ≡ each h (numbers n)
+  made_by f ys n m call = each_of (h 0) h n ys m.long (λ k b. calls-at f ys (h 0) call n 0 m.each k (omega arith) (omega arith))

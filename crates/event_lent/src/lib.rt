@@ -15,13 +15,13 @@ use rules::{Creation, Event, Message, Outcome, Refused, Set, Table};
 // Whom an event is about: its place's slot, the numbers of the host, the chunk, the block and the record, and the place that is
 // emptied, if any.
 #[derive(Clone, Copy)]
-struct Here {
-    slot: Option<Message>,
-    host: u64,
-    chunk: u64,
-    block: u64,
-    record: u64,
-    place: Option<u64>,
+pub struct Here {
+    pub slot: Option<Message>,
+    pub host: u64,
+    pub chunk: u64,
+    pub block: u64,
+    pub record: u64,
+    pub place: Option<u64>,
 }
 
 // ---- where the parts stand

@@ -1,11 +1,13 @@
 -- Steps by their numbers, the operand of a sort, and how many operands a kind has
-use Rattle.std.specs.Prelude.{Result, Ok, Err, Some, find, count_by}
+use Rattle.std.specs.Prelude.{Result, Ok, Err, Some, find, filter, count_by}
 use Rattle.std.specs.List.{list_all}
 use Rattle.std.specs.Option.{option_map_or}
-use Prim.Native.Nat.{ℕ, suc, ◌+◌}
-use mathlib.Core.Path.{◌≡◌, refl, sym}
-use mathlib.Core.Bool.{Bool, true, false, cond, ◌&&◌}
+use Prim.Native.Nat.{ℕ, suc}
+use mathlib.Core.Path.{◌≡◌, refl, sym, ap, ◌∙◌}
+use mathlib.Core.Bool.{Bool, true, false, cond}
 use mathlib.Core.List.{List, [], ◌∷◌}
+use Rattle.std.proofs.Math.Bool.{and_assoc, and-true}
+use Rattle.std.proofs.lemmas.List.Sums.{length-filter}
 use native.Mathlib.Omega.{arith}
 use lib.Dec.{eqb}
 use lib.ListN.{length, get_or}
@@ -16,7 +18,7 @@ use Rattle.rules.specs.declared.Refused.{Refused}
 use Rattle.rules.specs.Events.{EventKind, unknown_kind, kind_of, ranges}
 use Rattle.rules.specs.Operands.{in_range}
 use Rattle.rules.specs.Words.{Numbered, those, each, place, under}
-use Rattle.rules.proofs.Lists.{Others, three, under-other}
+use Rattle.rules.proofs.Lists.{◌&◌, end, Others, three, under-number, under-other}
 use Rattle.event_operands.specs.declared.Step.{Step}
 use Rattle.event_operands.specs.Steps.{number_of_step, steps, step_named}
 use Rattle.event_operands.specs.Address.{◌is_a◌, operands_of, the}
@@ -26,6 +28,18 @@ use Rattle.event_operands.specs.Address.{◌is_a◌, operands_of, the}
 -- no step has another number
 pub no_step : (kind : ℕ) → Others (Unit {0}) kind steps → Err Refused.OutOfRange ≡ step_named kind
 no_step kind o = sym (under-other (Err Refused.OutOfRange) kind (Unit {0}) steps o)
+
+-- a named step has the number
+abbrev numbered : (kind : ℕ) → Result Step Refused → Type 0
+numbered kind (Ok s) = kind ≡ number_of_step s
+numbered kind (Err why) = Unit {0}
+
+pub number-named : (kind : ℕ) (s : Step) → step_named kind ≡ Ok s → kind ≡ number_of_step s
+number-named kind s named =
+    rw named at (under-number (Err Refused.OutOfRange) kind (numbered kind) steps (
+    (λ h. h) & (λ h. h) & (λ h. h) & (λ h. h) & (λ h. h) & (λ h. h) & (λ h. h) & (λ h. h)
+    & (λ h. h) & (λ h. h) & (λ h. h) & (λ h. h) & (λ h. h) & (λ h. h) & (λ h. h) & (λ h. h)
+    & end) tt)
 
 -- what f makes of what stands under a number stands under it in the table that f makes
 pub under-each : {A B : Type 0} (f : A → B) (d : A) (l : List (Numbered A)) (n : ℕ)
@@ -45,12 +59,17 @@ under-each {A = A} {B = B} f d (x ∷ xs) n = go (eqb x.number n) (under-each f 
 
 -- the kind under a number is the named step's
 abbrev pub kind_by : Result Step Refused → EventKind
-kind_by (Ok step) = kind_of (number_of_step step)
+kind_by (Ok s) = kind_of (number_of_step s)
 kind_by (Err why) = unknown_kind
 
 pub kind_named : (kind : ℕ) → kind_by (step_named kind) ≡ kind_of kind
 unfolding each kind_of place
 kind_named kind = under-each kind_by (Err Refused.OutOfRange) steps kind
+
+-- no number is in the range of a kind that names no step
+pub unknown-outside : (k : Creation) (e : Event) (why : Refused) → step_named e.kind ≡ Err why → ranges k e ≡ false
+unfolding ranges
+unknown-outside k e why named = rw (sym (rw named at (kind_named e.kind))) refl
 
 -- ---- the operand of a sort
 
@@ -78,26 +97,15 @@ of_sort P k e sort inside none some =
 
 pub all-in-range : (k : Creation) (e : Event) → list_all (λ (x : Operand × ℕ). in_range k x.0 x.1) (operands_of e) ≡ ranges k e
 unfolding ranges operands_of
-all-in-range k e = let o = (kind_of e.kind).operands in go (in_range k o.0 e.a) (in_range k o.1 e.b) (in_range k o.2 e.c)
-  where
-    go : (a b c : Bool) → (a && (b && (c && true))) ≡ ((a && b) && c)
-    go true true true = refl
-    go true true false = refl
-    go true false c = refl
-    go false b c = refl
+all-in-range k e =
+    let o = (kind_of e.kind).operands in
+    rw and-true (sym (and_assoc (in_range k o.0 e.a) (in_range k o.1 e.b) (in_range k o.2 e.c)))
 
--- .. those that are p are as many as there are
-pub count-those : {A : Type 0} (p : A → Bool) (x y z : A) → count_by p (x ∷ y ∷ z ∷ []) ≡ length (those p (x ∷ y ∷ z ∷ []))
+those_are : {A : Type 0} (p : A → Bool) (l : List A) → filter p l ≡ those p l
 unfolding those
-count-those {A = A} p x y z = go (p x) (p y) (p z)
-  where
-    go : (a b c : Bool) → 0 + cond a 1 0 + cond b 1 0 + cond c 1 0
-        ≡ length (cond a (x ∷ cond b (y ∷ cond c (z ∷ []) []) (cond c (z ∷ []) [])) (cond b (y ∷ cond c (z ∷ []) []) (cond c (z ∷ []) [])))
-    go true true true = refl
-    go true true false = refl
-    go true false true = refl
-    go true false false = refl
-    go false true true = refl
-    go false true false = refl
-    go false false true = refl
-    go false false false = refl
+those_are p [] = refl
+those_are {A = A} p (x ∷ xs) = ap (λ (r : List A). cond (p x) (x ∷ r) r) (those_are p xs)
+
+-- .. those that are p, as the library counts them
+pub count-those : {A : Type 0} (p : A → Bool) (l : List A) → count_by p l ≡ length (those p l)
+count-those p l = sym (ap length (sym (those_are p l)) ∙ length-filter p l)

@@ -119,36 +119,38 @@ fn deliver(p: Parts) -> Acted
 pub fn act(e: Event, p: Parts) -> Result<Acted, Refused>
     ensures { result ≡ acted e p }
 {
-    let (c, h, r) = (p.chunk, p.host, p.held);
     Ok(match Step::try_from(e.kind)? {
         Step::Read => by_host(
             p,
-            host_alone::intake(h, table_zero::operation_of(e.b, Action::Read))?,
+            host_alone::intake(p.host, table_zero::operation_of(e.b, Action::Read))?,
         ),
         Step::Write => by_host(
             p,
-            host_alone::intake(h, table_zero::operation_of(e.b, Action::Write(e.c)))?,
+            host_alone::intake(p.host, table_zero::operation_of(e.b, Action::Write(e.c)))?,
         ),
-        Step::Start => by_messages(p, host_attempts::start(e.a, e.b, e.c, p.set, h, p.free)?),
+        Step::Start => by_messages(
+            p,
+            host_attempts::start(e.a, e.b, e.c, p.set, p.host, p.free)?,
+        ),
         Step::Deliver => {
-            network_places::check_place(p.slot)?;
+            network_places::place_code(p.slot)?;
             deliver(p)
         }
         Step::Drop => {
-            network_places::check_place(p.slot)?;
+            network_places::place_code(p.slot)?;
             Acted::from(p)
         }
-        Step::Finish => by_messages(p, host_attempts::finish(e.a, p.set, h, p.free)?),
-        Step::Timeout => by_host(p, host_alone::time_out(h)?),
-        Step::Refresh => by_host(p, host_alone::refresh(h, p.epoch)?),
-        Step::Run => by_arrived(p, chunk_head::run(e.a, e.b, c, r, p.free)?),
-        Step::Stop => by_host(p, host_alone::stop(h)?),
-        Step::Recover => by_chunk(p, chunk_alone::recover(c)?),
-        Step::TakeLease => by_chunk(p, chunk_alone::take_lease(c)?),
-        Step::GiveLease => by_chunk(p, chunk_alone::give_lease(c)?),
+        Step::Finish => by_messages(p, host_attempts::finish(e.a, p.set, p.host, p.free)?),
+        Step::Timeout => by_host(p, host_alone::time_out(p.host)?),
+        Step::Refresh => by_host(p, host_alone::refresh(p.host, p.epoch)?),
+        Step::Run => by_arrived(p, chunk_head::run(e.a, e.b, p.chunk, p.held, p.free)?),
+        Step::Stop => by_host(p, host_alone::stop(p.host)?),
+        Step::Recover => by_chunk(p, chunk_alone::recover(p.chunk)?),
+        Step::TakeLease => by_chunk(p, chunk_alone::take_lease(p.chunk)?),
+        Step::GiveLease => by_chunk(p, chunk_alone::give_lease(p.chunk)?),
         Step::Overdue => by_chunk(
             p,
-            chunk_head::overdue(c, e.b, r.waiting, e.c, p.creation.age)?,
+            chunk_head::overdue(p.chunk, e.b, p.held.waiting, e.c, p.creation.age)?,
         ),
         Step::Fail | Step::EpochChange => return Err(Refused::OutOfRange),
     })

@@ -2,7 +2,7 @@
 // It writes a line an event.
 #![tactic(auto)]
 
-use rules::{Creation, Event, Outcome, Set};
+use rules::{Creation, Event, Outcome, Reply, Set};
 use std::io;
 
 const EVENTS: usize = 18;
@@ -13,8 +13,7 @@ fn mirrored() -> Creation {
         chunks: [false; rules::CHUNKS],
     };
     let mut both = none;
-    both.chunks[0] = true;
-    both.chunks[1] = true;
+    both.chunks[..2].fill(true);
     let mut sets = [none; rules::BLOCKS];
     sets[0] = both;
     Creation {
@@ -22,17 +21,12 @@ fn mirrored() -> Creation {
         chunks: 2,
         blocks: 1,
         age: 100,
-        sets: sets,
+        sets,
     }
 }
 
 fn event(kind: u64, a: u64, b: u64, c: u64) -> Event {
-    Event {
-        kind: kind,
-        a: a,
-        b: b,
-        c: c,
-    }
+    Event { kind, a, b, c }
 }
 
 fn session() -> [Event; EVENTS] {
@@ -60,31 +54,24 @@ fn session() -> [Event; EVENTS] {
 
 // The code, and what has come of an operation.
 fn say(rt: &impl Print, code: u64, outcome: Outcome) -> io::Result<()> {
-    rt.print(code)?;
     match outcome {
-        Outcome::None => rt.println(""),
-        Outcome::ReadDone { host, block, value } => println!(rt; " read done {value}"),
-        Outcome::WriteDone { host, block } => rt.println(" write done"),
-        Outcome::ReadFailed { host, block } => rt.println(" read failed"),
-        Outcome::WriteFailed { host, block } => rt.println(" write failed"),
+        Outcome::None => println!(rt; "{code}"),
+        Outcome::ReadDone { value, .. } => println!(rt; "{code} read done {value}"),
+        Outcome::WriteDone { .. } => println!(rt; "{code} write done"),
+        Outcome::ReadFailed { .. } => println!(rt; "{code} read failed"),
+        Outcome::WriteFailed { .. } => println!(rt; "{code} write failed"),
     }
 }
 
 fn main(rt: HostRuntime) -> io::Result<()> {
     let made = engine::create(mirrored());
-    if made.code != 0 {
+    if made.code != rules::DONE {
         return Ok(());
     }
     let mut table = made.table;
-    let events = session();
-    let mut i: usize = 0;
-    while i < EVENTS {
-        let answer = engine::step(table, events[i]);
-        let outcome = answer.outcome;
-        say(&rt, answer.code, outcome)?;
-        let next = answer.table;
-        table = next;
-        i = i + 1;
+    for e in session() {
+        let Reply { code, outcome } = engine::step_in(&mut table, e);
+        say(&rt, code, outcome)?;
     }
     Ok(())
 }

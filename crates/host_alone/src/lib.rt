@@ -61,7 +61,7 @@ pub fn stop(h: Host) -> Result<Host, Refused>
     ensures { result ≡ ruled (working_refusals h) (stopped h) }
 {
     if !h.working {
-        return Err(Refused::NotInState);
+        return Err(Refused::NotInState); // no second stop
     }
     Ok(Host {
         working: false,

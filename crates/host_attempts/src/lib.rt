@@ -10,7 +10,7 @@ ghost use Rattle.rules.specs.Zero.{◌among◌};
 ghost use Rattle.host_attempts.specs.Moves.{starts, finishes};
 
 use host_keeper::{Drawn, Keeper};
-use rules::{Action, Attempt, Host, Message, Operation, Outcome, Refused, Set};
+use rules::{Action, Attempt, Host, Message, Operation, Outcome, Refused, Set, Timestamp};
 
 // What a start or a finish makes of its host, its new messages, and the outcome.
 #[derive(Clone, Copy)]
@@ -24,45 +24,21 @@ pub struct Sent {
 fn has_current(h: Host) -> bool
     ensures { result ≡ has_current h }
 {
-    0 < h.attempt.timestamp.0
-}
-
-// ".. room (5)": there are fewer free places than messages.
-fn lacks_room(free: u64, to: Set) -> bool
-    ensures { result ≡ ltb free (how_many to) }
-{
-    free < table_sets::how_many(to)
+    h.attempt.timestamp > Timestamp(0)
 }
 
 // ---- start
-
-// "Needs working, no current operation, one waiting, map current": the host lacks one of these.
-fn unready(h: Host) -> bool
-    ensures { result ≡ (not h.working || has_current h || eqb h.queue.count 0 || not h.mapped) }
-{
-    !h.working | has_current(h) | (h.queue.count == 0) | !h.mapped
-}
 
 // The set of one chunk; empty where the number is no chunk's.
 fn only(chunk: u64) -> Set
     ensures { result ≡ only chunk }
 {
     let mut out = table_zero::set();
-    let i = chunk as usize;
-    if i < rules::CHUNKS {
-        out.chunks[i] = true;
+    // array::from_fn(|c| c as u64 == chunk): tried; the check knows each answer only for some state of the closure
+    if chunk < rules::CHUNKS as u64 {
+        out.chunks[chunk as usize] = true;
     }
     out
-}
-
-// "a read's copy must be in the set"; "a write passes over it".
-fn lacks_copy(action: Action, copy: u64, holders: Set) -> bool
-    ensures { result ≡ (is_reading action && not (copy among holders)) }
-{
-    match action {
-        Action::Read => !table_sets::among(copy, holders),
-        Action::Write(_) => false,
-    }
 }
 
 // "A read sends one read to the copy; a write sends a prewrite to each chunk of the set".
@@ -95,6 +71,7 @@ fn begin(h: Host, d: Drawn, to: Set) -> Host
 
 // "3 start (host, clock from 1, copy)": what it needs (2), the copy (1), the clock (3), which the host's keeper hands out or
 // refuses, and room (5). What the keeper remembers is stored only when the start is granted.
+// (number, holders, h and free go together here and in finish alone; a struct of them would be made for each call and taken apart.)
 #[tactic(auto, unfolding(crate::specs::Moves::starts, rules::specs::Words::each, rules::specs::Words::joined, rules::specs::Codes::code_of))]
 pub fn start(
     number: u64,
@@ -106,11 +83,12 @@ pub fn start(
 ) -> Result<Sent, Refused>
     ensures { result ≡ starts number clock copy holders h free }
 {
-    if unready(h) {
+    if !h.working || has_current(h) || h.queue.count == 0 || !h.mapped {
         return Err(Refused::NotInState);
     }
     let o = host_operations::front(h);
-    if lacks_copy(o.action, copy, holders) {
+    // "a read's copy must be in the set (1; a write passes over it)"
+    if o.action == Action::Read && !table_sets::among(copy, holders) {
         return Err(Refused::OutOfRange);
     }
     let keeper = Keeper {
@@ -119,7 +97,7 @@ pub fn start(
     };
     let drawn = host_keeper::draw_from(keeper, clock)?;
     let to = opening_to(o.action, copy, holders);
-    if lacks_room(free, to) {
+    if free < table_sets::how_many(to) {
         return Err(Refused::NoRoom);
     }
     Ok(Sent {
@@ -206,7 +184,7 @@ pub fn finish(number: u64, holders: Set, h: Host, free: u64) -> Result<Sent, Ref
     }
     let o = host_operations::front(h);
     let to = closing_to(o.action, holders);
-    if lacks_room(free, to) {
+    if free < table_sets::how_many(to) {
         return Err(Refused::NoRoom);
     }
     let a = h.attempt;

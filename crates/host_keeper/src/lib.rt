@@ -36,10 +36,9 @@ pub fn draw(k: &mut Keeper, clock: u64) -> Result<Timestamp, Refused>
 }
 
 // A draw for a caller that holds the keeper by value: it lends its own.
-pub fn draw_from(k: Keeper, clock: u64) -> Result<Drawn, Refused>
-    ensures { result ≡ drawn k clock }
+pub fn draw_from(mut keeper: Keeper, clock: u64) -> Result<Drawn, Refused>
+    ensures { result ≡ drawn keeper clock }
 {
-    let mut keeper = k;
     let timestamp = draw(&mut keeper, clock)?;
     Ok(Drawn { keeper, timestamp })
 }

@@ -1,5 +1,5 @@
-// A host's operations: up to 8 in a row, the current one at the front. A count above 8 stands for 8 operations, and what lies in unused
-// places does not survive.
+// A host's operations: up to 8 in a row, the current one at the front. A count above 8 stands for 8 operations, and what lies in
+// unused places does not survive.
 #![tactic(auto, unfolding(rules::specs::Hosts::queue_of))]
 
 ghost use Rattle.std.specs.Prelude.{◌≡◌, [], ◌∷◌, ◌++◌, take, drop};
@@ -23,7 +23,7 @@ pub fn with_last(q: Queue, o: Operation) -> Queue
 {
     let n = rows::used(q.count, &q.operations);
     let mut operations = rows::used_from(0, q.count, q.operations, table_zero::operation());
-    // with get_mut the check knows no more what the places hold
+    // get_mut: tried; of an array the check knows only the length after a write through it
     if n < rules::OPERATIONS as u64 {
         operations[n as usize] = o;
     }

@@ -11,6 +11,7 @@ use rules::{Attempt, Host, Message, Set, Sort};
 fn without(mut s: Set, chunk: u64) -> Set
     ensures { result ≡ record { chunks = set s.chunks chunk false } }
 {
+    // get_mut: tried; of an array the check knows only the length after a write through it
     if chunk < rules::CHUNKS as u64 {
         s.chunks[chunk as usize] = false;
     }

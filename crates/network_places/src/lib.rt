@@ -10,7 +10,7 @@ use rules::{Message, Refused};
 
 // "4 deliver (place), 5 drop (place). Empty place: 2".
 #[tactic(auto, unfolding(rules::specs::Codes::code_of))]
-pub fn check_place(s: Option<Message>) -> Result<(), Refused>
+pub fn place_code(s: Option<Message>) -> Result<(), Refused>
     ensures { result ≡ ruled (place_refusals s) tt }
 {
     if s.is_none() {

@@ -25,7 +25,10 @@ pub const CLOCK_FACTOR: u64 = 8;
 
 pub const GREATEST_TIMESTAMP: u64 = 34359738367;
 
-// Why an event or a creation is refused, with the code that document 01 gives it. (0 is "done".)
+// The code of what is done; a refusal has its own.
+pub const DONE: u64 = 0;
+
+// Why an event or a creation is refused, with the code that document 01 gives it.
 #[derive(Clone, Copy, PartialEq, Eq)]
 pub enum Refused {
     // "number outside its range, unknown kind, unused operand not 0, or a read's chosen copy not in the block's set"
@@ -45,33 +48,6 @@ pub enum Refused {
     // "table not well formed"
     NotFormed = 8,
 }
-
-// Codes, named once: what document 01 says of each.
-pub const DONE: u64 = 0;
-
-// "number outside its range, unknown kind, unused operand not 0, or a read's chosen copy not in the block's set"
-pub const OUT_OF_RANGE: u64 = 1;
-
-// "the party isn't in the state that the step names"
-pub const NOT_IN_STATE: u64 = 2;
-
-// "clock not above the host's last drawn"
-pub const CLOCK_NOT_ABOVE: u64 = 3;
-
-// "host already has 8 operations"
-pub const QUEUE_FULL: u64 = 4;
-
-// "the step's messages exceed the free places"
-pub const NO_ROOM: u64 = 5;
-
-// "for some block every chunk of its set is lost"
-pub const ALL_LOST: u64 = 6;
-
-// "epoch is 4,294,967,295"
-pub const LAST_EPOCH: u64 = 7;
-
-// "table not well formed"
-pub const NOT_FORMED: u64 = 8;
 
 // 0 means "never".
 #[derive(Clone, Copy, PartialEq, Eq, PartialOrd, Ord)]
@@ -397,7 +373,10 @@ impl From<Result<Outcome, Refused>> for Reply {
 
     fn from(answer: Result<Outcome, Refused>) -> Reply {
         match answer {
-            Ok(outcome) => Reply { code: 0, outcome },
+            Ok(outcome) => Reply {
+                code: DONE,
+                outcome,
+            },
             Err(why) => Reply {
                 code: u64::from(why),
                 outcome: Outcome::None,

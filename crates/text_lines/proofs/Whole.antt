@@ -1,25 +1,26 @@
 -- What the definitions say together: nothing of a line is lost on its way, and what is written reads back
 use Prim.Native.Nat.compare
-use Prim.Native.Nat.{ℕ, zero, suc, ◌+◌, ◌/◌, ◌%◌, ◌^◌, ◌≤◌, ◌<◌}
+use Prim.Native.Nat.{ℕ, zero, suc, ◌+◌, ◌*◌, ◌-◌, ◌/◌, ◌%◌, ◌^◌, ◌≤◌, ◌<◌}
 use mathlib.Core.Path.{◌≡◌, refl, sym, ap, ◌∙◌}
 use mathlib.Core.Bool.{Bool, true, false, cond, true≢false}
 use mathlib.Core.List.{List, [], ◌∷◌, ◌++◌, append_assoc, append-nil}
 use native.Mathlib.Nat.{pow-suc}
 use native.Mathlib.Decide.{dec_le}
 use native.Mathlib.Omega.{arith}
-use lib.ListN.{length, take, drop, replicate, length-append, length-take, take-append-drop}
+use lib.ListN.{length, take, drop, length-append, length-drop}
 use lib.Dec.{eqb, leb, ltb}
-use lib.Seq.{take_all, take-take, length-take-le, take-append-le, take-append-add, take-append_seam, drop-append-le}
+use lib.Seq.{take_all, length-take-le, take-append-add, drop-append-le}
 use borrow.Author.Tests.{ltb-true, ltb-false, leb-true, lt-ltb, le-ltb, le-leb, ne_eqb}
+use Rattle.std.specs.Prelude.{Some, None}
+use Rattle.std.specs.Option.{option_map}
 use Rattle.rules.specs.declared.Outcome.{Outcome}
 use Rattle.rules.specs.Codes.{numbers_of}
 use Rattle.rules.specs.Words.{each, every, place, fold}
 use Rattle.rules.proofs.Lists.{both, every_append}
 use Rattle.rules.proofs.Loops.{fold-append}
 use Rattle.text_numbers.specs.Lines.{space, is_digit, words_after, words, value, line_of}
-use Rattle.text_numbers.proofs.Laws.{value-more, line_long}
-use Rattle.text_lines.specs.declared.Text.{Text}
-use Rattle.text_lines.specs.Texts.{digits_in, decimal, spaced, answer_line, text_limit, text_of, followed, bytes_of, is_newline, cut_at}
+use Rattle.text_numbers.proofs.Laws.{line_long}
+use Rattle.text_lines.specs.Texts.{Text, digits_in, decimal, spaced, answer_line, text_limit, text_of, followed, bytes_of, is_newline, cut_at}
 use Rattle.text_lines.proofs.Texts.{text_more}
 
 -- ---- a line that is too long is known by its first 121 bytes
@@ -35,13 +36,7 @@ line_cut l = go (dec_le (length l) text_limit)
 
 text_bytes : (l : List ℕ) → bytes_of (text_of l) ≡ take text_limit l
 unfolding text_of
-text_bytes l =
-    let m : length (take text_limit l) ≤ text_limit = omega (arith, length-take text_limit l) in
-    let k : length (take text_limit l) ≤ length l = omega (arith, length-take text_limit l) in
-    take-take (length (take text_limit l)) text_limit (l ++ replicate text_limit 0) m
-    ∙ take-append-le (length (take text_limit l)) l (replicate text_limit 0) k
-    ∙ ap (take (length (take text_limit l))) (sym (take-append-drop text_limit l))
-    ∙ take-append_seam (take text_limit l) (drop text_limit l)
+text_bytes l = refl
 
 -- so a line that was gathered says what it said, however long it was
 pub line_gathered : (l : List ℕ) → line_of (bytes_of (fold followed (text_of []) l)) ≡ line_of l
@@ -73,16 +68,26 @@ ltb-past k m n = go (dec_le n m)
     go (yes h) = le-ltb m n h ∙ sym (le-ltb (k + m) (k + n) (omega arith))
     go (no h) = lt-ltb m n (omega arith) ∙ sym (lt-ltb (k + m) (k + n) (omega arith))
 
--- a line that goes on in the next block is the line of both blocks put together
-pub cut_across : (k l : List ℕ) (at : ℕ) (t : Text) → at ≤ length k → (cut_at k at t).whole ≡ false
-    → ((cut_at l 0 (cut_at k at t).text).text ≡ (cut_at (k ++ l) at t).text) × ((cut_at l 0 (cut_at k at t).text).whole ≡ (cut_at (k ++ l) at t).whole)
+-- a line that goes on in the next block is the line of both blocks put together, and its newline is the same one
+pub cut_across : (k l : List ℕ) (at : ℕ) (t : Text) → at ≤ length k → (cut_at k at t).next ≡ None
+    → ((cut_at l 0 (cut_at k at t).text).text ≡ (cut_at (k ++ l) at t).text)
+    × (option_map (λ n. length k + n) (cut_at l 0 (cut_at k at t).text).next ≡ (cut_at (k ++ l) at t).next)
 unfolding cut_at
 cut_across k l at t inside more =
     let rest = drop at k in
     let n = place is_newline l in
-    let all : take (place is_newline rest) rest ≡ rest = take_all (place is_newline rest) rest (ltb-false (place is_newline rest) (length rest) more) in
-    rw (drop-append-le at k l inside, place-past rest l more, take-append-add rest l n, length-append rest l, all)
-    (sym (fold-append followed t rest (take n l)), ltb-past (length rest) n (length l))
+    let past : ltb (place is_newline rest) (length rest) ≡ false = go (ltb (place is_newline rest) (length rest)) more in
+    let all : take (place is_newline rest) rest ≡ rest = take_all (place is_newline rest) rest (ltb-false (place is_newline rest) (length rest) past) in
+    rw (drop-append-le at k l inside, place-past rest l past, take-append-add rest l n, length-append rest l, all)
+    (sym (fold-append followed t rest (take n l)), rw (← ltb-past (length rest) n (length l)) (next (ltb n (length l))))
+  where
+    go : (b : Bool) → cond b (Some (at + place is_newline (drop at k) + 1)) None ≡ None → b ≡ false
+    go true e = cc
+    go false e = refl
+
+    next : (b : Bool) → option_map (λ n. length k + n) (cond b (Some (0 + place is_newline l + 1)) None) ≡ cond b (Some (at + (length (drop at k) + place is_newline l) + 1)) None
+    next true = ap Some (omega (arith, length-drop at k))
+    next false = refl
 
 -- ---- an answer's line is never cut off
 
@@ -105,6 +110,10 @@ pub answer-whole : (code : ℕ) (o : Outcome) → bytes_of (text_of (answer_line
 answer-whole code o = text_bytes (answer_line code o) ∙ take_all text_limit (answer_line code o) (answer-length code o)
 
 -- ---- what is written reads back as the same numbers
+
+value-more : (w : List ℕ) (c : ℕ) → value (w ++ c ∷ []) ≡ value w * 10 + (c - 48)
+unfolding value fold
+value-more w c = fold-append (λ n d. n * 10 + (d - 48)) 0 w (c ∷ [])
 
 digits_value : (k n : ℕ) → n < 10 ^ suc k → value (digits_in (suc k) n) ≡ n
 unfolding digits_in value fold

@@ -1,28 +1,17 @@
--- Our words and the library's over an array: `iter().all`, `array::from_fn` and `map` with a closure that computes p or f, and changes
--- nothing
+-- An array by `array::from_fn` or `map`, with a closure that computes h, and changes nothing
 use Prim.Native.Nat.{ℕ, zero, suc, ◌+◌, ◌<◌}
 use mathlib.Core.Path.{◌≡◌, refl, sym, ap, subst, ◌∙◌}
-use mathlib.Core.Bool.{Bool, ◌&&◌}
-use mathlib.Core.List.{List, ◌∷◌, map}
+use mathlib.Core.List.{List}
 use native.Mathlib.Omega.{arith}
 use lib.ListN.{length, get_or}
 use denote.Param.Members.{Mut}
 use Rattle.std.specs.Array.{IsFromFnResultFrom, IsFromFnResult, MapsFrom, IsMapOf}
 use Rattle.std.specs.Fn.{Called}
-use Rattle.std.specs.List.{list_all}
 use Rattle.std.proofs.lemmas.List.{ext_get_or, get_or-map}
-use Rattle.std.proofs.lemmas.List.Recursion.{same_from_clauses}
-use Rattle.rules.specs.Words.{each, every, numbers}
+use Rattle.rules.specs.Words.{each, numbers}
+use Rattle.table_sets.proofs.Chains.{each-map}
 use Rattle.rules.proofs.Lists.{each-length}
 use Rattle.rules.proofs.Loops.{each_of}
-
-pub every-all : {A : Type 0} (p : A → Bool) (l : List A) → every p l ≡ list_all p l
-unfolding every
-every-all p = same_from_clauses (every p) (list_all p) (λ x b. p x && b) refl (λ x xs. refl) (λ x xs. refl)
-
-each-map : {A B : Type 0} (f : A → B) (l : List A) → each f l ≡ map f l
-unfolding each
-each-map f = same_from_clauses (each f) (map f) (λ x l. f x ∷ l) refl (λ x xs. refl) (λ x xs. refl)
 
 module _ {F B : Type 0} (g : Mut F (ℕ × Unit {0}) B) (f : F) (h : ℕ → B) (pure : (i : ℕ) (y : B) (q : F) → Called g f (i, tt) y q → (q ≡ f) × (y ≡ h i)) (ys : List B) where
   from_fn_at : (p : F) → p ≡ f → (i n : ℕ) → IsFromFnResultFrom g p ys i n → (k : ℕ) (d : B) → k < n → get_or ys (i + k) d ≡ h (i + k)

@@ -22,11 +22,17 @@ pub fn event_of(l: Line) -> Option<Event>
     Some(Event { kind, a, b, c })
 }
 
-// No number names a chunk above 7.
+// No sum names a chunk above 7.
+fn is_sum(n: &u64) -> bool
+    ensures { result ≡ is_sum n.now }
+{
+    *n < 256
+}
+
 fn all_sums(ns: &[u64]) -> bool
     ensures { result ≡ every is_sum ns.now }
 {
-    ns.iter().all(|n| *n < 256)
+    ns.iter().all(is_sum)
 }
 
 // The chunks c whose 2 to the power c is in the sum.

@@ -1,22 +1,15 @@
-use Rattle.std.proofs.Common.{◌≡◌, arith, sym, ◌∙◌}
-use Rattle.rules.proofs.Loops.{every_begin, every-next, every_stop}
-use Rattle.epoch_change.proofs.Laws.{lost_or, all_lost_is, not-lost, or_lost}
+use Rattle.std.proofs.Common.{rules, arith, sym, ◌∙◌}
+use mathlib.Core.Bool.{Bool, not, ◌||◌}
+use Rattle.std.proofs.lemmas.Iterator.{YieldsList-from_slice, YieldsList-from_zip}
+use Rattle.std.proofs.lemmas.Iterator.Search.{all_from_yields_List}
+use borrow.Author.Tests.{tests}
+use Rattle.rules.specs.declared.Chunk.{Chunk}
+use Rattle.epoch_change.proofs.Laws.{all_lost_is}
 use Rattle.epoch_change.proofs.all_lost.Goals as goal
-
-pub loop-c-init : goal.loop-c-init
-loop-c-init c = (omega arith, every_begin _)
-
-pub returns-then-member-chunk : goal.returns-then-member-chunk
-returns-then-member-chunk c =
-    let a = c.args in
-    sym (every_stop (lost_or a.set a.chunks) 8 c.loop-c.c (omega arith) (not-lost a.set a.chunks c.loop-c.c c.if-member-chunk.true)) ∙ all_lost_is a.set a.chunks
-
-pub loop-c-preserved : goal.loop-c-preserved
-loop-c-preserved c =
-    let a = c.args in
-    (omega arith, every-next (lost_or a.set a.chunks) c.loop-c.c c.loop-c.invariant.1 (or_lost a.set a.chunks c.loop-c.c c.if-member-chunk.false))
 
 pub returns : goal.returns
 returns c =
-    let e : c.loop-c.c ≡ 8 = omega arith in
-    sym (rw e at c.loop-c.invariant.1) ∙ all_lost_is c.args.set c.args.chunks
+    let a = c.args in
+    all_from_yields_List (λ (p : Bool × Chunk). not p.0 || p.1.lost) c.all.new.self _ _ c.all.ensures.ran
+    (YieldsList-from_zip (YieldsList-from_slice a.set.now.chunks (cc)) (YieldsList-from_slice a.chunks.now (cc))) (λ x b q k. search (rules, tests))
+    ∙ sym (all_lost_is a.set.now a.chunks.now (omega arith) (omega arith))

@@ -1,13 +1,14 @@
-use Rattle.std.proofs.Common.{arith, sym}
-use Rattle.rules.proofs.Loops.{some_begin, some_next, some_stop}
-use Rattle.epoch_change.proofs.Laws.{failed_at}
+use Rattle.std.proofs.Common.{rules, arith, sym, ◌∙◌}
+use Rattle.std.proofs.lemmas.Iterator.{YieldsList-from_slice}
+use Rattle.std.proofs.lemmas.Iterator.Search.{any_from_yields_List}
+use borrow.Author.Tests.{tests}
+use Rattle.rules.specs.declared.Chunk.{Chunk}
+use Rattle.rules.specs.Kinds.{is_failed}
+use Rattle.rules.specs.Zero.{no_chunk}
+use Rattle.table_sets.proofs.Chains.{some_listed}
 use Rattle.epoch_change.proofs.any_failed.Goals as goal
 
-pub loop-c-init : goal.loop-c-init
-loop-c-init c = (omega arith, some_begin _)
-
-pub returns-then-is_failed : goal.returns-then-is_failed
-returns-then-is_failed c = sym (some_stop (failed_at c.args.chunks) 8 c.loop-c.c (omega arith) (sym c.if-is_failed.ensures))
-
-pub loop-c-preserved : goal.loop-c-preserved
-loop-c-preserved c = (omega arith, some_next (failed_at c.args.chunks) c.loop-c.c c.loop-c.invariant.1 (sym c.if-is_failed.ensures))
+pub returns : goal.returns
+returns c =
+    let chunks = c.args.chunks.now in
+    any_from_yields_List (λ (x : Chunk). is_failed x.state) _ _ _ c.any.ensures.ran (YieldsList-from_slice chunks (cc)) (λ x b q k. search (rules, tests)) ∙ sym (some_listed (λ (x : Chunk). is_failed x.state) no_chunk 8 chunks (omega arith))

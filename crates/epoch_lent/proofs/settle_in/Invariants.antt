@@ -1,11 +1,10 @@
--- The blocks before b are settled
-use Rattle.std.proofs.Common.{◌≡◌, ◌≤◌, ◌-◌}
-use Rattle.rules.specs.Tables.{records_by, with_records}
-use Rattle.epoch_change.proofs.Laws.{settled_to}
+-- The blocks before b are settled, and block b in the chunks before c
+use Rattle.std.proofs.Common.{◌≡◌}
+use Rattle.epoch_lent.proofs.Laws.{table_until}
 use Rattle.epoch_lent.proofs.settle_in.Given as goal
 
 abbrev pub invariant-loop-b : goal.invariant-loop-b
-invariant-loop-b l = (l.b ≤ 16) × (l.t ≡ with_records l.fn.t (records_by (settled_to l.fn.t.creation l.fn.t.chunks l.fn.t.records l.b)))
+invariant-loop-b l = l.t ≡ table_until l.fn.t l.b 0
 
-abbrev pub decreases-loop-b : goal.decreases-loop-b
-decreases-loop-b l = 16 - l.b
+abbrev pub invariant-loop-c : goal.invariant-loop-c
+invariant-loop-c l = l.t ≡ table_until l.fn.t l.b l.c

@@ -8,4 +8,4 @@ use Rattle.event_operands.proofs.count.Goals as goal
 pub returns : goal.returns
 returns c =
     let all : c.count.result ≡ count_by is_own c.iter.result.rest.now = search (rules, chains) in
-    all ∙ rw (c.iter.ensures.rest, c.operands_of-a.ensures) (count-those is_own _ _ _)
+    all ∙ rw (c.iter.ensures.rest, c.operands_of-a.ensures) (count-those is_own _)

@@ -3,7 +3,7 @@ use borrow.Author.Tests.{tests}
 use Rattle.std.proofs.lemmas.Iterator.{YieldsList-from_slice}
 use Rattle.std.proofs.lemmas.Iterator.Search.{all_from_yields_List}
 use Rattle.text_meanings.specs.Meanings.{is_sum}
-use Rattle.text_meanings.proofs.Arrays.{every-all}
+use Rattle.table_sets.proofs.Chains.{every-all}
 use Rattle.text_meanings.proofs.all_sums.Goals as goal
 
 pub returns : goal.returns
