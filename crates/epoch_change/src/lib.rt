@@ -41,11 +41,7 @@ fn any_all_lost(k: &Creation, chunks: &[Chunk; rules::CHUNKS]) -> bool
 
 // "15 epoch change: no chunk failed (2), then 7, then 6".
 #[tactic(auto, unfolding(rules::specs::Codes::code_of))]
-pub fn change_code(
-    k: Creation,
-    epoch: Epoch,
-    chunks: [Chunk; rules::CHUNKS],
-) -> Result<(), Refused>
+pub fn change_code(k: Creation, epoch: Epoch, chunks: [Chunk; rules::CHUNKS]) -> Result<(), Refused>
     ensures { result ≡ ruled (epoch_refusals k epoch chunks) tt }
 {
     if any_failed(&chunks) {

@@ -18,7 +18,6 @@ pub use Rattle.rules.specs.declared.Message.{Message}
 pub use Rattle.rules.specs.declared.Request.{Request}
 pub use Rattle.rules.specs.declared.Refusal.{Refusal}
 pub use Rattle.rules.specs.declared.Sort.{Sort}
-
 pub use Rattle.rules.specs.declared.Table.{Table}
 pub use Rattle.rules.specs.declared.Copy.{Copy}
 pub use Rattle.rules.specs.declared.Event.{Event}

@@ -3,9 +3,9 @@
 #![tactic(auto)]
 
 ghost use Rattle.std.specs.Prelude.{◌≡◌, ◌/◌, length};
-ghost use Rattle.replay.specs.Replay.{Steps, creation_of, mixed, mixed_with, replayed, store_of, sum_after, table_bytes};
+ghost use Rattle.replay.specs.Replay.{Steps, mixed, mixed_with, replayed, store_of, sum_after, table_bytes};
 
-use rules::{Answer, Creation, Event, Reply, Table};
+use rules::{Answer, Event, Reply, Table};
 
 // Two to the power 56.
 const TOP: u64 = 1 << 56;
@@ -44,19 +44,12 @@ fn run<F: FnMut(&mut Table, Event) -> Reply>(mut table: Table, events: &[u64], m
     sum
 }
 
-// The creation that a session's first two lines name.
-fn creation_of(first: &[u8], second: &[u8]) -> Option<Creation>
-    ensures { result ≡ creation_of first.now second.now }
-{
-    text_meanings::creation_of(text_numbers::parse(first)?, text_numbers::parse(second)?)
-}
-
-// Its store; a table of zeros where they name none.
+// The store that a session's first two lines name; a table of zeros where they name none.
 #[tactic(auto, unfolding(crate::specs::Replay::store_of))]
 fn store_of(first: &[u8], second: &[u8]) -> Table
     ensures { result ≡ store_of first.now second.now }
 {
-    match creation_of(first, second) {
+    match text_meanings::creation_of(text_numbers::parse(first), text_numbers::parse(second)) {
         Some(k) => engine::create(k).table,
         None => table_creation::no_store(),
     }
