@@ -21,9 +21,13 @@ use Rattle.rules.specs.Tables.{at, records_by, with_records}
 use Rattle.rules.specs.Words.{numbers}
 use Rattle.rules.specs.Zero.{zero_chunk, zero_record, no_chunk, no_record, no_copy}
 use Rattle.rules.proofs.Lists.{numbers-length, each-length, each_number, grid-at}
-use Rattle.rules.proofs.Loops.{each_of, below_next, grid-length, grid_of, grid-same}
+use Rattle.rules.proofs.Loops.{each_of, made, made-next, below_next, grid-length, grid_of, grid-same}
 use Rattle.table_records.specs.Numbers.{record_number}
 use Rattle.epoch_lent.specs.Steps.{copy_at, copies_at}
+
+-- a place made by what a call leaves there
+pub made-at : {A : Type 0} (f g : ℕ → A) (n i : ℕ) (l : List A) (x : A) → i < n → l ≡ made f g n i → x ≡ f i → set l i x ≡ made f g n (i + 1)
+made-at f g n i l x h k e = rw (k, e) (made-next f g n i h)
 
 number-inside : (c b : ℕ) → c < chunk_limit → b < block_limit → record_number c b ≡ at c b
 number-inside c b h k = rw (lt-ltb c chunk_limit h, lt-ltb b block_limit k) refl

@@ -1,28 +1,34 @@
 -- The steps of the code are the rules of settlement
-use Prim.Native.Nat.{ℕ, ◌≤◌, ◌<◌}
+use Prim.Native.Nat.{ℕ, ◌+◌, ◌≤◌, ◌<◌, max}
 use mathlib.Core.Path.{◌≡◌, refl, sym, ap, ◌∙◌}
 use mathlib.Core.Bool.{Bool, true, false, cond, ◌&&◌, ◌||◌, not, and-true, and-false, false≢true}
 use mathlib.Core.Logic.{◌⊎◌, inl, inr, ⊎_elim}
 use mathlib.Core.List.{List, [], ◌∷◌, ◌++◌, map}
+use native.Mathlib.Decide.{dec_le}
 use native.Mathlib.Omega.{arith}
-use lib.ListN.{get_or}
+use lib.ListN.{length, get_or, set, length-map, get_or-map}
 use lib.Dec.{ltb}
-use borrow.Author.Tests.{lt-ltb, le-ltb, ltb-true, eqb-true}
-use Rattle.std.specs.List.{filter}
+use borrow.Author.Tests.{lt-ltb, le-ltb, ltb-true, ltb-false, eqb-true}
+use Rattle.std.specs.Prelude.{reverse}
+use Rattle.std.specs.List.{filter, fold as fold_from}
+use Rattle.std.proofs.lemmas.Grind.{reverse_onto}
+use Rattle.std.proofs.lemmas.List.Sums.{fold-append as from-append}
 use Rattle.rules.specs.declared.Timestamp.{Timestamp}
 use Rattle.rules.specs.declared.Entry.{Entry}
 use Rattle.rules.specs.declared.Record.{Record}
 use Rattle.rules.specs.declared.Copy.{Copy}
+use Rattle.rules.specs.Chunks.{emptied}
 use Rattle.rules.specs.Kinds.{is_write, value_of}
+use Rattle.rules.specs.Limits.{chunk_limit}
 use Rattle.rules.specs.Settlement.{in_set, is_lost, not_lost, last_read, last_write, waiting, write_with, holds, holds_aborted, writes_of, W, beside_w, agreed, committed, writes, commits, latest, written_with, settled_record, settled}
 use Rattle.rules.specs.Timestamps.{never, later, ◌is◌, ◌above◌, greatest}
 use Rattle.rules.specs.Words.{those, each, joined, every, some, none, first, fold}
 use Rattle.rules.specs.Zero.{zero_entry, zero_waiting, no_copy}
-use Rattle.rules.proofs.Lists.{both, walk, true_or_false, or_right, upper-left, upper_right, every-those, none-every}
-use Rattle.rules.proofs.Loops.{fold-append, every-same, every-both, first-those, those-both, those-every}
+use Rattle.rules.proofs.Lists.{both, walk, true_or_false, or_right, upper-left, upper_right, every-those, none-every, each_number}
+use Rattle.rules.proofs.Loops.{fold-append, every-same, every-both, first-those, those-both, those-every, each_of, made, made_begin, made-next, made-end}
 use Rattle.table_sets.proofs.Chains.{some-any, every-all, those-filter, each-map}
 use Rattle.epoch_settle.proofs.Arrays.{fold_is, first_find}
-use Rattle.epoch_settle.specs.Steps.{agrees, all_agree, is_committed, latest_of, value_with, candidates, greatest_write, greatest_read, value_beside, settled_copy}
+use Rattle.epoch_settle.specs.Steps.{agrees, all_agree, is_committed, with_entry, latest_of, value_with, candidates, greatest_write, greatest_read, value_beside, settled_copy}
 
 -- ---- a write timestamp is agreed: every copy agrees
 
@@ -231,8 +237,118 @@ module _ (cs : List Copy) where
       let l_is : l ≡ fold later (W cs) (commits cs) = hl ∙ rw (w_is, lowest-is) (latest-steps (waiting lowest) ∙ lowest-latest) in
       rw (hv, hr, greatest-read, w_is, lowest-is, value-beside) (record_is l l_is)
 
+-- ---- the latest committed of the entries, as the code looks for it: from the last one on, above what it has so far
+
+fold-front : {S A : Type 0} (f : S → A → S) → ((m : S) (x y : A) → f (f m x) y ≡ f (f m y) x) → (s : S) (x : A) (l : List A) → f (fold_from f s l) x ≡ fold_from f s (x ∷ l)
+fold-front f swap s x [] = refl
+fold-front f swap s x (y ∷ l) = fold-front f swap (f s y) x l ∙ ap (λ t. fold_from f t l) (swap s y x)
+
+fold-reverse : {S A : Type 0} (f : S → A → S) → ((m : S) (x y : A) → f (f m x) y ≡ f (f m y) x) → (s : S) (l : List A) → fold_from f s (reverse l) ≡ fold_from f s l
+fold-reverse f swap s [] = refl
+fold-reverse f swap s (x ∷ xs) =
+    ap (fold_from f s) (reverse_onto xs x [])
+    ∙ from-append f s (reverse xs) (x ∷ [])
+    ∙ ap (λ m. f m x) (fold-reverse f swap s xs)
+    ∙ fold-front f swap s x xs
+
+later_max : (m t : Timestamp) → (later m t).0 ≡ max m.0 t.0
+later_max m t = go (dec_le t.0 m.0)
+  where
+    go : Dec (t.0 ≤ m.0) → (later m t).0 ≡ max m.0 t.0
+    go (yes h) = rw (le-ltb m.0 t.0 h) (omega arith)
+    go (no h) = rw (lt-ltb m.0 t.0 (omega arith)) (omega arith)
+
+later_swap : (m t u : Timestamp) → later (later m t) u ≡ later (later m u) t
+later_swap m t u =
+    let z : (later (later m t) u).0 ≡ (later (later m u) t).0 = rw (later_max (later m t) u, later_max (later m u) t, later_max m t, later_max m u) (omega arith) in
+    λ i. record { 0 = z i }
+
+module _ (cs : List Copy) where
+  abbrev taken : Entry → Timestamp → Timestamp
+  taken e m = cond (is_write e.kind && all_agree cs e.timestamp) (later m e.timestamp) m
+
+  entry_is : (m : Timestamp) (e : Entry) → with_entry cs m e ≡ taken e m
+  entry_is m e = go (is_write e.kind) (e.timestamp above m) (all_agree cs e.timestamp)
+    where
+      go : (k u g : Bool) → cond (k && (u && g)) e.timestamp m ≡ cond (k && g) (cond u e.timestamp m) m
+      go true true true = refl
+      go true true false = refl
+      go true false true = refl
+      go true false false = refl
+      go false u g = refl
+
+  entry_swap : (m : Timestamp) (x y : Entry) → with_entry cs (with_entry cs m x) y ≡ with_entry cs (with_entry cs m y) x
+  entry_swap m x y =
+      entry_is (with_entry cs m x) y
+      ∙ ap (taken y) (entry_is m x)
+      ∙ go (is_write x.kind && all_agree cs x.timestamp) (is_write y.kind && all_agree cs y.timestamp)
+      ∙ sym (entry_is (with_entry cs m y) x ∙ ap (taken x) (entry_is m y))
+    where
+      go : (a b : Bool) → cond b (later (cond a (later m x.timestamp) m) y.timestamp) (cond a (later m x.timestamp) m) ≡ cond a (later (cond b (later m y.timestamp) m) x.timestamp) (cond b (later m y.timestamp) m)
+      go true true = later_swap m x.timestamp y.timestamp
+      go true false = refl
+      go false true = refl
+      go false false = refl
+
+  module _ (w : Timestamp) where
+    abbrev latest_after : Timestamp → List Entry → Timestamp
+    latest_after m l = fold_from later m (map (λ e. e.timestamp) (filter (λ e. is_write e.kind && is_committed cs w e.timestamp) l))
+
+    -- an entry that is not above w is not above what is later than w either
+    entries-taken : (m : Timestamp) → w.0 ≤ m.0 → (l : List Entry) → fold_from (with_entry cs) m l ≡ latest_after m l
+    entries-taken m h [] = refl
+    entries-taken m h (e ∷ l) =
+        ap (λ t. fold_from (with_entry cs) t l) (entry_is m e)
+        ∙ go (is_write e.kind) (e.timestamp above w) (all_agree cs e.timestamp)
+        (λ k. let z = ltb-false w.0 e.timestamp.0 k in later-below m e.timestamp (omega arith))
+        (entries-taken m h l)
+        (entries-taken (later m e.timestamp) (let k = upper-left (λ (t : Timestamp). t.0) m e.timestamp in omega arith) l)
+      where
+        rest : List Entry
+        rest = filter (λ e. is_write e.kind && is_committed cs w e.timestamp) l
+
+        go : (k u g : Bool) → (u ≡ false → later m e.timestamp ≡ m) → fold_from (with_entry cs) m l ≡ latest_after m l
+            → fold_from (with_entry cs) (later m e.timestamp) l ≡ latest_after (later m e.timestamp) l
+            → fold_from (with_entry cs) (cond (k && g) (later m e.timestamp) m) l ≡ fold_from later m (map (λ e. e.timestamp) (cond (k && (u && g)) (e ∷ rest) rest))
+        go true true true f a b = b
+        go true true false f a b = a
+        go true false true f a b = ap (λ t. fold_from (with_entry cs) t l) (f refl) ∙ a
+        go true false false f a b = a
+        go false u g f a b = a
+
+    pub latest_back : (l : List Entry) → fold_from (with_entry cs) w (reverse l) ≡ latest_of cs w l
+    latest_back l = fold-reverse (with_entry cs) entry_swap w l ∙ entries-taken w (omega arith) l
+
 -- ---- each copy is settled
 
-pub settled_is : (cs : List Copy) → map (settled_copy (settled_record cs)) cs ≡ settled cs
-unfolding settled
-settled_is cs = sym (each-map (settled_copy (settled_record cs)) cs)
+-- .. one after the other, where it lies
+module _ (cs : List Copy) where
+  abbrev now : ℕ → Copy
+  now j = settled_copy (settled_record cs) (get_or cs j no_copy)
+
+  abbrev before : ℕ → Copy
+  before j = get_or cs j no_copy
+
+  empty_already : emptied (settled_record cs) ≡ settled_record cs
+  unfolding settled_record
+  empty_already = refl
+
+  abbrev pub settled_until : (i : ℕ) → List Copy
+  settled_until i = made now before chunk_limit i
+
+  pub settled-begin : length cs ≡ chunk_limit → cs ≡ settled_until 0
+  settled-begin h = made_begin now before chunk_limit no_copy cs h (λ i k. refl)
+
+  pub settled-next : (items : List Copy) (i : ℕ) (d c : Copy) (r : Record) → i < chunk_limit → items ≡ settled_until i → r ≡ settled_record cs → c ≡ settled_copy (emptied r) (get_or items i d) → set items i c ≡ settled_until (i + 1)
+  settled-next items i d c r h k e l =
+      let here : get_or items i d ≡ before i = ap (λ (x : List Copy). get_or x i d) k ∙ each_number (λ j. cond (ltb j i) (now j) (before j)) chunk_limit i d h ∙ rw (le-ltb i i (omega arith)) refl in
+      let settled_here : c ≡ now i = l ∙ ap (settled_copy (emptied r)) here ∙ ap (λ (x : Record). settled_copy x (before i)) (ap emptied e ∙ empty_already) in
+      rw (settled_here, k) (made-next now before chunk_limit i h)
+
+  pub settled_is : length cs ≡ chunk_limit → settled_until chunk_limit ≡ settled cs
+  unfolding settled
+  settled_is h =
+      let f = settled_copy (settled_record cs) in
+      made-end now before chunk_limit
+      ∙ sym (each_of (f no_copy) now chunk_limit (map f cs) (length-map cs f ∙ h) (λ i k. get_or-map f cs i no_copy))
+      ∙ sym (each-map f cs)

@@ -23,6 +23,10 @@ all_agree cs t = list_all (agrees t) cs
 abbrev pub is_committed : List Copy → (w t : Timestamp) → Bool
 is_committed cs w t = t above w && all_agree cs t
 
+-- the entry's timestamp where it is a write that is committed and later than m, else m
+abbrev pub with_entry : List Copy → (m : Timestamp) → Entry → Timestamp
+with_entry cs m e = if is_write e.kind && is_committed cs m e.timestamp then e.timestamp else m
+
 -- the latest committed of the entries, else w
 abbrev pub latest_of : List Copy → (w : Timestamp) → List Entry → Timestamp
 latest_of cs w entries = fold later w (map (λ e. e.timestamp) (filter (λ e. is_write e.kind && is_committed cs w e.timestamp) entries))

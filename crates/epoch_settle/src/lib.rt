@@ -3,11 +3,12 @@
 
 ghost use Rattle.std.specs.Prelude.{◌≡◌};
 ghost use Rattle.std.specs.List.{list_any};
+ghost use Rattle.rules.specs.Chunks.{emptied};
 ghost use Rattle.rules.specs.Settlement.{write_with, aborted_with, settled, settled_record};
 ghost use Rattle.rules.specs.Waiting.{in_order};
-ghost use Rattle.epoch_settle.specs.Steps.{agrees, all_agree, is_committed, latest_of, value_with, candidates, greatest_write, greatest_read, value_beside, settled_copy};
+ghost use Rattle.epoch_settle.specs.Steps.{agrees, all_agree, is_committed, with_entry, latest_of, value_with, candidates, greatest_write, greatest_read, value_beside, settled_copy};
 
-use rules::{Copy, Entry, Kind, Record, Timestamp, Waiting};
+use rules::{Copy, Entry, Record, Timestamp, Waiting};
 
 // ---- what waits in one chunk
 
@@ -22,7 +23,7 @@ fn in_order(q: &Waiting) -> &[Entry]
 fn is_write_with(e: &Entry, t: Timestamp) -> bool
     ensures { result ≡ write_with t e.now }
 {
-    e.timestamp == t && e.kind != Kind::Read
+    e.timestamp == t && !table_kinds::is_read(e.kind)
 }
 
 fn holds(entries: &[Entry], t: Timestamp) -> bool
@@ -36,7 +37,7 @@ fn holds_aborted(entries: &[Entry], t: Timestamp) -> bool
 {
     entries
         .iter()
-        .any(|e| e.timestamp == t && matches!(e.kind, Kind::Aborted(_)))
+        .any(|e| e.timestamp == t && table_kinds::is_aborted(e.kind))
 }
 
 // The value of the first write with t.
@@ -89,15 +90,24 @@ fn candidates(copies: &[Copy]) -> &[Entry]
     }
 }
 
-// The latest committed of the entries, else w.
+// The entry's timestamp where it is a write that is committed and later than m, else m.
+fn later_committed(copies: &[Copy], m: Timestamp, e: &Entry) -> Timestamp
+    ensures { result ≡ with_entry copies.now m e.now }
+{
+    if !table_kinds::is_read(e.kind) && committed(copies, m, e.timestamp) {
+        return e.timestamp;
+    }
+    m
+}
+
+// The latest committed of the entries, else w: from the last one, behind which few have to be looked at.
 fn latest(copies: &[Copy], w: Timestamp, entries: &[Entry]) -> Timestamp
     ensures { result ≡ latest_of copies.now w entries.now }
 {
     entries
         .iter()
-        .filter(|e| e.kind != Kind::Read && committed(copies, w, e.timestamp))
-        .map(|e| e.timestamp)
-        .fold(w, Ord::max)
+        .rev()
+        .fold(w, |m, e| later_committed(copies, m, e))
 }
 
 // ---- the settled block
@@ -152,24 +162,26 @@ fn settled_record(copies: &[Copy]) -> Record
     }
 }
 
-// A copy of the set is the settled block; what waits in another goes too.
-fn settled_copy(c: Copy, settled: Record) -> Copy
-    ensures { result ≡ settled_copy settled c }
+// A copy of the set becomes the settled block; what waits in another goes too.
+fn settle_copy(c: &mut Copy, settled: &Record)
+    ensures { c.new ≡ settled_copy (emptied settled.now) c.old }
 {
-    let held = if c.member {
-        settled
-    } else {
-        Record {
-            waiting: table_zero::waiting(),
-            ..c.held
-        }
-    };
-    Copy { held, ..c }
+    if c.member {
+        c.held.value = settled.value;
+        c.held.read = settled.read;
+        c.held.write = settled.write;
+    }
+    c.held.waiting = table_zero::waiting();
 }
 
+// Each copy where it lies: `map` hands them on by value, and took several times as long.
 pub fn settle(copies: [Copy; rules::CHUNKS]) -> [Copy; rules::CHUNKS]
     ensures { result ≡ settled copies }
 {
     let settled = settled_record(&copies);
-    copies.map(|c| settled_copy(c, settled))
+    let mut out = copies;
+    for c in out.iter_mut() {
+        settle_copy(c, &settled);
+    }
+    out
 }

@@ -14,7 +14,7 @@ loop-c-preserved c =
     let t = c.args.t.now in
     let b = c.loop-b.b in
     let is : c.settle-settled.result ≡ settled (copies_in t.creation t.chunks t.records b) =
-    c.settle-settled.ensures ∙ ap settled (c.copies_in.ensures ∙ ap (λ (x : Table). copies_at x b) c.loop-b.invariant ∙ copies_same t b (omega arith)) in
+    c.settle-settled.ensures ∙ ap settled (c.gather.ensures ∙ ap (λ (x : Table). copies_at x b) c.loop-b.invariant ∙ copies_same t b (omega arith)) in
     record_stored t b c.loop-c.c (omega arith) (omega arith) _ _ _ _ c.loop-c.invariant c.record_number-i.ensures is c.put_record.ensures
 
 pub loop-b-preserved : goal.loop-b-preserved
