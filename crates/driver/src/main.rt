@@ -5,6 +5,7 @@
 
 ghost use Rattle.std.specs.Prelude.{◌+◌, ◌≤◌, ◌≡◌, [], ◌++◌, length, leb, if◌then◌else◌, OnOk, OnErr};
 ghost use Rattle.rules.specs.Events.{reply_of};
+ghost use Rattle.text_lines.specs.Texts.{text_limit, bytes_of};
 ghost use Rattle.driver.specs.Answers.{answer_to};
 
 use arrayvec::ArrayVec;
@@ -55,7 +56,15 @@ impl<R: Read> Input<R> {
                 break;
             }
         }
-        if text.is_empty() { None } else { Some(text) }
+        self.last_line(text)
+    }
+
+    // At the end of the input: the last line may lack its newline. Nothing is left unread behind it.
+    fn last_line(&mut self, text: Text) -> Option<Text>
+        ensures { self.new.end ≡ 0 }
+    {
+        self.end = 0;
+        if text.count == 0 { None } else { Some(text) }
     }
 }
 
@@ -85,16 +94,17 @@ impl<W: Write> Output<W> {
         Ok(())
     }
 
-    // A line goes behind what is gathered; where room for it lacks, that is written first. An error leaves what was gathered before, and
-    // no part of this line.
+    // A line goes behind what is gathered; where room for the longest lacks, that is written first. An error leaves what was gathered
+    // before, and no part of this line.
     fn push(&mut self, line: &Text) -> io::Result<()>
-        ensures ok { OnOk result (self.new.gathered.items ≡ (if leb (length self.old.gathered.items + length line.now.items) 65536 then self.old.gathered.items ++ line.now.items else line.now.items)) }
+        ensures ok { OnOk result (self.new.gathered.items ≡ (if leb (length self.old.gathered.items + text_limit) 65536 then self.old.gathered.items ++ bytes_of line.now else bytes_of line.now)) }
         ensures err { OnErr result (self.new.gathered ≡ self.old.gathered) }
     {
-        if self.gathered.remaining_capacity() < line.len() {
+        let bytes = &line.bytes[..line.count.min(text_lines::ROOM)];
+        if self.gathered.remaining_capacity() < text_lines::ROOM {
             self.flush()?;
         }
-        let _ = self.gathered.try_extend_from_slice(line);
+        let _ = self.gathered.try_extend_from_slice(bytes);
         Ok(())
     }
 }

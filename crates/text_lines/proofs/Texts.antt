@@ -5,9 +5,9 @@ use mathlib.Core.Bool.{Bool, true, false, cond}
 use mathlib.Core.List.{List, [], ◌∷◌, ◌++◌, append_assoc, append-nil}
 use native.Mathlib.Decide.{dec_le}
 use native.Mathlib.Omega.{arith}
-use lib.ListN.{length, get_or, take, drop, length-append, length-drop, drop_of_length-le}
+use lib.ListN.{length, get_or, take, drop, replicate, length-append, length-take, length-drop, drop_of_length-le}
 use lib.Dec.{ltb}
-use lib.Seq.{length-take-le, take_all, take-append-le}
+use lib.Seq.{length-take-le, take_all, set_out}
 use borrow.Author.Tests.{ltb-false, lt-ltb}
 use Rattle.std.specs.Fmt as std
 use Rattle.std.specs.List.{position_or_len}
@@ -15,11 +15,12 @@ use Rattle.std.specs.Prelude.{Option, Some, None}
 use Rattle.std.proofs.Common.{rules}
 use Rattle.std.proofs.lemmas.Fmt.{AppendsLastDigit, decimal_from_appends, length-decimal-le}
 use Rattle.table_sets.proofs.Chains.{place-position}
-use Rattle.rules.specs.Words.{each, fold}
-use Rattle.rules.proofs.Loops.{fold_more, fold_end}
+use Rattle.rules.specs.Words.{each, fold, filled}
+use Rattle.rules.proofs.Loops.{fold_more, fold_end, filled_more}
 use Rattle.text_numbers.specs.Lines.{space, newline}
+use Rattle.text_lines.specs.declared.Text.{Text}
 use Rattle.text_lines.specs.declared.Cut.{Cut}
-use Rattle.text_lines.specs.Texts.{digits_in, decimal, spaced, line_with, text_limit, Text, text_of, followed, is_newline, cut_at}
+use Rattle.text_lines.specs.Texts.{digits_in, decimal, spaced, line_with, text_limit, text_of, followed, is_newline, cut_at}
 
 -- ---- byte by byte
 
@@ -30,24 +31,43 @@ module _ (l : List ℕ) (i : ℕ) (t : Text) where
   pub gather_end : length l ≤ i → fold followed t (drop i l) ≡ t
   gather_end = fold_end followed 0 l i t
 
--- ---- a text is the first bytes of what was gathered
+-- ---- one byte more
 
 module _ (k : List ℕ) (b : ℕ) where
-  followed_is : followed (text_of k) b ≡ text_of (k ++ b ∷ [])
+  room-more : length k < text_limit → followed (text_of k) b ≡ text_of (k ++ b ∷ [])
   unfolding followed text_of
+  room-more h =
+      let m : length (k ++ b ∷ []) ≤ text_limit = rw (length-append k (b ∷ [])) (omega arith) in
+      rw (take_all text_limit k (omega arith), take_all text_limit (k ++ b ∷ []) m, length-append k (b ∷ []), lt-ltb (length k) text_limit h)
+      (ap (λ (l : List ℕ). record { bytes = l; count = length k + 1 }) (filled_more 0 b text_limit k))
+
+  full-same : text_limit ≤ length k → followed (text_of k) b ≡ text_of (k ++ b ∷ [])
+  unfolding followed text_of
+  full-same h =
+      let m : length (k ++ b ∷ []) ≡ length k + 1 = length-append k (b ∷ []) in
+      let z : length (filled text_limit 0 k) ≤ length k = omega (arith, length-take text_limit (k ++ replicate text_limit 0)) in
+      rw (length-take-le text_limit k h, length-take-le text_limit (k ++ b ∷ []) (omega arith))
+      (ap (λ (l : List ℕ). record { bytes = l; count = text_limit }) (sym (set_out (filled text_limit 0 k) (length k) b z) ∙ filled_more 0 b text_limit k))
+
+  followed_is : followed (text_of k) b ≡ text_of (k ++ b ∷ [])
   followed_is = go (dec_le text_limit (length k))
     where
       go : Dec (text_limit ≤ length k) → followed (text_of k) b ≡ text_of (k ++ b ∷ [])
-      go (yes h) = rw (length-take-le text_limit k h, take-append-le text_limit k (b ∷ []) h) refl
-      go (no h) =
-          let m : length (k ++ b ∷ []) ≤ text_limit = rw (length-append k (b ∷ [])) (omega arith) in
-          rw (take_all text_limit k (omega arith), take_all text_limit (k ++ b ∷ []) m, lt-ltb (length k) text_limit (omega arith)) refl
+      go (yes h) = full-same h
+      go (no h) = room-more (omega arith)
 
 -- a text goes on with l
 pub text_more : (k l : List ℕ) → fold followed (text_of k) l ≡ text_of (k ++ l)
 unfolding fold
 text_more k [] = ap text_of (sym (append-nil k))
 text_more k (b ∷ l) = rw (followed_is k b) (text_more (k ++ b ∷ []) l) ∙ ap text_of (append_assoc k (b ∷ []) l)
+
+-- a text counts no more than it has room for
+pub text_fits : (t : Text) (l : List ℕ) → t ≡ text_of l → t.count ≤ text_limit
+unfolding text_of
+text_fits t l e =
+    let n = ap (λ (t : Text). t.count) e in
+    omega (arith, n, length-take text_limit l)
 
 -- ---- a block of input, up to the first newline
 

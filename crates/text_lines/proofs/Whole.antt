@@ -7,9 +7,9 @@ use mathlib.Core.List.{List, [], ◌∷◌, ◌++◌, append_assoc, append-nil}
 use native.Mathlib.Nat.{pow-suc}
 use native.Mathlib.Decide.{dec_le}
 use native.Mathlib.Omega.{arith}
-use lib.ListN.{length, take, drop, length-append, length-drop}
+use lib.ListN.{length, take, drop, replicate, length-append, length-take, length-drop, take-append-drop}
 use lib.Dec.{eqb, leb, ltb}
-use lib.Seq.{take_all, length-take-le, take-append-add, drop-append-le}
+use lib.Seq.{take_all, take-take, length-take-le, take-append-le, take-append-add, take-append_seam, drop-append-le}
 use borrow.Author.Tests.{ltb-true, ltb-false, leb-true, lt-ltb, le-ltb, le-leb, ne_eqb}
 use Rattle.std.specs.Prelude.{Some, None}
 use Rattle.std.specs.Option.{option_map}
@@ -20,7 +20,8 @@ use Rattle.rules.proofs.Lists.{both, every_append}
 use Rattle.rules.proofs.Loops.{fold-append}
 use Rattle.text_numbers.specs.Lines.{space, is_digit, words_after, words, value, line_of}
 use Rattle.text_numbers.proofs.Laws.{line_long}
-use Rattle.text_lines.specs.Texts.{Text, digits_in, decimal, spaced, answer_line, text_limit, text_of, followed, bytes_of, is_newline, cut_at}
+use Rattle.text_lines.specs.declared.Text.{Text}
+use Rattle.text_lines.specs.Texts.{digits_in, decimal, spaced, answer_line, text_limit, text_of, followed, bytes_of, is_newline, cut_at}
 use Rattle.text_lines.proofs.Texts.{text_more}
 
 -- ---- a line that is too long is known by its first 121 bytes
@@ -36,7 +37,13 @@ line_cut l = go (dec_le (length l) text_limit)
 
 text_bytes : (l : List ℕ) → bytes_of (text_of l) ≡ take text_limit l
 unfolding text_of
-text_bytes l = refl
+text_bytes l =
+    let m : length (take text_limit l) ≤ text_limit = omega (arith, length-take text_limit l) in
+    let k : length (take text_limit l) ≤ length l = omega (arith, length-take text_limit l) in
+    take-take (length (take text_limit l)) text_limit (l ++ replicate text_limit 0) m
+    ∙ take-append-le (length (take text_limit l)) l (replicate text_limit 0) k
+    ∙ ap (take (length (take text_limit l))) (sym (take-append-drop text_limit l))
+    ∙ take-append_seam (take text_limit l) (drop text_limit l)
 
 -- so a line that was gathered says what it said, however long it was
 pub line_gathered : (l : List ℕ) → line_of (bytes_of (fold followed (text_of []) l)) ≡ line_of l

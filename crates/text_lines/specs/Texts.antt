@@ -1,10 +1,10 @@
 -- Document 01, "One session, whole": the line of an answer, and a line that is gathered byte by byte
-use Rattle.std.specs.Prelude.{ℕ, zero, suc, ◌+◌, ◌/◌, ◌%◌, Bool, List, [], ◌∷◌, ◌++◌, length, take, drop, eqb, ltb, if◌then◌else◌, Some, None}
-use Rattle.arrayvec.specs.ArrayVec.{ArrayVec}
+use Rattle.std.specs.Prelude.{ℕ, zero, suc, ◌+◌, ◌/◌, ◌%◌, Bool, List, [], ◌∷◌, ◌++◌, length, set, take, drop, eqb, ltb, if◌then◌else◌, Some, None}
 use Rattle.rules.specs.declared.Outcome.{Outcome}
 use Rattle.rules.specs.Codes.{numbers_of}
-use Rattle.rules.specs.Words.{each, place, fold}
+use Rattle.rules.specs.Words.{each, place, fold, filled}
 use Rattle.text_numbers.specs.Lines.{space, newline, line_limit}
+use Rattle.text_lines.specs.declared.Text.{Text}
 use Rattle.text_lines.specs.declared.Cut.{Cut}
 
 -- ---- "It writes a line an event: code, outcome, host, block, value. Numbers are decimal, one space apart"
@@ -33,25 +33,22 @@ answer_line code o =
     let n = numbers_of o in
     line_with (code ∷ n.kind ∷ n.host ∷ n.block ∷ n.value ∷ [])
 
--- ---- bytes gathered: as many as a line may have, and one more, by which a line that is too long is known
+-- ---- bytes in an array: as many as a line may have, and one more, by which a line that is too long is known
 
 abbrev pub text_limit : ℕ
 text_limit = line_limit + 1
 
-abbrev pub Text : Type 0
-Text = ArrayVec ℕ
-
--- the bytes of l, as far as there is room
+-- the bytes of l, as far as there is room, the unused places 0
 unfoldable pub text_of : List ℕ → Text
-text_of l = record { items = take text_limit l }
+text_of l = record { bytes = filled text_limit 0 l; count = length (take text_limit l) }
 
 -- one byte more, where there is room
 unfoldable pub followed : Text → (byte : ℕ) → Text
-followed t b = if ltb (length t.items) text_limit then record { items = t.items ++ b ∷ [] } else t
+followed t b = if ltb t.count text_limit then record { bytes = set t.bytes t.count b; count = t.count + 1 } else t
 
 -- the bytes that a text holds
 abbrev pub bytes_of : Text → List ℕ
-bytes_of t = t.items
+bytes_of t = take t.count t.bytes
 
 -- ---- lines in a block of input: "an event a line"
 

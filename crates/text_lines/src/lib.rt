@@ -8,18 +8,21 @@ ghost use Rattle.rules.specs.Words.{fold};
 ghost use Rattle.text_numbers.specs.Lines.{line_of};
 ghost use Rattle.text_lines.specs.Texts.{decimal, answer_line, text_of, followed, bytes_of, cut_at};
 
-use arrayvec::ArrayVec;
 use rules::Outcome;
 use text_numbers::Line;
 
 // One byte more than a line may have: a longer line is known by it.
 pub const ROOM: usize = text_numbers::LIMIT + 1;
 
-// Up to 121 bytes: a line of input as far as it tells anything, or the line of an answer.
-pub type Text = ArrayVec<u8, ROOM>;
+// Up to 121 bytes, the unused places 0: a line of input as far as it tells anything, or the line of an answer.
+#[derive(Clone, Copy)]
+pub struct Text {
+    pub bytes: [u8; ROOM],
+    pub count: usize,
+}
 
 // What is cut out of a block of input: the line so far, and where the next one begins, if the newline has come.
-#[derive(Drop)]
+#[derive(Clone, Copy)]
 pub struct Cut {
     pub text: Text,
     pub next: Option<usize>,
@@ -31,7 +34,10 @@ pub struct Cut {
 pub fn no_text() -> Text
     ensures { result ≡ text_of [] }
 {
-    ArrayVec::new()
+    Text {
+        bytes: [0; ROOM],
+        count: 0, // no byte yet
+    }
 }
 
 // One byte more, where there is room.
@@ -39,8 +45,9 @@ pub fn no_text() -> Text
 fn push(text: &mut Text, byte: u8)
     ensures { text.new ≡ followed text.old byte }
 {
-    if !text.is_full() {
-        text.push(byte);
+    if text.count < ROOM {
+        text.bytes[text.count] = byte;
+        text.count += 1;
     }
 }
 
@@ -73,11 +80,11 @@ pub fn cut_line(block: &[u8], at: usize, mut text: Text) -> Cut
     }
 }
 
-// What a line that was gathered says.
+// What a line that was gathered says; a count above 121 stands for 121 bytes.
 pub fn parse_text(text: &Text) -> Option<Line>
     ensures { result ≡ line_of (bytes_of text.now) }
 {
-    text_numbers::parse(text)
+    text_numbers::parse(&text.bytes[..text.count.min(ROOM)])
 }
 
 // ---- an answer

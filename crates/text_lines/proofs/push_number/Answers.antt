@@ -1,7 +1,8 @@
 use Rattle.std.proofs.Common.{arith, ◌∙◌, sym, ap, [], ◌∷◌}
 use Rattle.rules.specs.Words.{fold}
 use Rattle.rules.proofs.Loops.{fold-append}
-use Rattle.text_lines.specs.Texts.{Text, decimal, followed}
+use Rattle.text_lines.specs.declared.Text.{Text}
+use Rattle.text_lines.specs.Texts.{decimal, followed}
 use Rattle.text_lines.proofs.Texts.{decimal_is}
 use Rattle.text_lines.proofs.push_number.Goals as goal
 
