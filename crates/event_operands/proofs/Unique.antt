@@ -6,6 +6,10 @@ use Rattle.event_operands.proofs.count.Reads as count_contract
 use Rattle.event_operands.proofs.host_at.Reads as host_at_contract
 use Rattle.event_operands.proofs.in_range.Reads as in_range_contract
 use Rattle.event_operands.proofs.place_at.Reads as place_at_contract
+use Rattle.event_operands.proofs.StepTryFromU64.try_from.Reads as try_from_contract
+
+try_from-unique : Determined try_from_contract.Learnt
+try_from-unique κs a x y s u = unique
 
 in_range-unique : Determined in_range_contract.Learnt
 in_range-unique κs a x y s u = unique

@@ -3,6 +3,8 @@ use mathlib.Core.Path.{◌≡◌, sym, ap, ◌∙◌}
 use Rattle.rules.specs.Types.{Table, Event, Answer}
 use Rattle.rules.specs.Codes.{numbers_of}
 use Rattle.rules.specs.Events.{step}
+use Rattle.rules.proofs.U64FromRefused.from.Reads as code_contract
+use Rattle.rules.proofs.ReplyFromResultOutcomeRefused.from.Reads as reply_contract
 
 -- whatever the definition
 pub unique : {A : Type 0} {x y definition : A} → x ≡ definition → y ≡ definition → x ≡ y
@@ -13,6 +15,13 @@ unique p q = p ∙ sym q
 abbrev pub Determined : {K : Type 0} {Arguments Result Exit : K → Type 0} → ((κs : K) → Arguments κs → Result κs → Exit κs → Type 0) → Type 0
 Determined {K} {Arguments} {Result} {Exit} learnt =
     (κs : K) (a : Arguments κs) (x y : Result κs) (s u : Exit κs) → learnt κs a x s → learnt κs a y u → x ≡ y
+
+-- of a refusal's code, and of what the caller of an event is told
+code-unique : Determined code_contract.Learnt
+code-unique κs a x y s u = unique
+
+reply-unique : Determined reply_contract.Learnt
+reply-unique κs a x y s u = unique
 
 -- of an event's answer: the complete table, the code and the numbers of the outcome
 pub step-unique : (t : Table) (e : Event) (a b : Answer) → a ≡ step t e → b ≡ step t e
