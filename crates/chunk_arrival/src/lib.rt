@@ -6,7 +6,7 @@ ghost use Rattle.rules.specs.Chunks.{with_waiting, arrived, arrives};
 ghost use Rattle.rules.specs.Waiting.{marked};
 ghost use Rattle.chunk_arrival.specs.Replies.{answered};
 
-use rules::{Arrived, Chunk, Entry, Epoch, Header, Kind, Message, Record, Refusal, Sort, State};
+use rules::{Arrived, Chunk, Entry, Epoch, Header, Kind, Message, Record, Refusal, Sort};
 
 // "Read or prewrite at a chunk, in this order": version mismatch, error, out of order, busy; "else it waits, after its equals".
 #[tactic(auto, unfolding(rules::specs::Chunks::arrived))]
@@ -65,7 +65,7 @@ pub fn arrive(blocks: u64, c: Chunk, r: Record, m: Message) -> Arrived
 {
     let header = network_messages::header_of(m);
     let (held, sort) = match m {
-        _ if c.state != State::Normal => (r, None),
+        _ if !table_kinds::is_normal(c.state) => (r, None),
         Message::Read { epoch, .. } => match wait(blocks, c, r, header, epoch, Kind::Read) {
             Ok(held) => (held, None),
             Err(why) => (r, Some(Sort::Refusal(why))),
